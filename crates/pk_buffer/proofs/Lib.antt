@@ -1,0 +1,4 @@
+pub mod SatisfiesLemmas
+pub mod NumberLemmas
+pub mod DocumentLemmas
+pub mod KeptLemmas

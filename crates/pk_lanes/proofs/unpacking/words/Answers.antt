@@ -1,0 +1,5 @@
+use Rattle.pk_lanes.proofs.WordLemmas.{word_bit}
+use Rattle.pk_lanes.proofs.unpacking.words.Goals as goal
+
+pub returns : goal.returns
+returns c = word_bit c.args.bytes.now c.type_inv.bytes c.args.w c.requires

@@ -1,0 +1,4 @@
+pub mod CollectionLemmas
+pub mod TreeLemmas
+pub mod PlaceLemmas
+pub mod SessionLemmas

@@ -1,0 +1,5 @@
+use Rattle.pk_query.proofs.DepthLemmas.{tested}
+use Rattle.pk_query.proofs.laws.depth_is_tested.Goals as goal
+
+pub returns : goal.returns
+returns c = tested

@@ -1,0 +1,5 @@
+use Rattle.pk_query.proofs.Once.{stops_once}
+use Rattle.pk_query.proofs.laws.one_first_stop.Goals as goal
+
+pub returns : goal.returns
+returns c = λ text p q s t. stops_once text p q s t

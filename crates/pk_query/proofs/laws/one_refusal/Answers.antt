@@ -1,0 +1,5 @@
+use Rattle.pk_query.proofs.Once.{one_refusal}
+use Rattle.pk_query.proofs.laws.one_refusal.Goals as goal
+
+pub returns : goal.returns
+returns c = λ text e f u h k. one_refusal text e f u h k

@@ -1,0 +1,9 @@
+pub mod Tokens
+pub mod Grammar
+pub mod Depth
+pub mod Refusals
+pub mod Machine
+pub mod Check
+pub mod LexerView
+pub mod BuildView
+pub mod CheckView

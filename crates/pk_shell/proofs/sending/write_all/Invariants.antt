@@ -1,0 +1,10 @@
+use Rattle.std.proofs.Common.{◌≤◌, ◌-◌, length, take}
+use Rattle.std.specs.Io.KnownBytes.{Appends}
+use Rattle.pk_shell.proofs.sending.write_all.Given as goal
+
+-- what is done was written
+abbrev pub invariant-loop-done : goal.invariant-loop-done
+invariant-loop-done g l = record { within : l.done ≤ length l.bytes; written : Appends (g.W.Write.contents l.fn.writer) (g.W.Write.contents l.writer) (take l.done l.bytes) }
+
+abbrev pub decreases-loop-done : goal.decreases-loop-done
+decreases-loop-done g l = length l.bytes - l.done

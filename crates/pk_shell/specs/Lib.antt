@@ -1,0 +1,9 @@
+pub mod Lines
+pub mod Asked
+pub mod AskView
+pub mod ReplyText
+pub mod Script
+pub mod Sending
+pub mod Said
+pub mod Talk
+pub mod Progress

@@ -1,0 +1,24 @@
+//! How `serve` ends.
+
+/// The ends of a session that was served.
+#[derive(Clone, Copy, Debug, PartialEq, Eq)]
+pub enum Ended {
+    /// A `quit` was answered.
+    Quit,
+    /// The input ended, and its last line was answered.
+    InputEnd,
+}
+
+/// Why a session was broken off. The store has taken the lines that were executed, the one whose
+/// reply failed included.
+#[derive(Clone, Copy, Debug, PartialEq, Eq)]
+pub enum ShellFault {
+    /// A read failed. All whole lines that were read are answered.
+    Input,
+    /// A write failed or took no byte. The last reply is cut short.
+    Output,
+    /// There were 2^40 reads. All whole lines that were read are answered.
+    TooManyReads,
+    /// There was no memory for the two buffers. Nothing was read or written.
+    Memory,
+}

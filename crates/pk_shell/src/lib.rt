@@ -1,0 +1,46 @@
+//! Lines to replies: the shell of the engine.
+//!
+//! A line is the bytes up to a line feed; bytes after the last line feed, if any, are a line. Each
+//! line gets one reply line. [`serve`] reads them from any reader, however it cuts its input, and
+//! writes the replies to any writer, each built whole and sent in one call where it is not longer
+//! than 65,536 bytes.
+//!
+//! | line | reply |
+//! |---|---|
+//! | `add T` | `added N` |
+//! | `delete N` | `deleted N` |
+//! | `find Q` | `found K:` and the K numbers, each after a space |
+//! | `show N` | `text ` and the text, a line feed as `\n`, a backslash as `\\` |
+//! | `count` | `count D next N` |
+//! | `quit` | `bye`; what follows is not answered |
+//!
+//! Anything else is `refused ` and a reason. A line is judged in this order: too long (more than
+//! 1,048,640 bytes; what passes that is skipped and never kept), no UTF-8 text, unknown. A refused
+//! query is answered before the store is asked.
+//!
+//! | `serve` ends with | when | what was written |
+//! |---|---|---|
+//! | `Quit` | a `quit` was answered | the replies up to `bye` |
+//! | `InputEnd` | the reader gave no byte | the replies to all lines |
+//! | `ShellFault::Input` | a read failed | the replies to the whole lines read |
+//! | `ShellFault::Output` | a write failed or took no byte | a beginning of the replies |
+//! | `ShellFault::TooManyReads` | after 2^40 reads | the replies to the whole lines read |
+//! | `ShellFault::Memory` | its two buffers were not to be had | nothing, and nothing was read |
+//!
+//! In specs/, `Asked` says what a line asks, `ReplyText` how a reply is spelled, `Script` what a
+//! legal script is and what each ending means; `Script` is said of any engine, by its steps.
+#![tactic(auto)]
+
+mod ask;
+mod ending;
+mod line;
+mod outbox;
+mod reply;
+mod sending;
+mod serving;
+
+pub use ending::{Ended, ShellFault};
+pub use serving::serve;
+
+#[cfg(test)]
+mod tests;

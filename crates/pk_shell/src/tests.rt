@@ -1,0 +1,344 @@
+//! Sessions from lines to replies, on a store in memory.
+
+use crate::{Ended, ShellFault, serve};
+use pk_store::ListStore;
+use std::alloc::{AllocError, Global};
+use std::io;
+use std::io::{ErrorKind, Read, Write};
+use std::test::Fail;
+
+/// How a session on a new store ends, and what was written.
+#[derive(Drop)]
+struct Outcome {
+    end: Result<Ended, ShellFault>,
+    output: Vec<u8>,
+}
+
+/// Serves the input from a new store.
+fn session<R: Read>(alloc: Global, input: &mut R) -> Outcome {
+    let mut store = ListStore::new(alloc);
+    let mut output = Vec::new(alloc);
+    let end = serve(alloc, input, &mut output, &mut store);
+    Outcome { end, output }
+}
+
+/// Whether the lines get these replies, and the input its end.
+fn gets(alloc: Global, lines: &[u8], replies: &str) -> bool {
+    let mut input = lines;
+    let session = session(alloc, &mut input);
+    session.end == Ok(Ended::InputEnd) && session.output.as_slice() == replies.as_bytes()
+}
+
+/// `text`, so many times.
+fn repeated(alloc: Global, text: &str, times: usize) -> Result<String, AllocError> {
+    let mut whole = String::new(alloc);
+    for _ in 0..times {
+        whole.push_str(text)?;
+    }
+    Ok(whole)
+}
+
+/// Reads one byte a call, and fails at the end where it is told to.
+#[derive(Drop)]
+struct ByteByByte<'a> {
+    bytes: &'a [u8],
+    fails: bool,
+}
+
+impl<'a> Read for ByteByByte<'a> {
+    fn read(&mut self, buf: &mut [u8]) -> io::Result<usize> {
+        if buf.is_empty() {
+            return Ok(0);
+        }
+        match self.bytes.split_first() {
+            Some((first, rest)) => {
+                buf[0] = *first;
+                self.bytes = rest;
+                Ok(1)
+            }
+            None if self.fails => Err(io::Error::from(ErrorKind::Other)),
+            None => Ok(0),
+        }
+    }
+}
+
+/// Takes so many bytes, and then none, or fails; counts the calls.
+#[derive(Drop)]
+struct Narrow {
+    taken: Vec<u8>,
+    room: usize,
+    fails: bool,
+    calls: u64,
+}
+
+impl Write for Narrow {
+    fn write(&mut self, buf: &[u8]) -> io::Result<usize> {
+        self.calls = self.calls.saturating_add(1);
+        if self.room == 0 && self.fails {
+            return Err(io::Error::from(ErrorKind::Other));
+        }
+        let n = buf.len().min(self.room);
+        self.taken.extend_from_slice(&buf[..n])?;
+        self.room -= n;
+        Ok(n)
+    }
+
+    fn flush(&mut self) -> io::Result<()> {
+        Ok(())
+    }
+}
+
+/// The four documents on schizophrenia of Manning, Raghavan, Schütze 2008, exercise 1.2.
+const FOUR: &str = "add breakthrough drug for schizophrenia\n\
+    add new schizophrenia drug\n\
+    add new approach for treatment of schizophrenia\n\
+    add new hopes for schizophrenia patients\n";
+
+#[test]
+fn answers_queries_over_four_documents(rt: HostRuntime) -> Result<(), Fail> {
+    let alloc = rt.alloc();
+    let mut lines = String::from_str(alloc, FOUR)?;
+    lines.push_str(
+        "find schizophrenia\n\
+        find schizophrenia AND drug\n\
+        find for AND NOT (drug OR approach)\n\
+        find new drug OR hopes\n\
+        find NOT new drug\n\
+        quit\n\
+        count\n",
+    )?;
+    let mut input = lines.as_bytes();
+    let session = session(alloc, &mut input);
+    assert_eq!(rt; session.end, Ok(Ended::Quit));
+    let want = "added 1\nadded 2\nadded 3\nadded 4\n\
+        found 4: 1 2 3 4\nfound 2: 1 2\nfound 1: 4\nfound 2: 2 4\nfound 1: 1\nbye\n";
+    assert!(rt; session.output.as_slice() == want.as_bytes());
+    Ok(())
+}
+
+#[test]
+fn answers_each_line(rt: HostRuntime) -> Result<(), Fail> {
+    let alloc = rt.alloc();
+    let sessions: [(&str, &str); 9] = [
+        (
+            "find NOT x\nadd --\nfind NOT x\nshow 1\nshow 2\n",
+            "found 0:\nadded 1\nfound 1: 1\ntext --\nrefused no such document\n",
+        ),
+        (
+            "add Straße\nfind STRASSE\nadd send e-mail now\nfind e-mail\nfind mail NOT e\n",
+            "added 1\nfound 1: 1\nadded 2\nfound 1: 2\nfound 0:\n",
+        ),
+        (
+            "find (a OR\nfind --\nfind a AND\nfind a )\nfind (a\nfind ()\nfind \nfind\n",
+            "refused query unexpected at 5\nrefused query no word at 0\n\
+            refused query unexpected at 5\nrefused query unexpected at 2\n\
+            refused query unclosed at 0\nrefused query unexpected at 1\n\
+            refused query unexpected at 0\nrefused unknown\n",
+        ),
+        (
+            "add x\ndelete 1\ndelete 1\ncount\nadd y\ncount\n",
+            "added 1\ndeleted 1\nrefused no such document\ncount 0 next 2\n\
+            added 2\ncount 1 next 3\n",
+        ),
+        (
+            "\nCommit\ndelete -1\ndelete +1\ndelete 4294967296\ndelete 00000000001\ndelete \n\
+            delete 1 \ndelete\nshow x\ncount \n quit\nadd\nquit \ncommit\nmerge\ntidy\n",
+            "refused unknown\nrefused unknown\nrefused unknown\nrefused unknown\n\
+            refused unknown\nrefused unknown\nrefused unknown\nrefused unknown\n\
+            refused unknown\nrefused unknown\nrefused unknown\nrefused unknown\n\
+            refused unknown\nrefused unknown\nrefused unknown\nrefused unknown\n\
+            refused unknown\n",
+        ),
+        (
+            "delete 0\nshow 0\ndelete 4294967295\nadd x\nshow 0000000001\n",
+            "refused no such document\nrefused no such document\n\
+            refused no such document\nadded 1\ntext x\n",
+        ),
+        ("count", "count 0 next 1\n"),
+        (
+            "add \nshow 1\nadd a\\b\nshow 2",
+            "added 1\ntext \nadded 2\ntext a\\\\b\n",
+        ),
+        ("", ""),
+    ];
+    for (lines, replies) in sessions {
+        assert!(rt; gets(alloc, lines.as_bytes(), replies), "{lines}");
+    }
+    assert!(rt;
+        gets(
+            alloc,
+            b"find \xFF\nadd \xC3\ncount\n",
+            "refused not text\nrefused not text\ncount 0 next 1\n"
+        )
+    );
+    Ok(())
+}
+
+#[test]
+fn limits_of_queries(rt: HostRuntime) -> Result<(), Fail> {
+    let alloc = rt.alloc();
+    let mut lines = String::new(alloc);
+    for depth in [64usize, 65] {
+        lines.push_str("find ")?;
+        lines.push_str(repeated(alloc, "(", depth)?.as_str())?;
+        lines.push_str("a")?;
+        lines.push_str(repeated(alloc, ")", depth)?.as_str())?;
+        lines.push_str("\n")?;
+    }
+    lines.push_str("find ")?;
+    lines.push_str(repeated(alloc, "(", 65)?.as_str())?;
+    for length in [4096usize, 4097] {
+        lines.push_str("\nfind ")?;
+        lines.push_str(repeated(alloc, "a", length)?.as_str())?;
+    }
+    let replies = "found 0:\nrefused query too deep\nrefused query too deep\n\
+        found 0:\nrefused query too long\n";
+    assert!(rt; gets(alloc, lines.as_bytes(), replies));
+    Ok(())
+}
+
+#[test]
+fn limits_of_texts_and_lines(rt: HostRuntime) -> Result<(), Fail> {
+    let alloc = rt.alloc();
+    let mut lines = String::from_str(alloc, "add ")?;
+    lines.push_str(repeated(alloc, "a", 1_048_576)?.as_str())?;
+    lines.push_str("\nadd ")?;
+    lines.push_str(repeated(alloc, "a", 1_048_577)?.as_str())?;
+    // The longest line, and one byte more.
+    lines.push_str("\nadd ")?;
+    lines.push_str(repeated(alloc, "a", 1_048_636)?.as_str())?;
+    lines.push_str("\nadd ")?;
+    lines.push_str(repeated(alloc, "a", 1_048_637)?.as_str())?;
+    lines.push_str("\ncount\n")?;
+    let replies = "added 1\nrefused text too long\nrefused text too long\n\
+        refused line too long\ncount 1 next 2\n";
+    assert!(rt; gets(alloc, lines.as_bytes(), replies));
+    let endless = repeated(alloc, "aaaaaaaaaa", 300_000)?;
+    assert!(rt; gets(alloc, endless.as_bytes(), "refused line too long\n"));
+    Ok(())
+}
+
+#[test]
+fn limit_of_the_buffer(rt: HostRuntime) -> Result<(), Fail> {
+    let alloc = rt.alloc();
+    let mut lines = repeated(alloc, "add a\n", 4096)?;
+    lines.push_str("add a\ndelete 7\nadd a\nadd a\n")?;
+    let mut input = lines.as_bytes();
+    let session = session(alloc, &mut input);
+    assert_eq!(rt; session.end, Ok(Ended::InputEnd));
+    let told = session.output.as_slice();
+    assert!(rt; told.starts_with(b"added 1\nadded 2\n"));
+    assert!(rt;
+        told.ends_with(
+            b"\nadded 4096\nrefused buffer full\ndeleted 7\nadded 4097\nrefused buffer full\n"
+        )
+    );
+    Ok(())
+}
+
+#[test]
+fn shows_line_feeds_and_backslashes(rt: HostRuntime) -> Result<(), Fail> {
+    let alloc = rt.alloc();
+    let mut store = ListStore::new(alloc);
+    assert!(rt; store.add(alloc, "a\n\\b").is_ok());
+    let mut input = b"show 1".as_slice();
+    let mut output = Vec::new(alloc);
+    assert_eq!(rt;
+        serve(alloc, &mut input, &mut output, &mut store),
+        Ok(Ended::InputEnd)
+    );
+    assert!(rt; output.as_slice() == b"text a\\n\\\\b\n".as_slice());
+    Ok(())
+}
+
+#[test]
+fn cuts_of_the_reader_do_not_matter(rt: HostRuntime) -> Result<(), Fail> {
+    let alloc = rt.alloc();
+    let lines = b"add new drug\nfind drug\n\nadd \xC3\x9F\xFF\nshow 1\nfind (\ncount";
+    let mut whole = lines.as_slice();
+    let want = session(alloc, &mut whole);
+    let mut pieces = ByteByByte {
+        bytes: lines.as_slice(),
+        fails: false,
+    };
+    let got = session(alloc, &mut pieces);
+    assert_eq!(rt; want.end, Ok(Ended::InputEnd));
+    assert_eq!(rt; got.end, Ok(Ended::InputEnd));
+    assert!(rt; got.output.as_slice() == want.output.as_slice());
+    assert!(rt;
+        want.output.as_slice()
+            == b"added 1\nfound 1: 1\nrefused unknown\nrefused not text\ntext new drug\nrefused query unexpected at 1\ncount 1 next 2\n".as_slice()
+    );
+    Ok(())
+}
+
+#[test]
+fn input_only_after_a_read_that_failed(rt: HostRuntime) -> Result<(), Fail> {
+    let alloc = rt.alloc();
+    for fails in [true, false] {
+        let mut input = ByteByByte {
+            bytes: b"count\ncou",
+            fails,
+        };
+        let session = session(alloc, &mut input);
+        if fails {
+            assert_eq!(rt; session.end, Err(ShellFault::Input));
+            assert!(rt; session.output.as_slice() == b"count 0 next 1\n".as_slice());
+        } else {
+            assert_eq!(rt; session.end, Ok(Ended::InputEnd));
+            assert!(rt;
+                session.output.as_slice() == b"count 0 next 1\nrefused unknown\n".as_slice()
+            );
+        }
+    }
+    Ok(())
+}
+
+#[test]
+fn output_that_takes_five_bytes(rt: HostRuntime) -> Result<(), Fail> {
+    let alloc = rt.alloc();
+    for fails in [true, false] {
+        let mut store = ListStore::new(alloc);
+        let mut input = b"count\ncount\n".as_slice();
+        let mut output = Narrow {
+            taken: Vec::new(alloc),
+            room: 5,
+            fails,
+            calls: 0,
+        };
+        let end = serve(alloc, &mut input, &mut output, &mut store);
+        assert_eq!(rt; end, Err(ShellFault::Output));
+        assert!(rt; output.taken.as_slice() == b"count".as_slice());
+        assert_eq!(rt; output.calls, 2);
+    }
+    Ok(())
+}
+
+#[test]
+fn one_call_of_write_for_each_reply(rt: HostRuntime) -> Result<(), Fail> {
+    let alloc = rt.alloc();
+    let mut store = ListStore::new(alloc);
+    let mut lines = String::from_str(alloc, FOUR)?;
+    lines.push_str("find schizophrenia\nshow 1\ncount\nfind (\nquit\n")?;
+    let mut input = lines.as_bytes();
+    let mut output = Narrow {
+        taken: Vec::new(alloc),
+        room: 1_000_000,
+        fails: true,
+        calls: 0,
+    };
+    let end = serve(alloc, &mut input, &mut output, &mut store);
+    assert_eq!(rt; end, Ok(Ended::Quit));
+    assert_eq!(rt; output.calls, 9);
+    // A reply of more than 65,536 bytes goes out in pieces of that length.
+    let text = repeated(alloc, "-", 100_000)?;
+    assert!(rt; store.add(alloc, text.as_str()).is_ok());
+    output.calls = 0;
+    output.taken.clear();
+    let mut show = b"show 5".as_slice();
+    let end = serve(alloc, &mut show, &mut output, &mut store);
+    assert_eq!(rt; end, Ok(Ended::InputEnd));
+    assert_eq!(rt; output.calls, 2);
+    assert_eq!(rt; output.taken.len(), 100_006);
+    Ok(())
+}

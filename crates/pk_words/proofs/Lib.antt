@@ -1,0 +1,3 @@
+pub mod HalvingLemmas
+pub mod PackedLemmas
+pub mod WordSetLemmas

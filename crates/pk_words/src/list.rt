@@ -1,0 +1,20 @@
+//! The folded words of a text, in its order.
+
+ghost use Rattle.std.specs.Prelude.{◌≡◌, map, IfOk, string_bytes};
+ghost use Rattle.pk_model.specs.Words.{words_of};
+
+use caseless::default_case_fold_str;
+use std::alloc::{AllocError, Global};
+use unicode_segmentation::UnicodeSegmentation;
+
+/// The folded words of the text in its order, repeats kept: of `E-mail e` the words `e`, `mail`
+/// and `e`.
+pub fn word_list(alloc: Global, text: &str) -> Result<Vec<String>, AllocError>
+    ensures { IfOk result (λ list. map string_bytes list.items ≡ words_of text.now) }
+{
+    let mut list = Vec::new(alloc);
+    'words: for word in text.unicode_words() {
+        list.push(default_case_fold_str(alloc, word)?)?;
+    }
+    Ok(list)
+}
