@@ -1,3 +1,4 @@
+-- The lemmas of the crate.
 pub mod SatisfiesLemmas
 pub mod NumberLemmas
 pub mod DocumentLemmas

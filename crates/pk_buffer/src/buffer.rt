@@ -1,8 +1,32 @@
 //! The buffer.
 
 ghost use Rattle.std.specs.Prelude.{
-    ◌≡◌, ◌↔◌, ◌<◌, ◌≤◌, ◌-◌, ◌^◌, ◌∷◌, ◌++◌, [], List, All, map, filter, length, min, not, false, true,
-    slice_get, Some, IsTrue, IfOk, OnOk, OnErr, MatchOption, string_bytes
+  ◌≡◌,
+  ◌↔◌,
+  ◌<◌,
+  ◌≤◌,
+  ◌-◌,
+  ◌^◌,
+  ◌∷◌,
+  ◌++◌,
+  [],
+  List,
+  All,
+  map,
+  filter,
+  length,
+  min,
+  not,
+  false,
+  true,
+  slice_get,
+  Some,
+  IsTrue,
+  IfOk,
+  OnOk,
+  OnErr,
+  MatchOption,
+  string_bytes,
 };
 ghost use Rattle.std.specs.List.Sorted.{IsStrictlyIncreasing};
 ghost use Rattle.pk_buffer.specs.Buffer.{AreWordsOf, IsOrdered, text_bytes};
@@ -136,7 +160,7 @@ impl Buffer {
         ensures { IfOk result (λ found. MatchOption found
             (is_live number.0 self.now ≡ false)
             (λ text. (is_live number.0 self.now ≡ true)
-                × (string_bytes text ≡ text_of number.0 self.now))) }
+            × (string_bytes text ≡ text_of number.0 self.now))) }
     {
         match place_of(&self.documents, number) {
             None => Ok(None),

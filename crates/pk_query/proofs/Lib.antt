@@ -1,3 +1,4 @@
+-- The lemmas of the crate.
 pub mod PieceLemmas
 pub mod Complete
 pub mod Sound

@@ -1,3 +1,4 @@
+-- The definitions of the crate.
 pub mod Tokens
 pub mod Grammar
 pub mod Depth

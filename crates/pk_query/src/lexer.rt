@@ -89,7 +89,9 @@ fn token_of(piece: &str) -> Token<'_>
 /// The first token of a text whose first byte has this place in a longer text.
 pub(crate) fn next_lexeme(place: usize, text: &str) -> Option<Lexeme<'_>>
     requires { place + length text.now < 2 ^ 64 }
-    ensures { MatchOption result (placed_from place (pieces text.now) ≡ []) (IsNext place text.now) }
+    ensures { MatchOption result
+        (placed_from place (pieces text.now) ≡ [])
+        (IsNext place text.now) }
 {
     let mut at = place;
     let mut rest = text;

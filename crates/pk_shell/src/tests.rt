@@ -342,3 +342,72 @@ fn one_call_of_write_for_each_reply(rt: HostRuntime) -> Result<(), Fail> {
     assert_eq!(rt; output.taken.len(), 100_006);
     Ok(())
 }
+
+/// Takes up to 256 bytes, without memory of its own.
+#[derive(Drop)]
+struct Page {
+    bytes: [u8; 256],
+    len: usize,
+}
+
+impl Write for Page {
+    fn write(&mut self, buf: &[u8]) -> io::Result<usize> {
+        let mut taken = 0;
+        for byte in buf {
+            if self.len < self.bytes.len() {
+                self.bytes[self.len] = *byte;
+                self.len += 1;
+                taken += 1;
+            }
+        }
+        Ok(taken)
+    }
+
+    fn flush(&mut self) -> io::Result<()> {
+        Ok(())
+    }
+}
+
+/// An empty page.
+fn new_page() -> Page {
+    Page {
+        bytes: [0; 256],
+        len: 0,
+    }
+}
+
+/// Run with one request for memory refused after another (tools/refuse_memory.py): the shell ends
+/// with want of memory before it reads, or each reply is the right one or `refused memory`; and
+/// with memory the same lines are answered as ever.
+#[test]
+fn session_short_of_memory(rt: HostRuntime) -> Result<(), Fail> {
+    let alloc = rt.alloc();
+    let mut store = ListStore::new(alloc);
+    let lines = b"add new drug\nfind new (drug OR hopes)\nshow 1\nquit\n";
+    let mut input = lines.as_slice();
+    let mut page = new_page();
+    let end = serve(alloc, &mut input, &mut page, &mut store);
+    if end == Err(ShellFault::Memory) {
+        assert_eq!(rt; page.len, 0);
+        assert_eq!(rt; input.len(), lines.len());
+    } else {
+        assert_eq!(rt; end, Ok(Ended::Quit));
+        let told = &page.bytes[..page.len.min(256)];
+        let all = told == b"added 1\nfound 1: 1\ntext new drug\nbye\n".as_slice();
+        let no_add = told
+            == b"refused memory\nfound 0:\nrefused no such document\nbye\n".as_slice();
+        let no_find = told == b"added 1\nrefused memory\ntext new drug\nbye\n".as_slice();
+        let no_show = told == b"added 1\nfound 1: 1\nrefused memory\nbye\n".as_slice();
+        assert!(rt; all || no_add || no_find || no_show);
+    }
+    let mut again = ListStore::new(alloc);
+    let mut input = lines.as_slice();
+    let mut page = new_page();
+    assert_eq!(rt;
+        serve(alloc, &mut input, &mut page, &mut again),
+        Ok(Ended::Quit)
+    );
+    let told = &page.bytes[..page.len.min(256)];
+    assert!(rt; told == b"added 1\nfound 1: 1\ntext new drug\nbye\n".as_slice());
+    Ok(())
+}

@@ -14,7 +14,7 @@ use Rattle.pk_model.specs.Legal.{LegalStep, RefusesDue, due_to_add, due_to_delet
 use Rattle.pk_model.specs.declared.commands.Refusal.{Refusal}
 use Rattle.pk_model.specs.declared.commands.Refusal.TheVariants.{TextTooLong, BufferFull, NumbersUsedUp, NoSuchDocument, Memory}
 use Rattle.pk_model.proofs.CollectionLemmas.{keeps}
-use Rattle.pk_store.specs.ListStore.{in_memory, MemoryStep, IsKept}
+use Rattle.pk_store.specs.ListStore.{in_memory, MemoryStep, IsNoDevice, IsKept}
 
 all_uncommitted : (next : ℕ) (docs : List Doc) → AllByRecursion (λ (d : Doc). (1 ≤ d.number) × (d.number < next)) docs → filter (λ d. nat_le 1 d.number) docs ≡ docs
 all_uncommitted next [] h = refl
@@ -38,23 +38,23 @@ due-here next docs text kept = rw (none_committed next docs kept) refl
 
 -- an addition is refused as what is due
 refuses_add : (next : ℕ) (docs : List Doc) (text : List ℕ) (why : Refusal) → IsKept next docs → due_here next docs text ≡ Some why
-    → ((f : Formats) → RefusesDue (Some why) f (in_memory next docs) (add text) why (in_memory next docs))
+    → ((f : Formats) → RefusesDue (Some why) f (in_memory next docs) (add text) why (in_memory next docs)) × IsNoDevice (Err why)
     → MemoryStep (in_memory next docs) (add text) (Err why) (in_memory next docs)
 unfolding LegalStep
-refuses_add next docs text why kept e r f = subst (λ o. RefusesDue o f (in_memory next docs) (add text) why (in_memory next docs)) (sym (due-here next docs text kept ∙ e)) (r f)
+refuses_add next docs text why kept e r = (λ f. subst (λ o. RefusesDue o f (in_memory next docs) (add text) why (in_memory next docs)) (sym (due-here next docs text kept ∙ e)) (r.0 f), r.1)
 
 pub too_long : (next : ℕ) (docs : List Doc) (text : List ℕ) → IsKept next docs → 1048576 < length text
     → MemoryStep (in_memory next docs) (add text) (Err TextTooLong) (in_memory next docs)
-too_long next docs text kept h = refuses_add next docs text TextTooLong kept (grind (arith, nat_tests)) (λ f. (refl, refl))
+too_long next docs text kept h = refuses_add next docs text TextTooLong kept (grind (arith, nat_tests)) (λ f. (refl, refl), tt)
 
 pub full : (next : ℕ) (docs : List Doc) (text : List ℕ) → IsKept next docs → length text ≤ 1048576 → 4096 ≤ length docs
     → MemoryStep (in_memory next docs) (add text) (Err BufferFull) (in_memory next docs)
-full next docs text kept fits h = refuses_add next docs text BufferFull kept (grind (arith, nat_tests)) (λ f. (refl, refl))
+full next docs text kept fits h = refuses_add next docs text BufferFull kept (grind (arith, nat_tests)) (λ f. (refl, refl), tt)
 
 pub full_of_bytes : (next : ℕ) (docs : List Doc) (text : List ℕ) → IsKept next docs → length text ≤ 1048576 → length docs < 4096
     → 67108864 < sum_by (λ d. length d.text) docs + length text
     → MemoryStep (in_memory next docs) (add text) (Err BufferFull) (in_memory next docs)
-full_of_bytes next docs text kept fits room h = refuses_add next docs text BufferFull kept (grind (arith, nat_tests)) (λ f. (refl, refl))
+full_of_bytes next docs text kept fits room h = refuses_add next docs text BufferFull kept (grind (arith, nat_tests)) (λ f. (refl, refl), tt)
 
 -- the text fits into the buffer
 pub record Fits (docs : List Doc) (text : List ℕ) : Type 0 where
@@ -64,7 +64,7 @@ pub record Fits (docs : List Doc) (text : List ℕ) : Type 0 where
 
 pub used_up : (next : ℕ) (docs : List Doc) (text : List ℕ) → IsKept next docs → Fits docs text → next ≡ 4294967295
     → MemoryStep (in_memory next docs) (add text) (Err NumbersUsedUp) (in_memory next docs)
-used_up next docs text kept fits h = refuses_add next docs text NumbersUsedUp kept (grind (arith, nat_tests, fits.short, fits.room, fits.small)) (λ f. (refl, refl))
+used_up next docs text kept fits h = refuses_add next docs text NumbersUsedUp kept (grind (arith, nat_tests, fits.short, fits.room, fits.small)) (λ f. (refl, refl), tt)
 
 none_due : (next : ℕ) (docs : List Doc) (text : List ℕ) → IsKept next docs → Fits docs text → (next ≡ 4294967295 → ⊥)
     → due_to_add (in_memory next docs) text ≡ None
@@ -73,21 +73,16 @@ none_due next docs text kept fits h = due-here next docs text kept ∙ grind (ar
 pub add_without_memory : (next : ℕ) (docs : List Doc) (text : List ℕ) → IsKept next docs → Fits docs text → (next ≡ 4294967295 → ⊥)
     → MemoryStep (in_memory next docs) (add text) (Err Memory) (in_memory next docs)
 unfolding LegalStep
-add_without_memory next docs text kept fits h f =
-    subst (λ o. RefusesDue o f (in_memory next docs) (add text) Memory (in_memory next docs)) (sym (none_due next docs text kept fits h)) (refl, refl)
+add_without_memory next docs text kept fits h = (
+  λ f.
+      subst (λ o. RefusesDue o f (in_memory next docs) (add text) Memory (in_memory next docs)) (sym (none_due next docs text kept fits h)) (refl, refl),
+  tt,
+)
 
 pub adds : (next : ℕ) (docs : List Doc) (text : List ℕ) → IsKept next docs → Fits docs text → (next ≡ 4294967295 → ⊥)
     → MemoryStep (in_memory next docs) (add text) (Ok (added next)) (in_memory (next + 1) (docs ++ record { number = next; text = text } ∷ []))
 unfolding LegalStep
-adds next docs text kept fits h f = record {
-  clear = refl;
-  due = none_due next docs text kept fits h;
-  reply = refl;
-  now = refl;
-  still_clear = refl;
-  mark = refl;
-  body = refl;
-}
+adds next docs text kept fits h = (λ f. record { clear = refl; due = none_due next docs text kept fits h; reply = refl; now = refl; still_clear = refl; mark = refl; body = refl }, tt)
 
 -- a number is due exactly where no live document has it
 missing_due : (next : ℕ) (docs : List Doc) (n : ℕ) → is_live n docs ≡ false → (if is_live n docs then None else Some NoSuchDocument) ≡ Some NoSuchDocument
@@ -107,46 +102,52 @@ delete-due f next docs n kept = rw (none_committed next docs kept) (by f.has_del
 pub deletes : (next : ℕ) (docs : List Doc) (n : ℕ) → IsKept next docs → is_live n docs ≡ true
     → MemoryStep (in_memory next docs) (delete n) (Ok (deleted n)) (in_memory next (filter (λ d. not (has_number n d)) docs))
 unfolding LegalStep
-deletes next docs n kept h f = record { clear = refl; due = delete-due f next docs n kept ∙ live_due docs n h; reply = refl; now = refl; still_clear = refl; mark = refl; body = refl }
+deletes next docs n kept h = (λ f. record { clear = refl; due = delete-due f next docs n kept ∙ live_due docs n h; reply = refl; now = refl; still_clear = refl; mark = refl; body = refl }, tt)
 
 pub deletes_none : (next : ℕ) (docs : List Doc) (n : ℕ) → IsKept next docs → is_live n docs ≡ false
     → MemoryStep (in_memory next docs) (delete n) (Err NoSuchDocument) (in_memory next docs)
 unfolding LegalStep
-deletes_none next docs n kept h f =
-    subst (λ o. RefusesDue o f (in_memory next docs) (delete n) NoSuchDocument (in_memory next docs)) (sym (delete-due f next docs n kept ∙ missing_due next docs n h)) (tt, refl)
+deletes_none next docs n kept h = (
+  λ f.
+      subst (λ o. RefusesDue o f (in_memory next docs) (delete n) NoSuchDocument (in_memory next docs)) (sym (delete-due f next docs n kept ∙ missing_due next docs n h)) (tt, refl),
+  tt,
+)
 
 pub shows : (next : ℕ) (docs : List Doc) (n : ℕ) (text : List ℕ) → is_live n docs ≡ true → text ≡ text_of n docs
     → MemoryStep (in_memory next docs) (show n) (Ok (text_is text)) (in_memory next docs)
 unfolding LegalStep
-shows next docs n text h e f = record { clear = refl; due = live_due docs n h; reply = ap text_is e; now = refl; still_clear = refl; mark = refl; body = refl }
+shows next docs n text h e = (λ f. record { clear = refl; due = live_due docs n h; reply = ap text_is e; now = refl; still_clear = refl; mark = refl; body = refl }, tt)
 
 pub shows_none : (next : ℕ) (docs : List Doc) (n : ℕ) → is_live n docs ≡ false
     → MemoryStep (in_memory next docs) (show n) (Err NoSuchDocument) (in_memory next docs)
 unfolding LegalStep
-shows_none next docs n h f =
-    subst (λ o. RefusesDue o f (in_memory next docs) (show n) NoSuchDocument (in_memory next docs)) (sym (missing_due next docs n h)) (tt, refl)
+shows_none next docs n h = (
+  λ f.
+      subst (λ o. RefusesDue o f (in_memory next docs) (show n) NoSuchDocument (in_memory next docs)) (sym (missing_due next docs n h)) (tt, refl),
+  tt,
+)
 
 -- whether a live document has the number or not, want of memory may be answered
 pub show_without_memory : (next : ℕ) (docs : List Doc) (n : ℕ) → MemoryStep (in_memory next docs) (show n) (Err Memory) (in_memory next docs)
 unfolding LegalStep
-show_without_memory next docs n f = by (is_live n docs)
+show_without_memory next docs n = (λ f. by f (is_live n docs), tt)
   where
-    by : (b : Bool) → RefusesDue (if b then None else Some NoSuchDocument) f (in_memory next docs) (show n) Memory (in_memory next docs)
-    by true = (refl, refl)
-    by false = (tt, refl)
+    by : (f : Formats) (b : Bool) → RefusesDue (if b then None else Some NoSuchDocument) f (in_memory next docs) (show n) Memory (in_memory next docs)
+    by f true = (refl, refl)
+    by f false = (tt, refl)
 
 pub finds : (next : ℕ) (docs : List Doc) (query : Tree) (numbers : List ℕ) → numbers ≡ answer query docs
     → MemoryStep (in_memory next docs) (find query) (Ok (found numbers)) (in_memory next docs)
 unfolding LegalStep
-finds next docs query numbers e f = record { clear = refl; due = refl; reply = ap found e; now = refl; still_clear = refl; mark = refl; body = refl }
+finds next docs query numbers e = (λ f. record { clear = refl; due = refl; reply = ap found e; now = refl; still_clear = refl; mark = refl; body = refl }, tt)
 
 pub find_without_memory : (next : ℕ) (docs : List Doc) (query : Tree) → MemoryStep (in_memory next docs) (find query) (Err Memory) (in_memory next docs)
 unfolding LegalStep
-find_without_memory next docs query f = (refl, refl)
+find_without_memory next docs query = (λ f. (refl, refl), tt)
 
 pub counts : (next : ℕ) (docs : List Doc) (n : ℕ) → n ≡ length docs → MemoryStep (in_memory next docs) count (Ok (counted n next)) (in_memory next docs)
 unfolding LegalStep
-counts next docs n e f = record { clear = refl; due = refl; reply = ap (λ k. counted k next) e; now = refl; still_clear = refl; mark = refl; body = refl }
+counts next docs n e = (λ f. record { clear = refl; due = refl; reply = ap (λ k. counted k next) e; now = refl; still_clear = refl; mark = refl; body = refl }, tt)
 
 -- what is kept is kept by an addition
 pub kept_after_add : (next : ℕ) (docs : List Doc) (text : List ℕ) → IsKept next docs → Fits docs text → (next ≡ 4294967295 → ⊥)

@@ -1,6 +1,7 @@
 -- The state of a store that keeps all its documents in memory, and its legal steps.
-use Rattle.std.specs.Prelude.{ℕ, ◌≤◌, false, List, length, sum_by, Result}
+use Rattle.std.specs.Prelude.{ℕ, ◌≤◌, false, List, length, sum_by, Result, Ok, Err}
 use Rattle.pk_model.specs.declared.commands.Refusal.{Refusal}
+use Rattle.pk_model.specs.declared.commands.Refusal.TheVariants.{Damaged, Disk}
 use Rattle.pk_model.specs.declared.limits.TheConstants.{MAX_BUFFERED_DOCUMENTS, MAX_BUFFERED_BYTES, END_OF_NUMBERS}
 use Rattle.pk_model.specs.Collection.{Doc, IsCollection}
 use Rattle.pk_model.specs.Steps.{Request, Answer}
@@ -11,9 +12,16 @@ use Rattle.pk_model.specs.Legal.{State, LegalStep}
 abbrev pub in_memory : ℕ → List Doc → State
 in_memory next docs = record { body = first_body 64; now = record { next = next; documents = docs }; reopen = false }
 
+-- a store without a disk meets neither damage nor a fault of a device
+abbrev pub IsNoDevice : Result Answer Refusal → Type 0
+IsNoDevice (Ok answer) = Unit {0}
+IsNoDevice (Err Damaged) = ⊥
+IsNoDevice (Err Disk) = ⊥
+IsNoDevice (Err why) = Unit {0}
+
 -- a step of a store without a disk is legal whatever the formats are
 abbrev pub MemoryStep : State → Request → Result Answer Refusal → State → Type 0
-MemoryStep old request reply new = (f : Formats) → LegalStep f old request reply new
+MemoryStep old request reply new = ((f : Formats) → LegalStep f old request reply new) × IsNoDevice reply
 
 -- what every store in memory keeps: a collection within the limits of what may be uncommitted
 pub record IsKept (next : ℕ) (docs : List Doc) : Type 0 where

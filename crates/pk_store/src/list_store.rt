@@ -1,6 +1,6 @@
 //! A store in memory: no document is ever committed.
 
-ghost use Rattle.std.specs.Prelude.{◌≡◌, [], IfOk, string_bytes};
+ghost use Rattle.std.specs.Prelude.{◌≡◌, [], IfErr, IfOk, string_bytes};
 ghost use Rattle.std.specs.List.Sorted.{IsStrictlyIncreasing};
 ghost use Rattle.pk_model.specs.Tree.{tree_of};
 ghost use Rattle.pk_model.specs.Collection.{IsCollection};
@@ -92,6 +92,7 @@ impl ListStore {
     /// Refused as no such document where no live document has the number.
     pub fn delete(&mut self, _alloc: Global, number: DocNo) -> Result<(), Refusal>
         ensures step { MemoryStep self.old (delete number.0) (answered (λ _. deleted number.0) result) self.new }
+        ensures fault { IfErr result (λ why. why ≡ Refusal.NoSuchDocument) }
     {
         if !self.buffer.remove(number) {
             return Err(Refusal::NoSuchDocument);

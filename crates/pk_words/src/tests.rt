@@ -1,6 +1,7 @@
 //! Sets and lists of words with values from the tables of Unicode.
 
 use super::{word_list, words};
+use std::alloc::{AllocError, Global};
 use std::test::Fail;
 
 #[test]
@@ -53,6 +54,37 @@ fn words_rise_by_bytes_not_by_letters(rt: HostRuntime) -> Result<(), Fail> {
         assert!(rt; i < set.len());
         assert_eq!(rt; set.get(i), *word);
         assert!(rt; set.contains(word));
+    }
+    Ok(())
+}
+
+/// The words of the text in its order, with a bar between each two.
+fn joined(alloc: Global, text: &str) -> Result<String, AllocError> {
+    let mut all = String::new(alloc);
+    for word in word_list(alloc, text)? {
+        if !all.is_empty() {
+            all.push_str("|")?;
+        }
+        all.push_str(word.as_str())?;
+    }
+    Ok(all)
+}
+
+#[test]
+fn words_of_mails(rt: HostRuntime) -> Result<(), Fail> {
+    let table = [
+        ("lists.debian.org file.c", "lists.debian.org|file.c"),
+        ("joe@example.org", "joe|example.org"),
+        ("Re: [PATCH 2/3]", "re|patch|2|3"),
+        ("1,000 v2.0 C++.", "1,000|v2.0|c"),
+        ("The end. Then", "the|end|then"),
+        ("can't can’t", "can't|can’t"),
+        ("日本", "日|本"),
+        ("ΣΊΣΥΦΟΣ Σίσυφος", "σίσυφοσ|σίσυφοσ"),
+        ("resume résumé", "resume|résumé"),
+    ];
+    for (text, words) in table {
+        assert_eq!(rt; joined(rt.alloc(), text)?.as_str(), words);
     }
     Ok(())
 }

@@ -1,3 +1,4 @@
+-- The differences of the vectors so far, and the vector before the next.
 use Rattle.std.proofs.Common.{arith, ◌∙◌, ◌-◌, ◌*◌}
 use Rattle.pk_lanes.proofs.DifferenceLemmas.{differs_none, differs_more}
 use Rattle.pk_lanes.proofs.UnpackingLemmas.{length_written}

@@ -1,3 +1,4 @@
+-- The differences of the vectors so far, and the vector before the next.
 use Rattle.std.proofs.Common.{◌≡◌, length}
 use Rattle.pk_lanes.specs.Progress.{RestoresTo}
 use Rattle.pk_lanes.proofs.differences.differ.Given as goal

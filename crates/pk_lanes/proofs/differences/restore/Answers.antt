@@ -1,3 +1,4 @@
+-- The numbers of the vectors so far, and the last of these.
 use Rattle.std.proofs.Common.{arith, ◌∙◌, ◌-◌, ◌*◌}
 use Rattle.pk_lanes.proofs.DifferenceLemmas.{restores_none, restores_more}
 use Rattle.pk_lanes.proofs.UnpackingLemmas.{length_written}

@@ -1,3 +1,4 @@
+-- The numbers of the vectors so far, and the last of these.
 use Rattle.std.proofs.Common.{◌≡◌, length}
 use Rattle.pk_lanes.specs.Progress.{RestoresTo}
 use Rattle.pk_lanes.proofs.differences.restore.Given as goal

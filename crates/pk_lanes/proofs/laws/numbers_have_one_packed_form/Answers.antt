@@ -1,3 +1,4 @@
+-- Every bit of the bytes is a bit of a number.
 use Rattle.pk_lanes.proofs.CallerLemmas.{same_bytes, byte_at}
 use Rattle.pk_lanes.proofs.laws.numbers_have_one_packed_form.Goals as goal
 

@@ -1,3 +1,4 @@
+-- Nothing is packed at first, and the whole block after 32 vectors.
 use Rattle.std.proofs.Common.{arith}
 use Rattle.pk_lanes.proofs.PackingLemmas.{filling_none, filling_all}
 use Rattle.pk_lanes.proofs.LaneLemmas.{zero_lanes}

@@ -1,3 +1,4 @@
+-- The words stand at their place, and those before it stay.
 use Rattle.pk_lanes.proofs.WordLemmas.{stored_here, stored_before}
 use Rattle.pk_lanes.proofs.packing.store.Goals as goal
 

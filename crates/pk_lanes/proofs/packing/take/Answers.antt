@@ -1,3 +1,4 @@
+-- One vector more is packed, whether it fills a word or not.
 use Rattle.std.proofs.Common.{arith, ◌+◌, ◌*◌}
 use Rattle.pk_lanes.proofs.PackingLemmas.{filling_kept, filling_stored}
 use Rattle.pk_lanes.proofs.packing.take.Goals as goal

@@ -1,3 +1,4 @@
+-- The bits of a word stay, and those of the next vector follow them.
 use Rattle.pk_lanes.proofs.LaneLemmas.{shifted_lows, shifted_highs}
 use Rattle.pk_lanes.proofs.packing.with_shifted.Goals as goal
 

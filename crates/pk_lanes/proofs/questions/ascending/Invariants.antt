@@ -1,3 +1,4 @@
+-- Whether the vectors so far rise.
 use Rattle.std.proofs.Common.{ℕ, ◌+◌, ◌*◌, ◌<◌, ◌++◌, slice_index, IsTrue, ◌↔◌}
 use Rattle.pk_lanes.proofs.questions.ascending.Given as goal
 

@@ -1,3 +1,4 @@
+-- The numbers one place before a vector.
 use Rattle.std.proofs.Common.{arith}
 use Rattle.pk_lanes.proofs.OrderLemmas.{before_is}
 use Rattle.pk_lanes.proofs.questions.before.Goals as goal

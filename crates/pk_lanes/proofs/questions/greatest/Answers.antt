@@ -1,3 +1,4 @@
+-- The bit length of four lanes, from their bits together.
 use Rattle.pk_lanes.proofs.WidthLemmas.{greatest_fits, greatest_least}
 use Rattle.pk_lanes.proofs.questions.greatest.Goals as goal
 

@@ -1,3 +1,4 @@
+-- All four lanes rise exactly where the mask is full.
 use Rattle.pk_lanes.proofs.OrderLemmas.{all_below}
 use Rattle.pk_lanes.proofs.questions.rises.Goals as goal
 

@@ -1,3 +1,4 @@
+-- The lanes so far have the width of the numbers so far.
 use Rattle.std.proofs.Common.{arith}
 use Rattle.pk_lanes.proofs.WidthLemmas.{covers_none, covers_more}
 use Rattle.pk_lanes.proofs.LaneLemmas.{zero_lanes}

@@ -1,3 +1,4 @@
+-- Eight times one vector more.
 use Rattle.std.proofs.Common.{add_assoc}
 use Rattle.pk_lanes.proofs.sums.put_eight_sums.Goals as goal
 

@@ -1,3 +1,4 @@
+-- One vector more is unpacked and added to the vector before.
 use Rattle.pk_lanes.proofs.SumLemmas.{summed_more}
 use Rattle.pk_lanes.proofs.sums.put_sums.Goals as goal
 

@@ -1,3 +1,4 @@
+-- Nothing is summed at first, and the whole block after 32 vectors.
 use Rattle.pk_lanes.specs.Progress.{Summed}
 use Rattle.pk_lanes.proofs.SumLemmas.{summed_none, summed_all}
 use Rattle.pk_lanes.proofs.sums.sums_at.Goals as goal

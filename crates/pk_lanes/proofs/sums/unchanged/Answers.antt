@@ -1,3 +1,4 @@
+-- At width 0 each difference is 0.
 use Rattle.pk_lanes.proofs.UnpackingLemmas.{packed_zeros}
 use Rattle.pk_lanes.proofs.sums.unchanged.Goals as goal
 

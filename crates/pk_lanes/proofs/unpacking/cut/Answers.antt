@@ -1,3 +1,4 @@
+-- A shift and a mask leave the b bits from bit s on.
 use Rattle.std.proofs.Common.{arith}
 use Rattle.pk_lanes.proofs.LaneLemmas.{cut_below, cut_bits}
 use Rattle.pk_lanes.proofs.unpacking.cut.Goals as goal

@@ -1,3 +1,4 @@
+-- The bits of a number that two words share.
 use Rattle.std.proofs.Common.{arith, Fits, w32}
 use Rattle.std.proofs.lemmas.Simd.{Each1-get_or}
 use Rattle.pk_lanes.proofs.LaneLemmas.{join_below, join_lows, join_highs}

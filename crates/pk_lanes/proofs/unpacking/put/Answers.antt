@@ -1,3 +1,4 @@
+-- One vector more is unpacked.
 use Rattle.pk_lanes.proofs.UnpackingLemmas.{unpacked_more}
 use Rattle.pk_lanes.proofs.unpacking.put.Goals as goal
 

@@ -1,3 +1,4 @@
+-- Nothing is unpacked at first, and the whole block after 32 vectors.
 use Rattle.pk_lanes.proofs.UnpackingLemmas.{unpacked_none, unpacked_all}
 use Rattle.pk_lanes.proofs.unpacking.unpack_at.Goals as goal
 

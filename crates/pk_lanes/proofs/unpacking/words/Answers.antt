@@ -1,3 +1,4 @@
+-- A word read from the bytes has the bits of its lane.
 use Rattle.pk_lanes.proofs.WordLemmas.{word_bit}
 use Rattle.pk_lanes.proofs.unpacking.words.Goals as goal
 

@@ -1,3 +1,4 @@
+-- A sum of vectors has four lanes.
 use Rattle.std.proofs.Common.{arith, ◌∙◌}
 use Rattle.std.proofs.lemmas.Simd.{length-zip2}
 use Rattle.pk_lanes.proofs.vectors.add.Goals as goal

@@ -1,3 +1,4 @@
+-- The bits of two vectors have four lanes.
 use Rattle.std.proofs.Common.{arith, ◌∙◌}
 use Rattle.std.proofs.lemmas.Simd.{length-zip2}
 use Rattle.pk_lanes.proofs.vectors.either.Goals as goal

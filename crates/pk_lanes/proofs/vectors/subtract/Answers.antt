@@ -1,3 +1,4 @@
+-- A difference of vectors has four lanes, and gives the first again.
 use Rattle.std.proofs.Common.{arith, ◌∙◌, Fits, w32}
 use Rattle.std.proofs.lemmas.Simd.{length-zip2, Each1-get_or}
 use Rattle.pk_lanes.proofs.DifferenceLemmas.{sub_sums}

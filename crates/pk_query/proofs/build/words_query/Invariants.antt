@@ -1,3 +1,4 @@
+-- The query so far is the AND of the words so far.
 use Rattle.std.proofs.Common.{◌≡◌, map, string_bytes}
 use Rattle.std.specs.Option.{option_map}
 use Rattle.pk_model.specs.Tree.{tree_of}

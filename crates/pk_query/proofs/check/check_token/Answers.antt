@@ -1,3 +1,4 @@
+-- A bracket that closes takes the last place off the list.
 use Rattle.std.proofs.Common.{◌≤◌, subst, length, arith}
 use Rattle.pk_query.specs.LexerView.{token_view}
 use Rattle.pk_query.specs.CheckView.{HasRoom}

@@ -1,3 +1,4 @@
+-- Each token keeps the invariant, and the last open bracket stands last in the list.
 use Rattle.std.proofs.Common.{◌≡◌, ◌≤◌, ◌∙◌, ◌∷◌, List, ap, sym, length, arith, rules, Bool, not, refl, false, true}
 use Rattle.pk_query.specs.Tokens.{Placed, placed_from, pieces, only_tokens}
 use Rattle.pk_query.specs.LexerView.{token_view}

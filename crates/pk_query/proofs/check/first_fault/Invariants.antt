@@ -1,3 +1,4 @@
+-- The fault of the tokens that are left is that of the text, and there is room for their brackets.
 use Rattle.std.proofs.Common.{◌≡◌, ◌+◌, false, length}
 use denote.Shadow.{shadow}
 use denote.Text.{Utf8}

@@ -1,3 +1,4 @@
+-- The test on the tokens that are left is the test on all.
 use Rattle.std.proofs.Common.{◌≡◌, ◌+◌, ◌≤◌, length}
 use denote.Shadow.{shadow}
 use denote.Text.{Utf8}

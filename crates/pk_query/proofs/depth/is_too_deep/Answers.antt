@@ -1,3 +1,4 @@
+-- The two tests together are what the words say.
 use Rattle.std.proofs.Common.{◌≡◌, ◌∙◌, true, false, sym, inl, inr}
 use Rattle.pk_query.specs.Tokens.{tokens}
 use Rattle.pk_query.proofs.DepthLemmas.{brackets_true, true_brackets, nots_true, true_nots}

@@ -1,3 +1,4 @@
+-- The law by the lemma on places at which a list is split.
 use Rattle.pk_query.proofs.Once.{stops_once}
 use Rattle.pk_query.proofs.laws.one_first_stop.Goals as goal
 

@@ -1,3 +1,4 @@
+-- The law by the machine, which reads one query.
 use Rattle.pk_query.specs.Tokens.{tokens}
 use Rattle.pk_query.proofs.Faults.{one_reading}
 use Rattle.pk_query.proofs.laws.one_reading.Goals as goal

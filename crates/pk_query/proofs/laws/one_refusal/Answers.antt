@@ -1,3 +1,4 @@
+-- The law by the four ways in which a text within the limits can end.
 use Rattle.pk_query.proofs.Once.{one_refusal}
 use Rattle.pk_query.proofs.laws.one_refusal.Goals as goal
 

@@ -1,3 +1,4 @@
+-- The law by the lemma on tokens with a space between each two.
 use Rattle.pk_query.specs.Tokens.{tokens}
 use Rattle.pk_query.proofs.Spelling.{read_spelled}
 use Rattle.pk_query.proofs.ProperText.{proper_tokens}

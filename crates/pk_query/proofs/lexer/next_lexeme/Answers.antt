@@ -1,3 +1,4 @@
+-- A piece that is no space is the next token.
 use Rattle.std.proofs.Common.{◌≡◌, ◌+◌, ◌∷◌, Bool, true, false, refl, length, take, drop, arith, ◌∙◌, sym, ap, codes, not}
 use Rattle.std.specs.Str.{bytes_eq}
 use Rattle.std.proofs.lemmas.Grind.{common_steps}

@@ -1,3 +1,4 @@
+-- A delimiter, or a run up to the next one, is the first piece, and the text may be cut behind it.
 use Rattle.std.proofs.Common.{◌≡◌, ◌∷◌, ℕ, List, true, take, drop, get_or, subst, arith, ◌∙◌, sym}
 use Rattle.std.proofs.lemmas.Str.{IsCharBoundary-after_ascii}
 use Rattle.pk_query.specs.Tokens.{is_delimiter, pieces}

@@ -1,3 +1,4 @@
+-- What the checks find is what the grammar says, within the limits.
 use Rattle.std.proofs.Common.{◌≡◌, true, false, arith}
 use Rattle.pk_query.specs.Depth.{IsWithinLimits}
 use Rattle.pk_query.proofs.Answer.{found}

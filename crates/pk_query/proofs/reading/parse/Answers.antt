@@ -1,3 +1,4 @@
+-- A text without a fault is built, and what is built is what it reads as.
 use Rattle.std.proofs.Common.{◌≡◌, List, ℕ, sym, subst, Some, None, Option, Err}
 use Rattle.pk_model.specs.Tree.{Tree}
 use Rattle.pk_query.specs.Tokens.{tokens}

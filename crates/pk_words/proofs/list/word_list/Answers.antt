@@ -1,3 +1,4 @@
+-- One more piece, folded, is one more word; the pieces at the end are those of the text.
 use Rattle.std.proofs.Common.{◌≡◌, ◌∷◌, ◌++◌, [], List, ℕ, Bor, map, ap, ◌∙◌, sym, string_bytes}
 use Rattle.std.proofs.lemmas.List.{map-append}
 use Rattle.std.proofs.lemmas.Iterator.Consumers.{YieldsList-end, YieldsList-from_first}

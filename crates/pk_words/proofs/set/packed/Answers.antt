@@ -1,3 +1,4 @@
+-- One more word is put behind the others; at the end all of them lie there.
 use Rattle.std.proofs.Common.{◌≡◌, ◌+◌, ◌∙◌, ◌++◌, ◌∷◌, [], ap, sym, subst, length, take, map, string_bytes, arith}
 use Rattle.std.proofs.lemmas.List.{take_all, take_more, map-append}
 use Rattle.std.proofs.lemmas.Str.{IsUtf8-string_bytes}

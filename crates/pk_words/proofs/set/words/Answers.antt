@@ -1,3 +1,4 @@
+-- The list, sorted and freed of repeats, rises and has the words of the text.
 use Rattle.std.proofs.Common.{◌≡◌, subst, sym, List, ℕ, map, string_bytes, Result, Ok, Err}
 use Rattle.std.specs.declared.alloc.AllocError.{AllocError}
 use Rattle.std.specs.Result.{IfOk}

@@ -1,14 +1,10 @@
-use Rattle.std.proofs.Common.{◌≡◌, ◌<◌, ◌+◌, ◌-◌, ◌≤◌, ◌∙◌, ◌++◌, ◌∷◌, [], ℕ, List, refl, sym, ap, subst, map, filter, not, take, length, get_or, slice_get, Some, true, false, arith, vec_len, string_bytes, All}
+-- A document behind the others keeps the invariant, and the bytes fit.
+use Rattle.std.proofs.Common.{◌≡◌, ◌<◌, ◌+◌, ◌∙◌, ◌++◌, ◌∷◌, [], List, sym, ap, subst, map, length, arith, All}
 use Rattle.std.proofs.lemmas.List.{map-append}
-use Rattle.std.specs.List.{remove}
-use Rattle.pk_model.specs.declared.documents.Document.{Document}
-use Rattle.pk_model.specs.Collection.{Doc, numbers_of, has_number, is_live, answer}
-use Rattle.pk_model.specs.Steps.{text_of}
-use Rattle.pk_model.specs.Tree.{tree_of}
-use Rattle.pk_model.specs.Views.{doc_of, numbers_in}
-use Rattle.pk_buffer.specs.Buffer.{IsOrdered, AreWordsOf, text_bytes}
-use Rattle.pk_buffer.proofs.DocumentLemmas.{dead_taken, live_taken, live_at, text_at, place_within}
-use Rattle.pk_buffer.proofs.KeptLemmas.{ordered_push, ordered_filter, words_push, words_remove, length_words, one_hit, no_hit, bytes_push, bytes_remove, bytes_small, docs_remove, doc_at, length_docs}
+use Rattle.pk_model.specs.Collection.{Doc}
+use Rattle.pk_model.specs.Views.{doc_of}
+use Rattle.pk_buffer.specs.Buffer.{text_bytes}
+use Rattle.pk_buffer.proofs.KeptLemmas.{ordered_push, words_push, bytes_push, bytes_small}
 use Rattle.pk_buffer.proofs.buffer.Buffer.add.Goals as goal
 
 pub overflow_add-self : goal.overflow_add-self
@@ -24,9 +20,10 @@ invariant_of-self-in-Ok c =
     let P : List Doc → Type 0 = λ ds. All (λ (e : Doc). e.number < c.args.number.0) ds in
     let above = subst P (sym c.self.view_is) c.requires.above in
     let pushed : map doc_of c.push-2.new.self.items ≡ docs ++ d ∷ [] =
-      ap (map doc_of) c.in-Ok.ensures.items ∙ map-append doc_of b.documents.items _ ∙ ap (λ t. docs ++ (record { number = c.args.number.0; text = t }) ∷ []) c.in_ok-text.ensures.ok in
+    ap (map doc_of) c.in-Ok.ensures.items ∙ map-append doc_of b.documents.items _ ∙ ap (λ t. docs ++ (record { number = c.args.number.0; text = t }) ∷ []) c.in_ok-text.ensures.ok in
     let sum : text_bytes (map doc_of c.push-2.new.self.items) ≡ text_bytes docs + length c.args.text.now = ap text_bytes pushed ∙ bytes_push docs d in
-    let len : c.len-len.result ≡ length c.args.text.now = c.len-len.ensures ∙ c.in_ok-text.text.bytes.ok.0 ∙ ap length c.in_ok-text.ensures.ok in
-    (rw pushed (ordered_push docs d c.self.invariant.0 c.requires.at_least_one above),
-     rw (c.in_ok-push.ensures.items, pushed) (words_push b.words.items docs c.in_ok-set.set d c.self.invariant.1 c.in_ok-set.ensures.same),
-     omega (arith, sum, len, c.self.invariant.2))
+    let len : c.len-len.result ≡ length c.args.text.now = c.len-len.ensures ∙ c.in_ok-text.text.bytes.ok.0 ∙ ap length c.in_ok-text.ensures.ok in (
+      rw pushed (ordered_push docs d c.self.invariant.0 c.requires.at_least_one above),
+      rw (c.in_ok-push.ensures.items, pushed) (words_push b.words.items docs c.in_ok-set.set d c.self.invariant.1 c.in_ok-set.ensures.same),
+      omega (arith, sum, len, c.self.invariant.2),
+    )

@@ -1,15 +1,11 @@
-use Rattle.std.proofs.Common.{◌≡◌, ◌<◌, ◌+◌, ◌-◌, ◌≤◌, ◌∙◌, ◌++◌, ◌∷◌, [], ℕ, List, refl, sym, ap, subst, map, filter, not, take, length, get_or, slice_get, Some, true, false, arith, vec_len, string_bytes, Vec, Global}
+-- A document joins the answer just where its set satisfies the query.
+use Rattle.std.proofs.Common.{◌≡◌, ◌<◌, ◌+◌, ◌∙◌, ◌++◌, ◌∷◌, [], sym, ap, map, take, length, get_or, arith, Vec, Global}
 use Rattle.std.proofs.lemmas.List.{map-append}
 use Rattle.pk_model.specs.declared.documents.DocNo.{DocNo}
-use Rattle.std.specs.List.{remove}
-use Rattle.pk_model.specs.declared.documents.Document.{Document}
-use Rattle.pk_model.specs.Collection.{Doc, numbers_of, has_number, is_live, answer}
-use Rattle.pk_model.specs.Steps.{text_of}
+use Rattle.pk_model.specs.Collection.{Doc, answer}
 use Rattle.pk_model.specs.Tree.{satisfies, tree_of}
 use Rattle.pk_model.specs.Views.{doc_of, numbers_in}
-use Rattle.pk_buffer.specs.Buffer.{IsOrdered, AreWordsOf, text_bytes}
-use Rattle.pk_buffer.proofs.DocumentLemmas.{dead_taken, live_taken, live_at, text_at, place_within}
-use Rattle.pk_buffer.proofs.KeptLemmas.{ordered_push, ordered_filter, words_push, words_remove, length_words, one_hit, no_hit, bytes_push, bytes_remove, bytes_small, docs_remove, doc_at, length_docs}
+use Rattle.pk_buffer.proofs.KeptLemmas.{length_words, one_hit, no_hit, doc_at, length_docs}
 use Rattle.pk_buffer.proofs.buffer.Buffer.find.Goals as goal
 use Rattle.pk_buffer.proofs.buffer.Buffer.find.Goals.{then-is_hit+in_ok-push, else-is_hit}
 
@@ -29,14 +25,15 @@ documents-preserved c =
     let after : answer q (take (i + 1) docs) ≡ answer q (take (i + 1) c.args.self.now) = ap (λ ds. answer q (take (i + 1) ds)) c.self.view_is in
     let nobody : Doc = record { number = 0; text = [] } in
     elim c.if-is_hit.branch [
-        then-is_hit+in_ok-push w ↦
+      | then-is_hit+in_ok-push w ↦
           let x = w.index-then-is_hit.result.now in
           let here : doc_of x ≡ get_or docs i (doc_of x) = doc_at b.documents.items i x (omega (arith, length_docs b.documents.items)) w.index-then-is_hit.ensures in
           let found : numbers_in w.push.new.self.items ≡ numbers_in c.documents.found.items ++ x.number.0 ∷ [] =
-            ap numbers_in w.in_ok-push.ensures.items ∙ map-append (λ (n : DocNo). n.0) c.documents.found.items (x.number ∷ []) in
+          ap numbers_in w.in_ok-push.ensures.items ∙ map-append (λ (n : DocNo). n.0) c.documents.found.items (x.number ∷ []) in
           let hit = one_hit q b.words.items docs i c.index.result.now (doc_of x) c.self.invariant.1 l (w.if-is_hit.ensures ∙ ap (satisfies q) c.index.ensures) in
           ap (λ (v : Vec DocNo Global). numbers_in v.items) w.found-is ∙ found ∙ ap (λ ns. ns ++ x.number.0 ∷ []) before
           ∙ ap (λ (d : Doc). answer q (take i docs) ++ d.number ∷ []) here ∙ sym hit ∙ after
       | else-is_hit w ↦
           let missed = no_hit q b.words.items docs i c.index.result.now nobody c.self.invariant.1 l (w.if-is_hit.ensures ∙ ap (satisfies q) c.index.ensures) in
-          ap (λ (v : Vec DocNo Global). numbers_in v.items) w.found-is ∙ before ∙ sym missed ∙ after ]
+          ap (λ (v : Vec DocNo Global). numbers_in v.items) w.found-is ∙ before ∙ sym missed ∙ after
+    ]

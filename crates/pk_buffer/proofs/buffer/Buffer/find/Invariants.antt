@@ -1,4 +1,5 @@
-use Rattle.std.proofs.Common.{◌≡◌, map, take}
+-- The numbers so far are the answer of the documents so far.
+use Rattle.std.proofs.Common.{◌≡◌, take}
 use Rattle.pk_model.specs.Collection.{answer}
 use Rattle.pk_model.specs.Tree.{tree_of}
 use Rattle.pk_model.specs.Views.{numbers_in}

@@ -1,13 +1,12 @@
-use Rattle.std.proofs.Common.{◌≡◌, ◌<◌, ◌+◌, ◌-◌, ◌≤◌, ◌∙◌, ◌++◌, ◌∷◌, [], ℕ, List, refl, sym, ap, subst, map, filter, not, take, length, get_or, slice_get, Some, true, false, arith, vec_len, string_bytes}
+-- Without the document at its place, what is left is what the filter keeps.
+use Rattle.std.proofs.Common.{◌≡◌, ◌<◌, ◌+◌, ◌∙◌, ℕ, List, refl, sym, ap, subst, map, filter, not, length, get_or, slice_get, Some, true, false, arith, string_bytes}
 use Rattle.std.specs.List.{remove}
 use Rattle.pk_model.specs.declared.documents.Document.{Document}
-use Rattle.pk_model.specs.Collection.{Doc, numbers_of, has_number, is_live, answer}
-use Rattle.pk_model.specs.Steps.{text_of}
-use Rattle.pk_model.specs.Tree.{tree_of}
-use Rattle.pk_model.specs.Views.{doc_of, numbers_in}
-use Rattle.pk_buffer.specs.Buffer.{IsOrdered, AreWordsOf, text_bytes}
-use Rattle.pk_buffer.proofs.DocumentLemmas.{dead_taken, live_taken, live_at, text_at, place_within}
-use Rattle.pk_buffer.proofs.KeptLemmas.{ordered_push, ordered_filter, words_push, words_remove, length_words, one_hit, no_hit, bytes_push, bytes_remove, bytes_small, docs_remove, doc_at, length_docs}
+use Rattle.pk_model.specs.Collection.{Doc, numbers_of, has_number, is_live}
+use Rattle.pk_model.specs.Views.{doc_of}
+use Rattle.pk_buffer.specs.Buffer.{IsOrdered, text_bytes}
+use Rattle.pk_buffer.proofs.DocumentLemmas.{dead_taken, live_taken, live_at, place_within}
+use Rattle.pk_buffer.proofs.KeptLemmas.{ordered_filter, words_remove, length_words, bytes_remove, docs_remove, doc_at, length_docs}
 use Rattle.pk_buffer.proofs.buffer.Buffer.remove.Goals as goal
 
 -- the place, in the documents that the buffer keeps
@@ -48,10 +47,11 @@ invariant_of-self c =
     let after : map doc_of c.remove-document.new.self.items ≡ remove docs place = ap (map doc_of) c.remove-document.ensures.items ∙ docs_remove b.documents.items place in
     let taken : filter (λ d. not (has_number n d)) docs ≡ remove docs place = live_taken n docs place c.self.invariant.0.rising e in
     let gone = bytes_gone b.documents.items n place d e c.remove-document.ensures.value in
-    let sum : text_bytes (map doc_of c.remove-document.new.self.items) ≡ text_bytes (remove docs place) = ap text_bytes after in
-    (subst IsOrdered (taken ∙ sym after) (ordered_filter docs n c.self.invariant.0),
-     rw (c.remove.ensures.items, after) (words_remove b.words.items docs place c.self.invariant.1),
-     omega (arith, gone, sum, c.self.invariant.2, c.len.ensures, d.text.bytes.ok.0))
+    let sum : text_bytes (map doc_of c.remove-document.new.self.items) ≡ text_bytes (remove docs place) = ap text_bytes after in (
+      subst IsOrdered (taken ∙ sym after) (ordered_filter docs n c.self.invariant.0),
+      rw (c.remove.ensures.items, after) (words_remove b.words.items docs place c.self.invariant.1),
+      omega (arith, gone, sum, c.self.invariant.2, c.len.ensures, d.text.bytes.ok.0),
+    )
 
 pub returns-in-None-clause-others : goal.returns-in-None-clause-others
 returns-in-None-clause-others c =

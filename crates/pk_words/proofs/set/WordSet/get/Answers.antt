@@ -1,3 +1,4 @@
+-- The places of a word lie in the string and cut no character, and what lies between them is the word.
 use Rattle.std.proofs.Common.{◌≡◌, ◌<◌, ◌∷◌, ◌∙◌, ℕ, List, refl, sym, ap, length, get_or, slice_get, Some, arith, string_bytes}
 use Rattle.std.proofs.lemmas.List.{get_or_default}
 use Rattle.std.proofs.lemmas.Str.{IsUtf8-string_bytes}

@@ -1,3 +1,4 @@
+-- There is no word where there is no end.
 use Rattle.std.proofs.Common.{◌≡◌, ◌∙◌, sym, ap, length, rules, string_bytes, vec_len}
 use Rattle.pk_words.proofs.PackedLemmas.{length-pieces}
 use Rattle.pk_words.proofs.set.WordSet.is_empty.Goals as goal

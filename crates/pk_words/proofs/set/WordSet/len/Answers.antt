@@ -1,3 +1,4 @@
+-- There are as many words as ends, and they rise by the invariant.
 use Rattle.std.proofs.Common.{◌∙◌, sym, ap, subst, length, string_bytes}
 use Rattle.pk_words.specs.WordSet.{IsRising}
 use Rattle.pk_words.proofs.PackedLemmas.{length-pieces}

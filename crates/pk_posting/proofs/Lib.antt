@@ -1,0 +1,17 @@
+pub mod BlockLemmas
+pub mod ByteLemmas
+pub mod DifferenceLemmas
+pub mod EntryLemmas
+pub mod LeastLemmas
+pub mod OneListLemmas
+pub mod OneSpellingLemmas
+pub mod PackedLemmas
+pub mod PlacingLemmas
+pub mod PuttingLemmas
+pub mod ReadingLemmas
+pub mod RisingLemmas
+pub mod ShapeLemmas
+pub mod SpellingLemmas
+pub mod TailLemmas
+pub mod WholeLemmas
+pub mod WritingLemmas

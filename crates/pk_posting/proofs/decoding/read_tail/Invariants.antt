@@ -1,0 +1,5 @@
+use Rattle.pk_posting.specs.Tails.{TailTo}
+use Rattle.pk_posting.proofs.decoding.read_tail.Given as goal
+
+abbrev pub invariant-loop-i : goal.invariant-loop-i
+invariant-loop-i l = TailTo l.bytes l.start l.before l.count l.i l.at l.here l.fn.out.items l.out.items

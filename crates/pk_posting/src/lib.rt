@@ -1,0 +1,47 @@
+//! Posting lists: rising numbers as packed bytes, and the sources that such bytes come from.
+//!
+//! A list has up to 134,217,728 numbers, each at least 1 and above the one before. The bytes of n
+//! numbers, of which B = n div 128 blocks are whole:
+//!
+//! | part | bytes | what |
+//! |---|---|---|
+//! | count | 4 | n |
+//! | skip entry, B times | 4 | the offset of the block's packed bytes |
+//! | | 16 | the block's last four numbers |
+//! | metablock, (B + 15) div 16 times | 16 | the widths of sixteen blocks |
+//! | | 16 * width a block | up to sixteen packed blocks |
+//! | tail | 1 to 5 a number | the n mod 128 numbers left |
+//!
+//! A number of four bytes has its lowest byte first. An offset counts from the start of the first
+//! metablock. A block packs the differences of its 128 numbers to the number four places before, at
+//! one width: the bit length of the greatest difference. Four zeros stand before the first number,
+//! and the chain runs on from block to block. A width byte is 00 where there is no block. The tail
+//! has the variable bytes of the differences to the number just before, 0 before the first. Nothing
+//! follows it.
+//!
+//! So a list has one spelling, and a spelling is of one list: these laws are in `laws`. `encode`
+//! gives the spelling. `decode` gives the list exactly where the bytes spell one; it refuses other
+//! bytes as Damaged, and takes no memory for more numbers than the bytes could spell. `Shape::of`
+//! and `skip_of` read fields alone, and take no memory.
+//!
+//! A `ByteSource` lends pieces of some bytes: of a slice, or of a part of a disk. What its calls
+//! leave is in `specs/Source.antt`.
+//!
+//! In contracts, `Spells` (`specs/Posting.antt`) says field by field that bytes spell a list, and
+//! `spelling` (`specs/Spelling.antt`) is those bytes as a function of the list. The blocks are
+//! those of Lemire, Boytsov, Kurz, SIMD compression and the intersection of sorted integers (2016).
+#![tactic(auto)]
+
+mod decoding;
+mod encoding;
+mod fields;
+pub mod laws;
+pub mod source;
+
+pub use decoding::{DecodeFault, decode};
+pub use encoding::{encode, encode_into, length_of};
+pub use fields::{ListPlace, Shape, Skip, skip_of};
+pub use source::{ByteSource, SliceSource, SourceFault};
+
+#[cfg(test)]
+mod tests;

@@ -1,0 +1,5 @@
+pub mod CallerLemmas
+pub mod Digits
+pub mod Prefix
+pub mod Reading
+pub mod Taking
