@@ -1,0 +1,32 @@
+# Each target is one command, and can be typed by hand in its place.
+# demo, try, run a session of the program; test is the merge gate; check proves what has changed.
+
+SESSION = examples/mail.lines
+PROGRAM = crates/pk_find/out/pk_find
+
+.PHONY: demo try test check fmt bench
+
+# Proves and builds the program, and answers a session over a small mail archive.
+demo:
+	cd crates/pk_find && rt run -- run < ../../$(SESSION)
+
+# Answers the same session before anything is proved.
+try:
+	cd crates/pk_find && rt try -- run < ../../$(SESSION)
+
+# The gate: every proof from nothing, each must-fail edit, each test, each program twice.
+test:
+	rt ci
+
+# Every crate, the lowest first, over the work that earlier checks left.
+check:
+	rt all check
+
+# Lays out the files of each crate.
+fmt:
+	for crate in crates/*/; do (cd "$$crate" && rt fmt) || exit 1; done
+
+# Adding and finding 30 MB of English, beside SQLite FTS5; builds the program first.
+bench:
+	cd crates/pk_find && rt run -- run < /dev/null
+	bench/words/run.sh $(PROGRAM)

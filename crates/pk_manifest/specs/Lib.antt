@@ -1,0 +1,7 @@
+-- The definitions that contracts of bodies and gates cite.
+pub mod Bodies
+pub mod Spelling
+pub mod Sound
+pub mod Fields
+pub mod Current
+pub mod Firm

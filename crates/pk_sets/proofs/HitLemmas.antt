@@ -1,0 +1,67 @@
+-- Which of four numbers are among those before a place of a rising list.
+use Rattle.std.proofs.Common.{◌≡◌, ℕ, ◌<◌, ◌≤◌, ◌+◌, ◌-◌, ◌/◌, ◌%◌, ◌^◌, List, ◌++◌, length, take, drop, slice_index, Bool, true, false, cond, not, ◌||◌, bit_or, max, arith, refl, sym, ap, ap₂, ◌∙◌}
+use Rattle.std.specs.Simd.Lanes.{chunk}
+use Rattle.std.specs.List.Sorted.{IsStrictlyIncreasing}
+use Rattle.std.proofs.lemmas.Simd.{chunk-drop, get_or-chunk}
+use Rattle.std.proofs.lemmas.List.{take-append-drop, take-take, drop-take}
+use Rattle.std.proofs.lemmas.List.Elements.{filter-append}
+use Rattle.std.proofs.lemmas.Nat.Bits.{bit_at_or, bit_at-zero}
+use Rattle.pk_sets.specs.Sets.{has, difference}
+use Rattle.pk_sets.proofs.IntersectionLemmas.{none_above, none_below, filter_same, has_append, or_false}
+use Rattle.pk_sets.proofs.PartLemmas.{at_most, below, each_drop, each_chunk}
+
+-- the numbers up to one that is below x are not x
+pub none_through : (b : List ℕ) → IsStrictlyIncreasing b → (m j x : ℕ) → m ≡ j + 1 → j < length b → slice_index b j < x → has (take m b) x ≡ false
+none_through b inc m j x e room h =
+    none_below x (take m b) (each_chunk (λ y. y < x) 0 m b (omega arith) (λ k l n. omega (arith, at_most b inc k j (omega arith) room)))
+
+-- the numbers up to one that is not below x have x, if any have
+pub all_through : (b : List ℕ) → IsStrictlyIncreasing b → (m j x : ℕ) → m ≡ j + 1 → j < length b → x ≤ slice_index b j → has (take m b) x ≡ has b x
+all_through b inc m j x e room h =
+    let past : has (drop m b) x ≡ false = none_above x (drop m b) (each_drop (λ y. x < y) m b (λ k l n. omega (arith, below b inc j k (omega arith) n))) in
+    sym (ap (λ l. has l x) (sym (take-append-drop m b)) ∙ has_append x (take m b) (drop m b) ∙ ap (λ q. has (take m b) x || q) past ∙ or_false (has (take m b) x))
+
+take_more : (j n : ℕ) (b : List ℕ) → take (j + n) b ≡ take j b ++ chunk j n b
+take_more j n b =
+    sym (ap₂ (λ l m. l ++ m) (sym (take-take j (j + n) b (omega arith))) (sym (drop-take j n b)) ∙ take-append-drop j (take (j + n) b))
+
+max_case : (p q : Bool) → max (cond p 1 0) (cond q 1 0) ≡ cond (p || q) 1 0
+max_case true true = refl
+max_case true false = refl
+max_case false true = refl
+max_case false false = refl
+
+-- bits of both kinds together: what is seen before place j, and what is met in the four from j on
+pub hits_are : (a b : List ℕ) (i j s h : ℕ) → i + 4 ≤ length a
+    → ((t : ℕ) → t < 4 → i + t < length a → s / 2 ^ t % 2 ≡ cond (has (take j b) (slice_index a (i + t))) 1 0)
+    → ((t : ℕ) → t < 4 → h / 2 ^ t % 2 ≡ cond (has (chunk j 4 b) (slice_index (chunk i 4 a) t)) 1 0)
+    → (t : ℕ) → t < 4 → bit_or s h / 2 ^ t % 2 ≡ cond (has (take (j + 4) b) (slice_index a (i + t))) 1 0
+hits_are a b i j s h room seen met t four =
+    let x = slice_index a (i + t) in
+    let here : h / 2 ^ t % 2 ≡ cond (has (chunk j 4 b) x) 1 0 =
+    met t four ∙ ap (λ y. cond (has (chunk j 4 b) y) 1 0) (get_or-chunk i 4 a t 0 four) in
+    bit_at_or s h t
+    ∙ ap₂ max (seen t four (omega arith)) here
+    ∙ max_case (has (take j b) x) (has (chunk j 4 b) x)
+    ∙ ap (λ q. cond q 1 0) (sym (ap (λ l. has l x) (take_more j 4 b) ∙ has_append x (take j b) (chunk j 4 b)))
+
+-- no bit is set, where nothing is met
+pub no_hit : (ys : List ℕ) (x t : ℕ) → has ys x ≡ false → 0 / 2 ^ t % 2 ≡ cond (has ys x) 1 0
+no_hit ys x t none = bit_at-zero t ∙ sym (ap (λ q. cond q 1 0) none)
+
+pub left_out : (k : ℕ) (p : Bool) → k ≡ cond p 1 0 → 1 - k ≡ cond (not p) 1 0
+left_out k true e = omega arith
+left_out k false e = omega arith
+
+-- four numbers of the first list, and the rest
+pub difference_parts : (a b : List ℕ) (i : ℕ) → difference (drop i a) b ≡ difference (chunk i 4 a) b ++ difference (drop (i + 4) a) b
+difference_parts a b i = ap (λ l. difference l b) (chunk-drop i 4 a) ∙ filter-append (λ x. not (has b x)) (chunk i 4 a) (drop (i + 4) a)
+
+-- numbers of the second list that none of the first is among can be left out
+pub start_over : (a b : List ℕ) (i s : ℕ) → ((k : ℕ) → i ≤ k → k < length a → has (take s b) (slice_index a k) ≡ false)
+    → difference (drop i a) b ≡ difference (drop i a) (drop s b)
+start_over a b i s none =
+    filter_same (λ x. not (has b x)) (λ x. not (has (drop s b) x)) (drop i a)
+    (each_drop (λ x. not (has b x) ≡ not (has (drop s b) x)) i a (λ k h l.
+    let x = slice_index a k in
+    ap not (ap (λ l. has l x) (sym (take-append-drop s b)) ∙ has_append x (take s b) (drop s b) ∙ ap (λ q. q || has (drop s b) x) (none k h l))))

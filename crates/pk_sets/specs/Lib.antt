@@ -1,0 +1,2 @@
+-- The operations on sets, as rising lists.
+pub mod Sets

@@ -1,0 +1,43 @@
+//! Operations on sets of numbers, as strictly rising lists.
+//!
+//! A set is a slice of `u32` whose numbers rise strictly; the empty one is a set. Each call writes
+//! its result into the front of a slice that the caller gives, and answers how many numbers there
+//! are. What stands in the slice past them is open.
+//!
+//! | call | result | room |
+//! |---|---|---|
+//! | `both` | the numbers in both lists | the shorter length |
+//! | `either` | the numbers in at least one | the sum of the lengths |
+//! | `without` | the numbers of the first that are not in the second | the first length |
+//!
+//! `both` is one of two: `both_merge` for lists of like length, `both_gallop` where one is more
+//! than 50 times as long as the other. The merge compares four numbers against four. The gallop
+//! steps through the long list in stretches of 32, doubling its step until it has passed a number,
+//! then halves the way back, and compares the stretch it ends at in lanes. Both are after Lemire,
+//! Boytsov and Kurz (2016), "SIMD compression and the intersection of sorted integers".
+//!
+//! `either` goes by single numbers, without a branch on which is lower, and copies four at once
+//! where they stand below the other list. `without` compares four against four, and keeps a number
+//! once nothing that is left of the second list can meet it. The ends are done plainly.
+//!
+//! Contracts see a set as its list. `specs/Sets.antt` has the operations by membership, and `laws`
+//! what follows from them: the results rise, the order of the two lists does not matter, and the
+//! sizes. Nothing is refused, and no call takes memory.
+#![tactic(auto)]
+
+mod excluding;
+mod galloping;
+mod intersecting;
+pub mod laws;
+mod merging;
+mod uniting;
+mod writing;
+
+pub use excluding::without;
+pub use galloping::both_gallop;
+pub use intersecting::both;
+pub use merging::both_merge;
+pub use uniting::either;
+
+#[cfg(test)]
+mod tests;

@@ -1,0 +1,51 @@
+//! How a result is written, and how far each side goes on.
+
+ghost use Rattle.std.specs.Prelude.{◌≡◌, ℕ, ◌+◌, ◌-◌, ◌<◌, ◌≤◌, length};
+ghost use Rattle.std.specs.Prelude.{take, drop, ◌++◌, [], ◌∷◌};
+ghost use Rattle.std.specs.Simd.Lanes.{chunk};
+
+use std::simd::prelude::*;
+
+// Writes x at place n, and counts it where the bit is 1: a branch would often be foreseen wrongly.
+#[inline(always)]
+pub fn keep(x: u32, bit: u64, n: usize, out: &mut [u32]) -> usize
+    requires room { n < length out.old }
+    requires is_bit { bit < 2 }
+    ensures count { result ≡ n + bit }
+    ensures found { take result out.new ≡ take n out.old ++ take bit (x ∷ []) }
+{
+    out[n] = x;
+    n + bit as usize
+}
+
+// One where x is at most y, else 0.
+#[inline(always)]
+pub fn one_up_to(x: u32, y: u32) -> usize
+    ensures one { x ≤ y → result ≡ 1 }
+    ensures none { y < x → result ≡ 0 }
+{
+    if x <= y { 1 } else { 0 }
+}
+
+// Writes at place n the four numbers from `from` on.
+#[inline(always)]
+pub fn put_four(xs: &[u32], from: usize, n: usize, out: &mut [u32])
+    requires left { from + 4 ≤ length xs.now }
+    requires room { n + 4 ≤ length out.old }
+    ensures { take (n + 4) out.new ≡ take n out.old ++ chunk from 4 xs.now }
+{
+    u32x4::from_slice(&xs[from..]).copy_to_slice(&mut out[n..]);
+}
+
+// Writes at place n what is left of the numbers from `from` on.
+#[inline(always)]
+pub fn put_rest(xs: &[u32], from: usize, n: usize, out: &mut [u32]) -> usize
+    requires left { from ≤ length xs.now }
+    requires room { n + (length xs.now - from) ≤ length out.old }
+    ensures count { result ≡ n + (length xs.now - from) }
+    ensures found { take result out.new ≡ take n out.old ++ drop from xs.now }
+{
+    let end = n + (xs.len() - from);
+    out[n..end].copy_from_slice(&xs[from..]);
+    end
+}
