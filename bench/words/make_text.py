@@ -3,7 +3,8 @@
     make_text.py SOURCE MEGABYTES > documents
 
 SOURCE is English text; its white space becomes single spaces, and it is cut at spaces into documents
-of about 7,500 bytes. An empty SOURCE stands for words drawn by a seeded generator, their frequencies
+of about 7,500 bytes, or of more where they would be too many for the buffer. A text that ends too
+soon is begun again. An empty SOURCE stands for words drawn by a seeded generator, their frequencies
 by Zipf's law, from /usr/share/dict/words or, where that is absent, from words made of syllables.
 """
 
@@ -19,13 +20,14 @@ SEED = 2008
 
 
 def cut(text, total):
-    """Documents of about DOCUMENT_BYTES each, together about `total` bytes."""
+    """Documents of about one size, together about `total` bytes and at most MOST_DOCUMENTS."""
+    least = max(DOCUMENT_BYTES, total // (MOST_DOCUMENTS - 6))
     words = text.split()
     document, size, written = [], 0, 0
     for word in itertools.cycle(words):
         document.append(word)
         size += len(word.encode()) + 1
-        if size >= DOCUMENT_BYTES:
+        if size >= least:
             yield " ".join(document)
             written += size
             document, size = [], 0
@@ -55,7 +57,7 @@ def drawn(total):
 
 def main():
     source, megabytes = pathlib.Path(sys.argv[1]), float(sys.argv[2])
-    total = min(int(megabytes * 1_000_000), MOST_BYTES - DOCUMENT_BYTES * 2)
+    total = min(int(megabytes * 1_000_000), MOST_BYTES - 32_768)
     text = source.read_text(errors="ignore") or drawn(total)
     for document in itertools.islice(cut(text, total), MOST_DOCUMENTS):
         sys.stdout.write(document + "\n")

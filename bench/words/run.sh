@@ -3,7 +3,7 @@
 #   bench/words/run.sh crates/pk_find/out/pk_find [MEGABYTES [RUNS]]
 # The text is made once, in bench/words/data.
 program=${1:?name the program}
-megabytes=${2:-30}
+megabytes=${2:-67}
 runs=${3:-3}
 here=$(dirname "$0")
 data=$here/data

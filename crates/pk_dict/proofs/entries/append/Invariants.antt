@@ -1,0 +1,17 @@
+-- The first bytes stand at the end.
+use Rattle.std.proofs.Common.{◌-◌, ◌≡◌, ◌≤◌, ◌++◌, length, take, drop}
+use Rattle.pk_dict.specs.Place.{bytes_at}
+use Rattle.pk_dict.proofs.entries.append.Given as goal
+
+abbrev pub invariant-loop-done : goal.invariant-loop-done
+invariant-loop-done g l = record {
+  same : g.S.ByteSource.honest → g.S.ByteSource.content l.source ≡ g.S.ByteSource.content l.fn.source;
+  size : length (g.S.ByteSource.content l.source) ≡ length (g.S.ByteSource.content l.fn.source);
+  kept : g.S.ByteSource.keeps l.fn.source l.source;
+  failures : g.S.ByteSource.failures l.source ≡ g.S.ByteSource.failures l.fn.source;
+  below : l.done ≤ l.n;
+  value : g.S.ByteSource.honest → l.out.items ≡ l.fn.out.items ++ take l.done (drop l.at (bytes_at (g.S.ByteSource.content l.fn.source) l.place));
+}
+
+abbrev pub decreases-loop-done : goal.decreases-loop-done
+decreases-loop-done g l = l.n - l.done

@@ -1,0 +1,10 @@
+pub mod Dict
+pub mod Dictionary
+pub mod Entries
+pub mod Lists
+pub mod Order
+pub mod Place
+pub mod Reading
+pub mod Search
+pub mod Source
+pub mod Writer

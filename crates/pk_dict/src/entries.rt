@@ -1,0 +1,242 @@
+//! The entries whose terms begin with a prefix, in a source.
+
+ghost use Rattle.std.specs.Prelude.{
+  ◌≡◌,
+  ◌≤◌,
+  ◌<◌,
+  ◌+◌,
+  ◌*◌,
+  ◌^◌,
+  ◌++◌,
+  [],
+  ℕ,
+  List,
+  length,
+  take,
+  drop,
+  true,
+  false,
+  nat_eq,
+  OnErr,
+  OnOk,
+  IfErr,
+  IfOk,
+  IsOk,
+  IsTrue,
+  MatchResult,
+};
+ghost use Rattle.std.specs.List.{starts_with};
+ghost use Rattle.pk_dict.specs.Dictionary.{
+  DictSpells,
+  Item,
+  group_count,
+  items_with_prefix,
+};
+ghost use Rattle.pk_dict.specs.Entries.{
+  IsListed,
+  IsStart,
+  TermGives,
+  item_kept,
+  items_from,
+  start_at,
+  term_at,
+};
+ghost use Rattle.pk_dict.specs.Order.{less};
+ghost use Rattle.pk_dict.specs.Place.{LiesIn, bytes_at};
+ghost use Rattle.pk_dict.specs.Reading.{Gives};
+ghost use Rattle.pk_dict.specs.Source.{IsRead};
+
+use crate::compare::is_less;
+use crate::entry::{DictPlace, EntriesFault, Entry};
+use crate::fields::{number, offset};
+use crate::head::Standing;
+use crate::look_up::{groups_of, narrow};
+use crate::steps::head;
+use pk_posting::{ByteSource, SourceFault};
+use std::alloc::{AllocError, Global};
+use std::vec::Vec;
+
+/// The terms that begin with a prefix, each with its entry, in a dictionary that lies in a source.
+/// They rise by bytes; the empty prefix gives all terms.
+///
+/// It reads small pieces alone, from the group where the first such term may stand up to the first
+/// term past the last.
+pub fn entries_in<S: ByteSource>(
+    alloc: Global,
+    source: &mut S,
+    place: DictPlace,
+    prefix: &[u8],
+) -> Result<Vec<(Vec<u8>, Entry)>, EntriesFault>
+    ensures found { S.honest → (es : List Item)
+        → place.at + place.bytes ≤ length (S.content source.old)
+        → DictSpells (bytes_at (S.content source.old) place) es → length es ≡ place.terms
+        → MatchResult result (λ v. items_from v.items ≡ items_with_prefix prefix.now es)
+        (λ e. e ≡ EntriesFault.Damaged → ⊥) }
+    ensures inside { IsOk result → place.at + place.bytes ≤ length (S.content source.old) }
+    ensures left { IsListed S.honest S.content S.failures S.keeps result source.old source.new }
+{
+    if u64::from(source.len()) < u64::from(place.at) + u64::from(place.bytes) {
+        return Err(EntriesFault::Damaged);
+    }
+    if place.terms == 0 {
+        return Ok(Vec::new(alloc));
+    }
+    let group = match narrow(source, place, prefix)? {
+        Standing::First(group, _) => group,
+        Standing::After(groups, _, _) => groups.saturating_sub(1),
+    };
+    let base = 4 * groups_of(place.terms);
+    let at = group_start(source, place, base, group)?;
+    collect(alloc, source, place, group, at, prefix)
+}
+
+// The entries from a group on, which begins at a place: no term before it begins with the prefix.
+fn collect<S: ByteSource>(
+    alloc: Global,
+    source: &mut S,
+    place: DictPlace,
+    group: u32,
+    at: u32,
+    prefix: &[u8],
+) -> Result<Vec<(Vec<u8>, Entry)>, EntriesFault>
+    requires lies { LiesIn place (length (S.content source.old)) }
+    requires few { group < 2 ^ 28 }
+    ensures found { S.honest → (es : List Item)
+        → DictSpells (bytes_at (S.content source.old) place) es → length es ≡ place.terms
+        → IsStart (bytes_at (S.content source.old) place) es prefix.now group at
+        → MatchResult result (λ v. items_from v.items ≡ items_with_prefix prefix.now es)
+        (λ e. e ≡ EntriesFault.Damaged → ⊥) }
+    ensures left { IsListed S.honest S.content S.failures S.keeps result source.old source.new }
+{
+    let mut found = Vec::new(alloc);
+    let mut term = Vec::new(alloc);
+    let mut at = at;
+    for i in 16 * group..place.terms {
+        let (entry, next) = next_term(source, place, i % 16 == 0, at, &mut term)?;
+        at = next;
+        if !keep(alloc, &mut found, prefix, &term, entry)? {
+            return Ok(found);
+        }
+    }
+    Ok(found)
+}
+
+// Where a group begins: the groups begin at `base`.
+#[tactic(auto, unfolding(crate::specs::Entries::start_at))]
+fn group_start<S: ByteSource>(
+    source: &mut S,
+    place: DictPlace,
+    base: u32,
+    group: u32,
+) -> Result<u32, SourceFault>
+    requires lies { LiesIn place (length (S.content source.old)) }
+    requires few { group < 2 ^ 28 }
+    ensures value { S.honest → Gives result
+        (start_at (bytes_at (S.content source.old) place) base group) }
+    ensures left { IsRead S.honest S.content S.asked S.failures S.keeps
+        1 result source.old source.new }
+{
+    let offset = offset(source, place, 4 * group)?;
+    let start = match base.checked_add(offset) {
+        Some(start) => start,
+        None => return Err(SourceFault::Damaged),
+    };
+    if place.bytes < start {
+        return Err(SourceFault::Damaged);
+    }
+    Ok(start)
+}
+
+// Puts bytes at the end.
+fn append<S: ByteSource>(
+    source: &mut S,
+    place: DictPlace,
+    at: u32,
+    n: u32,
+    out: &mut Vec<u8>,
+) -> Result<(), EntriesFault>
+    requires lies { LiesIn place (length (S.content source.old)) }
+    requires inside { at + n ≤ place.bytes }
+    ensures value { S.honest → OnOk result (out.new.items
+        ≡ out.old.items ++ take n (drop at (bytes_at (S.content source.old) place))) }
+    ensures fault { IfErr result (λ e. e ≡ EntriesFault.Damaged → ⊥) }
+    ensures left { IsListed S.honest S.content S.failures S.keeps result source.old source.new }
+{
+    let mut done: u32 = 0;
+    while done < n {
+        let size = (n - done).min(4096);
+        append_piece(source, place, at + done, size, out)?;
+        done += size;
+    }
+    Ok(())
+}
+
+// Puts a piece at the end.
+fn append_piece<S: ByteSource>(
+    source: &mut S,
+    place: DictPlace,
+    at: u32,
+    size: u32,
+    out: &mut Vec<u8>,
+) -> Result<(), EntriesFault>
+    requires lies { LiesIn place (length (S.content source.old)) }
+    requires few { size ≤ 4096 }
+    requires inside { at + size ≤ place.bytes }
+    ensures value { S.honest → OnOk result (out.new.items
+        ≡ out.old.items ++ take size (drop at (bytes_at (S.content source.old) place))) }
+    ensures fault { IfErr result (λ e. e ≡ EntriesFault.Damaged → ⊥) }
+    ensures left { IsListed S.honest S.content S.failures S.keeps result source.old source.new }
+{
+    let piece = source.bytes(place.at + at, size)?;
+    out.extend_from_slice(piece)?;
+    Ok(())
+}
+
+// The next term, whole, made of the one before: what is said of it, and the place after it.
+#[tactic(auto, unfolding(crate::specs::Entries::term_at))]
+fn next_term<S: ByteSource>(
+    source: &mut S,
+    place: DictPlace,
+    first: bool,
+    at: u32,
+    term: &mut Vec<u8>,
+) -> Result<(Entry, u32), EntriesFault>
+    requires { LiesIn place (length (S.content source.old)) }
+    ensures value { S.honest → TermGives result term.new.items
+        (term_at (bytes_at (S.content source.old) place) first term.old.items at) }
+    ensures left { IsListed S.honest S.content S.failures S.keeps result source.old source.new }
+{
+    let (kept, start) = if first {
+        (0, at)
+    } else {
+        number(source, place, at)?
+    };
+    let head = head(source, place, start)?;
+    if term.len() < kept as usize {
+        return Err(EntriesFault::Damaged);
+    }
+    term.truncate(kept as usize);
+    append(source, place, head.rest, head.size, term)?;
+    Ok((head.entry, head.next))
+}
+
+// Adds a term that begins with the prefix, and says whether later ones may.
+fn keep(
+    alloc: Global,
+    found: &mut Vec<(Vec<u8>, Entry)>,
+    prefix: &[u8],
+    term: &[u8],
+    entry: Entry,
+) -> Result<bool, AllocError>
+    ensures items { OnOk result (items_from found.new.items
+        ≡ items_from found.old.items ++ item_kept prefix.now term.now entry) }
+    ensures past { IfOk result (λ more. more ≡ false
+        → (less prefix.now term.now ≡ true) × (starts_with nat_eq term.now prefix.now ≡ false)) }
+{
+    if term.starts_with(prefix) {
+        let copy = Vec::from_slice(alloc, term)?;
+        found.push((copy, entry))?;
+        return Ok(true);
+    }
+    Ok(!is_less(prefix, term))
+}

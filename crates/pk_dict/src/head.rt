@@ -1,0 +1,37 @@
+//! What is read of one term, and what the term is to the wanted one.
+
+use crate::entry::Entry;
+
+/// Where the parts of a term lie.
+#[derive(Clone, Copy)]
+pub(crate) struct Head {
+    /// Where the rest of the term lies, after the bytes that it keeps of the term before.
+    pub(crate) rest: u32,
+    /// How many bytes the rest has.
+    pub(crate) size: u32,
+    /// What is said of the term.
+    pub(crate) entry: Entry,
+    /// Where the next term begins.
+    pub(crate) next: u32,
+}
+
+/// What a term is to the wanted one.
+#[derive(Clone, Copy)]
+pub(crate) enum Step {
+    /// It is less: how many bytes both share, and the place after it.
+    Less(usize, u32),
+    /// It is the wanted one.
+    Found(Entry),
+    /// It is greater.
+    Past,
+}
+
+/// Where a term stands among the first terms of the groups.
+#[derive(Clone, Copy)]
+pub(crate) enum Standing {
+    /// It is the first term of this group.
+    First(u32, Entry),
+    /// So many groups begin with a lesser term: how many bytes the last of these first terms shares
+    /// with it, and the place after that term.
+    After(u32, usize, u32),
+}

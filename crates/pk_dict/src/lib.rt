@@ -1,0 +1,64 @@
+//! A term dictionary: for each term how many documents it stands in, and where its posting list
+//! lies.
+//!
+//! Terms rise by their bytes and stand in groups of sixteen, the last group perhaps shorter.
+//! First comes one offset a group, then the groups, so a look-up halves over the groups by their
+//! offsets and then goes through one group. A term in a group says how much of the term before it
+//! keeps (front coding: Manning, Raghavan, Schütze, Introduction to Information Retrieval, 2008,
+//! section 5.2.2).
+//!
+//! | part | bytes |
+//! |---|---|
+//! | offsets | for each group a u32, lowest byte first: where it starts, counted from the first group |
+//! | groups | for each group its terms, one after the other |
+//! | first term of a group | all of it as the rest, then its numbers |
+//! | any other term | how many bytes it shares with the one before (all it can), its rest, its numbers |
+//! | the rest of a term | its length, its bytes |
+//! | numbers of a term | frequency, place of its list, bytes of its list |
+//!
+//! All numbers but the offsets are variable bytes (`pk_vbyte`). Without terms a dictionary has no
+//! byte. Nothing in the bytes says how many terms there are: whoever reads them hands that in.
+//!
+//! A caller sees a dictionary as a list of items, each a term and its [`Entry`]: `DictSpells
+//! bytes es` says that the bytes are the dictionary of the items `es`. Bytes of so many terms are
+//! a dictionary of one list at most, and a list has one spelling ([`laws`]).
+//!
+//! - [`DictWriter`] takes the terms one by one and gives the bytes.
+//! - [`Dict`] reads a dictionary in memory; [`look_up_in`] and [`entries_in`] read one that lies
+//!   in a source, by small pieces. Both go by the same steps: a slice is a source that lends
+//!   itself.
+//! - [`Window`] is a source over a source that reads 4,096 bytes at once, so that few of the
+//!   pieces of a look-up reach what lies below.
+//!
+//! Bytes that are no dictionary of that many terms are refused as Damaged wherever a reader sees
+//! it: a number that ends too early or is too large, a part past the end, a term that keeps more
+//! than the one before has, or that shares less than the order allows. Not each such byte is
+//! seen, since a look-up reads only what it needs; every call returns. A refusal leaves nothing
+//! changed, and any call may follow.
+//!
+//! The words of the contracts are in `specs`: `Dictionary` has the format, `Writer` what was
+//! added, `Entries` the lists of a prefix, `Place` and `Source` what a source has to do with it,
+//! `Reading` and `Search` what each private step finds.
+#![tactic(auto)]
+
+pub(crate) mod compare;
+pub mod dict;
+pub mod entries;
+pub mod entry;
+pub(crate) mod fields;
+pub(crate) mod head;
+pub mod laws;
+pub mod look_up;
+pub(crate) mod steps;
+pub mod window;
+pub mod writer;
+
+pub use dict::Dict;
+pub use entries::entries_in;
+pub use entry::{DictFault, DictPlace, EntriesFault, Entry};
+pub use look_up::look_up_in;
+pub use window::Window;
+pub use writer::DictWriter;
+
+#[cfg(test)]
+mod tests;

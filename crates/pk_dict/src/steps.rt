@@ -1,0 +1,214 @@
+//! One term against the wanted one, and the terms of a group.
+
+ghost use Rattle.std.specs.Prelude.{◌≡◌, ◌≤◌, ◌<◌, ◌+◌, ◌*◌, ◌^◌, length, IfOk};
+ghost use Rattle.pk_dict.specs.Place.{LiesIn, bytes_at};
+ghost use Rattle.pk_dict.specs.Reading.{
+  Gives,
+  IsWithin,
+  apart_at,
+  compared_at,
+  group_at,
+  head_at,
+  next_at,
+  scan_at,
+  step_at,
+};
+ghost use Rattle.pk_dict.specs.Source.{IsRead, pieces_of};
+
+use crate::compare::shared_with;
+use crate::entry::{DictPlace, Entry};
+use crate::fields::{byte, entry, number, offset};
+use crate::head::{Head, Step};
+use pk_posting::{ByteSource, SourceFault};
+
+// Where the rest of a term lies, what is said of the term, and where the next one begins.
+#[tactic(auto, unfolding(crate::specs::Reading::head_at))]
+pub(crate) fn head<S: ByteSource>(
+    source: &mut S,
+    place: DictPlace,
+    at: u32,
+) -> Result<Head, SourceFault>
+    requires { LiesIn place (length (S.content source.old)) }
+    ensures value { S.honest → Gives result (head_at (bytes_at (S.content source.old) place) at) }
+    ensures inside { IfOk result (λ h. (h.rest + h.size ≤ place.bytes) × (h.next ≤ place.bytes)) }
+    ensures left { IsRead S.honest S.content S.asked S.failures S.keeps
+        4 result source.old source.new }
+{
+    let (size, rest) = number(source, place, at)?;
+    let end = match rest.checked_add(size) {
+        Some(end) => end,
+        None => return Err(SourceFault::Damaged),
+    };
+    let (entry, next) = entry(source, place, end)?;
+    Ok(Head {
+        rest,
+        size,
+        entry,
+        next,
+    })
+}
+
+// What a term's rest says, where it and the wanted term share the first bytes.
+#[tactic(auto, unfolding(crate::specs::Reading::compared_at))]
+fn compared<S: ByteSource>(
+    source: &mut S,
+    place: DictPlace,
+    head: Head,
+    term: &[u8],
+    matched: usize,
+) -> Result<Step, SourceFault>
+    requires lies { LiesIn place (length (S.content source.old)) }
+    requires within { matched ≤ length term.now }
+    ensures value { S.honest → Gives result
+        (compared_at (bytes_at (S.content source.old) place) head term.now matched) }
+    ensures matched { IfOk result (IsWithin (length term.now)) }
+    ensures left { IsRead S.honest S.content S.asked S.failures S.keeps
+        (1 + pieces_of (length term.now)) result source.old source.new }
+{
+    let more = shared_with(source, place, head.rest, head.size, &term[matched..])?;
+    let matched = matched + more;
+    if more == head.size as usize {
+        if matched == term.len() {
+            return Ok(Step::Found(head.entry));
+        }
+        return Ok(Step::Less(matched, head.next));
+    }
+    if matched == term.len() {
+        return Ok(Step::Past);
+    }
+    let found = byte(source, place, head.rest + more as u32)?;
+    if term[matched] < found {
+        return Ok(Step::Past);
+    }
+    Ok(Step::Less(matched, head.next))
+}
+
+// A term that shares less with the one before than the wanted term does.
+#[tactic(auto, unfolding(crate::specs::Reading::apart_at))]
+fn apart<S: ByteSource>(
+    source: &mut S,
+    place: DictPlace,
+    at: u32,
+    kept: usize,
+    term: &[u8],
+) -> Result<Step, SourceFault>
+    requires lies { LiesIn place (length (S.content source.old)) }
+    requires within { kept < length term.now }
+    ensures value { S.honest → Gives result
+        (apart_at (bytes_at (S.content source.old) place) at kept term.now) }
+    ensures matched { IfOk result (IsWithin (length term.now)) }
+    ensures left { IsRead S.honest S.content S.asked S.failures S.keeps
+        1 result source.old source.new }
+{
+    let found = byte(source, place, at)?;
+    if term[kept] < found {
+        return Ok(Step::Past);
+    }
+    Err(SourceFault::Damaged)
+}
+
+// What the term at a place is to the wanted one: it keeps bytes of the term before, which is less
+// and shares `matched` bytes with the wanted one.
+#[tactic(auto, unfolding(crate::specs::Reading::step_at))]
+pub(crate) fn step<S: ByteSource>(
+    source: &mut S,
+    place: DictPlace,
+    term: &[u8],
+    kept: usize,
+    matched: usize,
+    at: u32,
+) -> Result<Step, SourceFault>
+    requires lies { LiesIn place (length (S.content source.old)) }
+    requires within { matched ≤ length term.now }
+    ensures value { S.honest → Gives result
+        (step_at (bytes_at (S.content source.old) place) term.now kept matched at) }
+    ensures matched { IfOk result (IsWithin (length term.now)) }
+    ensures left { IsRead S.honest S.content S.asked S.failures S.keeps
+        (5 + pieces_of (length term.now)) result source.old source.new }
+{
+    let head = head(source, place, at)?;
+    if matched < kept {
+        return Ok(Step::Less(matched, head.next));
+    }
+    if kept < matched {
+        return apart(source, place, head.rest, kept, term);
+    }
+    compared(source, place, head, term, matched)
+}
+
+// What the next term of a group is to the wanted one: it says first how much it keeps.
+#[tactic(auto, unfolding(crate::specs::Reading::next_at))]
+fn next_step<S: ByteSource>(
+    source: &mut S,
+    place: DictPlace,
+    term: &[u8],
+    matched: usize,
+    at: u32,
+) -> Result<Step, SourceFault>
+    requires lies { LiesIn place (length (S.content source.old)) }
+    requires within { matched ≤ length term.now }
+    ensures value { S.honest → Gives result
+        (next_at (bytes_at (S.content source.old) place) term.now matched at) }
+    ensures matched { IfOk result (IsWithin (length term.now)) }
+    ensures left { IsRead S.honest S.content S.asked S.failures S.keeps
+        (6 + pieces_of (length term.now)) result source.old source.new }
+{
+    let (kept, start) = number(source, place, at)?;
+    step(source, place, term, kept as usize, matched, start)
+}
+
+// The wanted term among the next terms of a group.
+#[tactic(auto, unfolding(crate::specs::Reading::scan_at))]
+pub(crate) fn scan<S: ByteSource>(
+    source: &mut S,
+    place: DictPlace,
+    count: u32,
+    term: &[u8],
+    matched: usize,
+    at: u32,
+) -> Result<Option<Entry>, SourceFault>
+    requires lies { LiesIn place (length (S.content source.old)) }
+    requires within { matched ≤ length term.now }
+    ensures value { S.honest → Gives result
+        (scan_at count (bytes_at (S.content source.old) place) term.now matched at) }
+    ensures left { IsRead S.honest S.content S.asked S.failures S.keeps
+        (count * (6 + pieces_of (length term.now))) result source.old source.new }
+{
+    let mut matched = matched;
+    let mut at = at;
+    for _ in 0..count {
+        match next_step(source, place, term, matched, at)? {
+            Step::Less(now, next) => {
+                matched = now;
+                at = next;
+            }
+            Step::Found(entry) => return Ok(Some(entry)),
+            Step::Past => return Ok(None),
+        }
+    }
+    Ok(None)
+}
+
+// What the first term of a group is to the wanted one: the groups begin at `base`.
+#[tactic(auto, unfolding(crate::specs::Reading::group_at))]
+pub(crate) fn group_step<S: ByteSource>(
+    source: &mut S,
+    place: DictPlace,
+    base: u32,
+    group: u32,
+    term: &[u8],
+) -> Result<Step, SourceFault>
+    requires lies { LiesIn place (length (S.content source.old)) }
+    requires few { group < 2 ^ 28 }
+    ensures value { S.honest → Gives result
+        (group_at (bytes_at (S.content source.old) place) base group term.now) }
+    ensures matched { IfOk result (IsWithin (length term.now)) }
+    ensures left { IsRead S.honest S.content S.asked S.failures S.keeps
+        (6 + pieces_of (length term.now)) result source.old source.new }
+{
+    let offset = offset(source, place, 4 * group)?;
+    match base.checked_add(offset) {
+        Some(start) => step(source, place, term, 0, 0, start),
+        None => Err(SourceFault::Damaged),
+    }
+}

@@ -1,0 +1,167 @@
+//! A dictionary written term by term.
+
+ghost use Rattle.std.specs.Prelude.{
+  ◌≡◌,
+  ◌<◌,
+  ◌^◌,
+  ◌++◌,
+  ◌∷◌,
+  [],
+  ℕ,
+  List,
+  length,
+  OnErr,
+  OnOk,
+  IfOk,
+  IsTrue,
+};
+ghost use Rattle.pk_dict.specs.Dictionary.{DictSpells, Item, item_of, numbers, rest_of, spelling};
+ghost use Rattle.pk_dict.specs.Writer.{HasAdded, MayAdd};
+ghost use Rattle.pk_posting.specs.declared.fields.ListPlace.{ListPlace as Place};
+ghost use Rattle.pk_vbyte.specs.VariableByte.{vbyte};
+
+use crate::compare::{is_less, shared_front};
+use crate::entry::Entry;
+use pk_posting::ListPlace;
+use pk_vbyte::put;
+use std::alloc::{AllocError, Global};
+use std::vec::Vec;
+
+/// How many terms a group has.
+const GROUP: u32 = 16;
+
+/// The most bytes that a term takes beside its own: an offset and five numbers.
+const MOST_ADDED: usize = 29;
+
+/// Writes a dictionary, term by term.
+#[derive(Drop)]
+pub struct DictWriter {
+    alloc: Global,
+    // Where each group starts, counted from the first.
+    starts: Vec<u32>,
+    // The groups.
+    body: Vec<u8>,
+    // The last term: the next one says how much it shares with it.
+    last: Vec<u8>,
+    // How many terms the last group has, 0 where the next one begins a group.
+    in_group: u32,
+}
+
+impl DictWriter {
+    /// A writer to which nothing was added. It takes no memory.
+    pub fn new(alloc: Global) -> DictWriter
+        ensures { HasAdded result [] }
+    {
+        DictWriter {
+            alloc,
+            starts: Vec::new(alloc),
+            body: Vec::new(alloc),
+            last: Vec::new(alloc),
+            in_group: 0,
+        }
+    }
+
+    /// Adds a term, which is greater than those before, with its frequency and the place of its
+    /// list.
+    /// The bytes of `finish` stay below 2^32. An `Err` changes nothing.
+    pub fn add(&mut self, term: &[u8], frequency: u32, place: ListPlace) -> Result<(), AllocError>
+        requires { MayAdd self.old (item_of term.now frequency place) }
+        ensures ok { (es : List Item) → HasAdded self.old es
+            → OnOk result (HasAdded self.new (es ++ item_of term.now frequency place ∷ [])) }
+        ensures err { (es : List Item) → HasAdded self.old es
+            → OnErr result (HasAdded self.new es) }
+    {
+        let entry = Entry { frequency, place };
+        let last = Vec::from_slice(self.alloc, term)?;
+        let mut piece = Vec::new(self.alloc);
+        if self.in_group == 0 {
+            put_rest(&mut piece, &[], term, entry)?;
+            let start = self.body.len() as u32;
+            self.body.extend_from_slice(&piece)?;
+            match self.starts.push(start) {
+                Ok(()) => {}
+                Err(_) => {
+                    self.body.truncate(start as usize);
+                    return Err(AllocError);
+                }
+            }
+        } else {
+            let kept = shared_front(&self.last, term);
+            put_number(&mut piece, kept as u32)?;
+            put_rest(&mut piece, &self.last, term, entry)?;
+            self.body.extend_from_slice(&piece)?;
+        }
+        self.last = last;
+        self.in_group = (self.in_group + 1) % GROUP;
+        Ok(())
+    }
+
+    /// How many bytes `finish` would give now.
+    pub fn size(&self) -> usize
+        ensures { (es : List Item) → HasAdded self.now es → result ≡ length (spelling es) }
+    {
+        self.starts
+            .len()
+            .saturating_mul(4)
+            .saturating_add(self.body.len())
+    }
+
+    /// Whether a term may be added, with any frequency and place: it is greater than those before,
+    /// and with all that it can take the bytes stay below 2^32.
+    pub fn may_add(&self, term: &[u8]) -> bool
+        ensures { IsTrue result → (es : List Item) → HasAdded self.now es
+            → (frequency : ℕ) (place : Place) → frequency < 2 ^ 32 → place.at < 2 ^ 32
+            → place.bytes < 2 ^ 32 → MayAdd self.now (item_of term.now frequency place) }
+    {
+        if !self.starts.is_empty() && !is_less(&self.last, term) {
+            return false;
+        }
+        self.size().saturating_add(term.len()) < u32::MAX as usize - MOST_ADDED
+    }
+
+    /// The dictionary of all that was added.
+    pub fn finish(self, alloc: Global) -> Result<Vec<u8>, AllocError>
+        ensures { (es : List Item) → HasAdded self es → IfOk result (λ b. DictSpells b.items es) }
+    {
+        let mut out = Vec::new(alloc);
+        for start in self.starts.as_slice() {
+            out.extend_from_slice(&start.to_le_bytes())?;
+        }
+        out.extend_from_slice(self.body.as_slice())?;
+        Ok(out)
+    }
+}
+
+// Puts a number at the end.
+fn put_number(out: &mut Vec<u8>, n: u32) -> Result<(), AllocError>
+    ensures { OnOk result (out.new.items ≡ out.old.items ++ vbyte n) }
+{
+    let mut field = [0u8; 5];
+    let size = put(n, &mut field);
+    out.extend_from_slice(&field[..size])
+}
+
+// Puts the numbers after a term.
+#[tactic(auto, unfolding(crate::specs::Dictionary::numbers))]
+fn put_entry(out: &mut Vec<u8>, entry: Entry) -> Result<(), AllocError>
+    ensures items { OnOk result (out.new.items ≡ out.old.items ++ numbers entry) }
+    ensures fits { OnOk result ((entry.place.at < 2 ^ 32) × (entry.place.bytes < 2 ^ 32)) }
+{
+    put_number(out, entry.frequency)?;
+    put_number(out, entry.place.at)?;
+    put_number(out, entry.place.bytes)
+}
+
+// Puts a term after what it shares with the one before.
+#[tactic(auto, unfolding(crate::specs::Dictionary::rest_of))]
+fn put_rest(out: &mut Vec<u8>, before: &[u8], term: &[u8], entry: Entry) -> Result<(), AllocError>
+    requires { length term.now < 2 ^ 32 }
+    ensures items { OnOk result (out.new.items
+        ≡ out.old.items ++ rest_of before.now (record { term = term.now; entry = entry })) }
+    ensures fits { OnOk result ((entry.place.at < 2 ^ 32) × (entry.place.bytes < 2 ^ 32)) }
+{
+    let kept = shared_front(before, term);
+    put_number(out, (term.len() - kept) as u32)?;
+    out.extend_from_slice(&term[kept..])?;
+    put_entry(out, entry)
+}
