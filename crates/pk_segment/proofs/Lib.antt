@@ -1,0 +1,4 @@
+pub mod OpeningLemmas
+pub mod PlainLemmas
+pub mod ReadLemmas
+pub mod Window

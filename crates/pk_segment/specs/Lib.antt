@@ -1,0 +1,7 @@
+pub mod Building
+pub mod Directory
+pub mod Extent
+pub mod Fields
+pub mod Opened
+pub mod Plain
+pub mod Reading

@@ -1,0 +1,85 @@
+-- What reading a segment answers.
+use Rattle.std.specs.Prelude.{
+  ◌≡◌,
+  ℕ,
+  ◌+◌,
+  ◌/◌,
+  ◌≤◌,
+  List,
+  find,
+  slice_get,
+  string_bytes,
+  string_len,
+  Option,
+  Some,
+  None,
+  Result,
+  Ok,
+  Err,
+  OnOk,
+  IsErrOf,
+  String,
+}
+use Rattle.std.specs.Global.{Vec}
+use Rattle.std.specs.declared.alloc.Global.{Global}
+use Rattle.std.specs.Option.{option_map}
+use Rattle.pk_model.specs.declared.documents.Document.{Document}
+use Rattle.pk_model.specs.Collection.{Doc, numbers_of, has_number}
+use Rattle.pk_model.specs.Views.{doc_of}
+use Rattle.pk_posting.specs.declared.source.SourceFault.{SourceFault}
+use Rattle.pk_posting.specs.declared.source.SourceFault.TheVariants as source
+use Rattle.pk_posting.specs.Source.{Rose}
+use Rattle.pk_segment.specs.Directory.{doc_in}
+use Rattle.pk_segment.specs.declared.fault.ReadFault.{ReadFault}
+use Rattle.pk_segment.specs.declared.fault.ReadFault.TheVariants.{Damaged, Disk, Memory}
+
+-- what a fault of a source means to a reader
+abbrev pub read_of : SourceFault → ReadFault
+read_of source.Damaged = Damaged
+read_of source.Disk = Disk
+
+-- not damaged: the device failed, or memory was refused
+abbrev pub IsCause : ReadFault → Type 0
+IsCause Damaged = ⊥
+IsCause Disk = Unit {0}
+IsCause Memory = Unit {0}
+
+-- Disk is answered exactly where the count of failures rose; with any other answer it is as before.
+pub record CountsReads {T : Type 0} (before now : ℕ) (result : Result T ReadFault) : Type 0 where
+  pub later : before ≤ now
+  pub ok : OnOk result (now ≡ before)
+  pub damaged : IsErrOf result Damaged → now ≡ before
+  pub memory : IsErrOf result Memory → now ≡ before
+  pub disk : IsErrOf result Disk → Rose before now
+
+-- the numbers of the documents
+abbrev pub NumbersAs : List Doc → Result (Vec ℕ) ReadFault → Type 0
+NumbersAs docs (Ok numbers) = numbers.items ≡ numbers_of docs
+NumbersAs docs (Err fault) = IsCause fault
+
+-- the text of the document of a number, if there is one
+abbrev pub text_of : List Doc → ℕ → Option (List ℕ)
+text_of docs n = option_map (λ (d : Doc). d.text) (find (has_number n) docs)
+
+abbrev pub TextAs : List Doc → ℕ → Result (Option (String Global)) ReadFault → Type 0
+TextAs docs n (Ok text) = option_map (λ (t : String Global). string_bytes t) text ≡ text_of docs n
+TextAs docs n (Err fault) = IsCause fault
+
+-- the ith document, the first being 0
+abbrev pub DocumentAs : List Doc → ℕ → Result Document ReadFault → Type 0
+DocumentAs docs i (Ok document) = slice_get docs i ≡ Some (doc_of document)
+DocumentAs docs i (Err fault) = IsCause fault
+
+-- the pieces of at most 4,096 bytes that so many bytes are read in
+abbrev pub pieces_of : ℕ → ℕ
+pieces_of n = (n + 4095) / 4096
+
+-- the bytes of a text that was found
+abbrev pub found_bytes : Option (String Global) → ℕ
+found_bytes None = 0
+found_bytes (Some text) = string_len text
+
+-- the text of the ith document, the first being 0
+abbrev pub DocTextAs : List Doc → ℕ → Result (String Global) ReadFault → Type 0
+DocTextAs docs i (Ok text) = string_bytes text ≡ (doc_in docs i).text
+DocTextAs docs i (Err fault) = IsCause fault

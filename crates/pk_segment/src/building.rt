@@ -1,0 +1,173 @@
+//! A segment made of its documents.
+
+ghost use Rattle.std.specs.Prelude.{◌≡◌, ◌≤◌, ◌<◌, ◌+◌, ◌*◌, ◌^◌, ◌++◌, length, All, IfOk, OnOk};
+ghost use Rattle.std.specs.List.Sorted.{IsStrictlyIncreasing};
+ghost use Rattle.pk_model.specs.Collection.{numbers_of};
+ghost use Rattle.pk_model.specs.Views.{doc_of};
+ghost use Rattle.pk_segment.specs.Building.{BuiltAs, SizedAs};
+ghost use Rattle.pk_segment.specs.Plain.{
+  directory,
+  directory_entry,
+  docs_of,
+  header,
+  le32,
+  longest,
+  plain_length,
+  plain_spelling,
+  texts,
+};
+
+use crate::header::Header;
+use pk_model::Document;
+use pk_model::limits::MAX_SEGMENT_BYTES;
+use std::alloc::{AllocError, Global};
+use thiserror::Error;
+
+/// Why no segment was built.
+#[derive(Clone, Copy, Debug, PartialEq, Eq, Drop, Error)]
+pub enum BuildFault {
+    /// The segment would pass 1,073,741,824 bytes.
+    #[error("segment too large")]
+    TooLarge,
+    /// Memory was refused.
+    #[error("memory")]
+    Memory,
+}
+
+impl From<AllocError> for BuildFault {
+    ghost use Rattle.std.specs.Prelude.{◌≡◌};
+    ghost use Rattle.pk_segment.specs.declared.building.BuildFault.TheVariants.{Memory};
+
+    ghost from_gives = { λ _ fault. fault ≡ Memory };
+
+    fn from(_error: AllocError) -> BuildFault {
+        BuildFault::Memory
+    }
+}
+
+/// The length in bytes of the segment of that kind of the documents.
+pub fn size_of(_alloc: Global, documents: &[Document], kind: u32) -> Result<u32, BuildFault>
+    requires kind { kind ≡ 1 }
+    requires some { 0 < length documents.now }
+    requires rising { IsStrictlyIncreasing (numbers_of (docs_of documents.now)) }
+    requires least { All (λ d. 1 ≤ d.number.0) documents.now }
+    ensures { SizedAs (docs_of documents.now) kind result }
+{
+    plain_size(documents)
+}
+
+/// The bytes of the segment of that kind of the documents, in memory that is taken once.
+pub fn build(alloc: Global, documents: &[Document], kind: u32) -> Result<Vec<u8>, BuildFault>
+    requires kind { kind ≡ 1 }
+    requires some { 0 < length documents.now }
+    requires rising { IsStrictlyIncreasing (numbers_of (docs_of documents.now)) }
+    requires least { All (λ d. 1 ≤ d.number.0) documents.now }
+    ensures { BuiltAs (docs_of documents.now) kind result }
+{
+    let size = plain_size(documents)?;
+    let mut out = Vec::with_capacity(alloc, size as usize)?;
+    let text_bytes = size - 24 - 12 * documents.len() as u32;
+    put_plain(&mut out, documents, text_bytes)?;
+    Ok(out)
+}
+
+// The length of the segment of kind 1.
+fn plain_size(documents: &[Document]) -> Result<u32, BuildFault>
+    ensures { SizedAs (docs_of documents.now) 1 result }
+{
+    if documents.len() > 89_478_485 {
+        return Err(BuildFault::TooLarge);
+    }
+    let mut total = 24 + 12 * documents.len() as u64;
+    for d in documents {
+        total += d.text.len() as u64;
+        if total > u64::from(MAX_SEGMENT_BYTES) {
+            return Err(BuildFault::TooLarge);
+        }
+    }
+    if total > u64::from(MAX_SEGMENT_BYTES) {
+        return Err(BuildFault::TooLarge);
+    }
+    Ok(total as u32)
+}
+
+// The segment of kind 1, whose texts have so many bytes.
+#[tactic(auto, unfolding(crate::specs::Plain::plain_spelling))]
+fn put_plain(out: &mut Vec<u8>, documents: &[Document], text_bytes: u32) -> Result<(), AllocError>
+    requires text_bytes { text_bytes ≡ length (texts (docs_of documents.now)) }
+    requires count { length documents.now < 2 ^ 32 }
+    ensures spelled { OnOk result (out.new.items
+        ≡ out.old.items ++ plain_spelling (docs_of documents.now)) }
+    ensures numbers { OnOk result (All (λ d. d.number.0 < 2 ^ 32) documents.now) }
+{
+    let count = documents.len() as u32;
+    put_header(
+        out,
+        Header {
+            kind: 1,
+            count,
+            texts: text_bytes,
+            postings: 0,
+            dictionary: 0,
+            terms: 0,
+        },
+    )?;
+    put_directory(out, documents)?;
+    put_texts(out, documents)
+}
+
+#[tactic(auto, unfolding(crate::specs::Plain::header))]
+fn put_header(out: &mut Vec<u8>, h: Header) -> Result<(), AllocError>
+    ensures { OnOk result (out.new.items
+        ≡ out.old.items ++ header h.kind h.count h.texts h.postings h.dictionary h.terms) }
+{
+    put_u32(out, h.kind)?;
+    put_u32(out, h.count)?;
+    put_u32(out, h.texts)?;
+    put_u32(out, h.postings)?;
+    put_u32(out, h.dictionary)?;
+    put_u32(out, h.terms)
+}
+
+// The directory; its numbers are those of the documents, which have 32 bits.
+fn put_directory(out: &mut Vec<u8>, documents: &[Document]) -> Result<(), AllocError>
+    requires { length (texts (docs_of documents.now)) < 2 ^ 32 }
+    ensures spelled { OnOk result (out.new.items
+        ≡ out.old.items ++ directory 0 (docs_of documents.now)) }
+    ensures numbers { OnOk result (All (λ d. d.number.0 < 2 ^ 32) documents.now) }
+{
+    let mut at = 0;
+    for d in documents {
+        put_entry(out, d, at)?;
+        at += d.text.len() as u32;
+    }
+    Ok(())
+}
+
+#[tactic(auto, unfolding(crate::specs::Plain::directory_entry))]
+fn put_entry(out: &mut Vec<u8>, d: &Document, at: u32) -> Result<(), AllocError>
+    requires { length (doc_of d.now).text < 2 ^ 32 }
+    ensures spelled { OnOk result (out.new.items
+        ≡ out.old.items ++ directory_entry at (doc_of d.now)) }
+    ensures number { d.now.number.0 < 2 ^ 32 }
+{
+    put_u32(out, d.number.0)?;
+    put_u32(out, at)?;
+    put_u32(out, d.text.len() as u32)
+}
+
+fn put_texts(out: &mut Vec<u8>, documents: &[Document]) -> Result<(), AllocError>
+    ensures { OnOk result (out.new.items ≡ out.old.items ++ texts (docs_of documents.now)) }
+{
+    for d in documents {
+        out.extend_from_slice(d.text.as_bytes())?;
+    }
+    Ok(())
+}
+
+#[tactic(auto, unfolding(crate::specs::Plain::le32))]
+fn put_u32(out: &mut Vec<u8>, n: u32) -> Result<(), AllocError>
+    ensures { OnOk result (out.new.items ≡ out.old.items ++ le32 n) }
+{
+    out.extend_from_slice(&n.to_le_bytes())
+}

@@ -1,0 +1,40 @@
+//! Why a segment was not read.
+
+use pk_posting::SourceFault;
+use std::alloc::AllocError;
+
+/// Why a call that reads a segment has no answer. It changed nothing, and may be made again.
+#[derive(Clone, Copy, Debug, PartialEq, Eq, Drop)]
+pub enum ReadFault {
+    /// The bytes are no segment: a place past their end, or a text that is not UTF-8.
+    Damaged,
+    /// The device failed.
+    Disk,
+    /// Memory was refused.
+    Memory,
+}
+
+impl From<SourceFault> for ReadFault {
+    ghost use Rattle.std.specs.Prelude.{◌≡◌};
+    ghost use Rattle.pk_segment.specs.Reading.{read_of};
+
+    ghost from_gives = { λ fault read. read ≡ read_of fault };
+
+    fn from(fault: SourceFault) -> ReadFault {
+        match fault {
+            SourceFault::Damaged => ReadFault::Damaged,
+            SourceFault::Disk => ReadFault::Disk,
+        }
+    }
+}
+
+impl From<AllocError> for ReadFault {
+    ghost use Rattle.std.specs.Prelude.{◌≡◌};
+    ghost use Rattle.pk_segment.specs.declared.fault.ReadFault.TheVariants.{Memory};
+
+    ghost from_gives = { λ _ read. read ≡ Memory };
+
+    fn from(_error: AllocError) -> ReadFault {
+        ReadFault::Memory
+    }
+}

@@ -1,0 +1,95 @@
+//! The header of a segment: 24 bytes.
+
+ghost use Rattle.std.specs.Prelude.{
+  ◌≡◌,
+  ◌≤◌,
+  ◌<◌,
+  ◌+◌,
+  ◌↔◌,
+  length,
+  IfOk,
+  IsOk,
+  IsErrOf,
+};
+ghost use Rattle.pk_posting.specs.Source.{CountsFaults};
+ghost use Rattle.pk_segment.specs.Fields.{
+  IsHeader,
+  header_field,
+  is_plain,
+  is_sound,
+  number_at,
+};
+
+use pk_posting::{ByteSource, SourceFault};
+
+/// The six numbers of a header.
+#[derive(Clone, Copy, Debug, PartialEq, Eq)]
+pub struct Header {
+    /// The kind of the segment.
+    pub kind: u32,
+    /// How many documents.
+    pub count: u32,
+    /// The bytes of all texts.
+    pub texts: u32,
+    /// The bytes of the postings: 0 in kind 1.
+    pub postings: u32,
+    /// The bytes of the dictionary: 0 in kind 1.
+    pub dictionary: u32,
+    /// The number of terms: 0 in kind 1.
+    pub terms: u32,
+}
+
+impl Header {
+    // Whether it is of that kind, has a document, and its lengths add up to so many bytes.
+    pub fn is_sound(self, bytes: u32, kind: u32) -> bool
+        ensures { result ≡ is_sound bytes kind self }
+    {
+        self.kind == kind
+            && 1 <= self.count
+            && 24
+                + 12 * u64::from(self.count)
+                + u64::from(self.texts)
+                + u64::from(self.postings)
+                + u64::from(self.dictionary)
+                == u64::from(bytes)
+            && (kind != 1 || self.is_plain())
+    }
+
+    // Whether there is nothing behind the texts.
+    fn is_plain(self) -> bool
+        ensures { result ≡ is_plain self }
+    {
+        self.postings == 0 && self.dictionary == 0 && self.terms == 0
+    }
+}
+
+// Reads the header.
+pub fn header_of<S: ByteSource>(source: &mut S) -> Result<Header, SourceFault>
+    ensures value { S.honest → IfOk result (IsHeader (header_field (S.content source.old))) }
+    ensures inside { IsOk result → 24 ≤ length (S.content source.old) }
+    ensures damaged { IsErrOf result SourceFault.Damaged ↔ (length (S.content source.old) < 24) }
+    ensures content { S.honest → S.content source.new ≡ S.content source.old }
+    ensures size { length (S.content source.new) ≡ length (S.content source.old) }
+    ensures asked { S.asked source.new ≤ S.asked source.old + 1 }
+    ensures keeps { S.keeps source.old source.new }
+    ensures faults { CountsFaults (S.failures source.old) (S.failures source.new) result }
+{
+    let field = source.bytes(0, 24)?;
+    Ok(Header {
+        kind: u32_at(field, 0),
+        count: u32_at(field, 4),
+        texts: u32_at(field, 8),
+        postings: u32_at(field, 12),
+        dictionary: u32_at(field, 16),
+        terms: u32_at(field, 20),
+    })
+}
+
+// The number of 32 bits at a place.
+pub fn u32_at(bytes: &[u8], at: usize) -> u32
+    requires { at + 4 ≤ length bytes.now }
+    ensures { result ≡ number_at at bytes.now }
+{
+    let field = &bytes[at..at + 4];
+    u32::from_le_bytes([field[0], field[1], field[2], field[3]])
+}
