@@ -1,5 +1,7 @@
 //! Sessions from lines to replies, on a store in memory.
 
+ghost use Rattle.std.specs.Prelude.{◌≤◌};
+
 use crate::{Ended, ShellFault, serve};
 use pk_store::ListStore;
 use std::alloc::{AllocError, Global};
@@ -348,18 +350,15 @@ fn one_call_of_write_for_each_reply(rt: HostRuntime) -> Result<(), Fail> {
 struct Page {
     bytes: [u8; 256],
     len: usize,
+    ghost fits: { len ≤ 256 },
 }
 
 impl Write for Page {
     fn write(&mut self, buf: &[u8]) -> io::Result<usize> {
-        let mut taken = 0;
-        for byte in buf {
-            if self.len < self.bytes.len() {
-                self.bytes[self.len] = *byte;
-                self.len += 1;
-                taken += 1;
-            }
-        }
+        let start = self.len;
+        let taken = buf.len().min(256 - start);
+        self.bytes[start..start + taken].copy_from_slice(&buf[..taken]);
+        self.len = start + taken;
         Ok(taken)
     }
 
@@ -392,7 +391,7 @@ fn session_short_of_memory(rt: HostRuntime) -> Result<(), Fail> {
         assert_eq!(rt; input.len(), lines.len());
     } else {
         assert_eq!(rt; end, Ok(Ended::Quit));
-        let told = &page.bytes[..page.len.min(256)];
+        let told = &page.bytes[..page.len];
         let all = told == b"added 1\nfound 1: 1\ntext new drug\nbye\n".as_slice();
         let no_add = told
             == b"refused memory\nfound 0:\nrefused no such document\nbye\n".as_slice();
@@ -407,7 +406,7 @@ fn session_short_of_memory(rt: HostRuntime) -> Result<(), Fail> {
         serve(alloc, &mut input, &mut page, &mut again),
         Ok(Ended::Quit)
     );
-    let told = &page.bytes[..page.len.min(256)];
+    let told = &page.bytes[..page.len];
     assert!(rt; told == b"added 1\nfound 1: 1\ntext new drug\nbye\n".as_slice());
     Ok(())
 }
