@@ -4,8 +4,8 @@
 #   face.sh FACE FOLDER CRATE..
 #
 # FACE is the source of the face, FOLDER an empty folder to build in, each CRATE one of the
-# repository's. Leaves FOLDER/libface.a. The face is no crate of the repository, so the repository's
-# own checks do not carry it.
+# repository's; those that a crate stands on are named before it. Leaves FOLDER/libface.a. The face
+# is no crate of the repository, so the repository's own checks do not carry it.
 set -eu
 
 face=$1
@@ -22,7 +22,7 @@ for crate in "$@"; do
     for part in src specs proofs; do
         cp -R "$here/crates/$crate/$part" "$folder/crates/$crate/"
     done
-    echo "$crate:" >> "$folder/crates.txt"
+    grep "^$crate:" "$here/crates.txt" >> "$folder/crates.txt"
 done
 echo "face staticlib: $*" >> "$folder/crates.txt"
 cp "$face" "$folder/crates/face/src/lib.rt"

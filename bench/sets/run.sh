@@ -15,5 +15,5 @@ work=${BENCH:-$(mktemp -d)}
 cc=${CC:-gcc}
 $cc -O3 -msse4.1 -Wall -c "$here/kernels.c" -o "$work/kernels.o"
 $cc -O2 -Wall -c "$here/main.c" -o "$work/main.o"
-$cc -o "$work/bench" "$work/main.o" "$work/kernels.o" "$work/libface.a" "$kit"/c/*.a -lm
+$cc -o "$work/bench" "$work/main.o" "$work/kernels.o" "$work/libface.a" "$kit/c/liblibc_c.a" -lm
 "$work/bench"

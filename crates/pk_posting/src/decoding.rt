@@ -85,11 +85,11 @@ fn read_blocks(bytes: &[u8], blocks: usize, out: &mut Vec<u32>) -> Result<usize,
     let mut at = 4 + 20 * blocks;
     let mut widths = at;
     let mut seed = [0u32; 4];
+    let mut xs = [0u32; 128];
     for k in 0..blocks {
         let Some((begin_at, begin_widths)) = begin(bytes, blocks, k, at, widths) else {
             return Err(DecodeFault::Damaged);
         };
-        let mut xs = [0u32; 128];
         if !block_of(bytes, blocks, k, begin_at, begin_widths, &seed, &mut xs) {
             return Err(DecodeFault::Damaged);
         }
