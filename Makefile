@@ -1,10 +1,11 @@
 # Each target is one command, and can be typed by hand in its place.
-# demo, try, run a session of the program; test is the merge gate; check proves what has changed.
+# demo and try run a session of the program; test is the merge gate, memory what comes after it;
+# check proves what has changed.
 
 SESSION = examples/mail.lines
 PROGRAM = crates/pk_find/out/pk_find
 
-.PHONY: demo try test check fmt bench
+.PHONY: demo try test memory check fmt bench
 
 # Proves and builds the program, and answers a session over a small mail archive.
 demo:
@@ -17,6 +18,10 @@ try:
 # The gate: every proof from nothing, each must-fail edit, each test, each program twice.
 test:
 	rt ci
+
+# Refuses each request for memory in turn, over the test programs that `make test` left.
+memory:
+	python3 tools/refuse_memory.py
 
 # Every crate, the lowest first, over the work that earlier checks left.
 check:

@@ -7,6 +7,7 @@ use pk_store::ListStore;
 use std::alloc::{AllocError, Global};
 use std::io;
 use std::io::{ErrorKind, Read, Write};
+use std::process::Abort;
 use std::test::Fail;
 
 /// How a session on a new store ends, and what was written.
@@ -375,12 +376,9 @@ fn new_page() -> Page {
     }
 }
 
-/// Run with one request for memory refused after another (tools/refuse_memory.py): the shell ends
-/// with want of memory before it reads, or each reply is the right one or `refused memory`; and
-/// with memory the same lines are answered as ever.
-#[test]
-fn session_short_of_memory(rt: HostRuntime) -> Result<(), Fail> {
-    let alloc = rt.alloc();
+/// Answers some lines on a new store, and whether memory was there for all of them. Where it was
+/// not, the shell ends with that before it reads, or one of the replies is `refused memory`.
+fn is_answered_in_full(rt: &impl Abort, alloc: Global) -> bool {
     let mut store = ListStore::new(alloc);
     let lines = b"add new drug\nfind new (drug OR hopes)\nshow 1\nquit\n";
     let mut input = lines.as_slice();
@@ -389,24 +387,25 @@ fn session_short_of_memory(rt: HostRuntime) -> Result<(), Fail> {
     if end == Err(ShellFault::Memory) {
         assert_eq!(rt; page.len, 0);
         assert_eq!(rt; input.len(), lines.len());
-    } else {
-        assert_eq!(rt; end, Ok(Ended::Quit));
-        let told = &page.bytes[..page.len];
-        let all = told == b"added 1\nfound 1: 1\ntext new drug\nbye\n".as_slice();
-        let no_add = told
-            == b"refused memory\nfound 0:\nrefused no such document\nbye\n".as_slice();
-        let no_find = told == b"added 1\nrefused memory\ntext new drug\nbye\n".as_slice();
-        let no_show = told == b"added 1\nfound 1: 1\nrefused memory\nbye\n".as_slice();
-        assert!(rt; all || no_add || no_find || no_show);
+        return false;
     }
-    let mut again = ListStore::new(alloc);
-    let mut input = lines.as_slice();
-    let mut page = new_page();
-    assert_eq!(rt;
-        serve(alloc, &mut input, &mut page, &mut again),
-        Ok(Ended::Quit)
-    );
+    assert_eq!(rt; end, Ok(Ended::Quit));
     let told = &page.bytes[..page.len];
+    let no_add = told == b"refused memory\nfound 0:\nrefused no such document\nbye\n".as_slice();
+    let no_find = told == b"added 1\nrefused memory\ntext new drug\nbye\n".as_slice();
+    let no_show = told == b"added 1\nfound 1: 1\nrefused memory\nbye\n".as_slice();
+    if no_add || no_find || no_show {
+        return false;
+    }
     assert!(rt; told == b"added 1\nfound 1: 1\ntext new drug\nbye\n".as_slice());
-    Ok(())
+    true
+}
+
+/// Run with one request for memory refused after another (tools/refuse_memory.py): of two sessions
+/// with the same lines the one that was refused none is answered in full.
+#[test]
+fn session_short_of_memory(rt: HostRuntime) {
+    let first = is_answered_in_full(&rt, rt.alloc());
+    let second = is_answered_in_full(&rt, rt.alloc());
+    assert!(rt; first || second);
 }
