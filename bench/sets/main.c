@@ -64,34 +64,39 @@ static double once(operation *f, const char *name)
     return cycles;
 }
 
-static double sum_c, sum_p;
+static double sum_c, sum_other, sum_p;
 static int rows;
 
-/* Best of nine of each, in turn; other is a second form in C, or none. */
+/* Best of nine of each, in turn; other is a form in C without branches, or none. */
 static void race(const char *name, int first, int second, uint32_t range, operation *c, operation *other,
                  operation *p)
 {
-    double best_c = 1e9, best_p = 1e9;
+    double best_c = 1e9, best_other = 1e9, best_p = 1e9;
     na = make(a, LONG / first, range);
     nb = make(b, LONG / second, range);
     n_want = c(a, na, b, nb, want, 2 * LONG);
     for (int t = 0; t < TRIES; t++) {
         best_c = fmin(best_c, once(c, name));
         if (other)
-            best_c = fmin(best_c, once(other, name));
+            best_other = fmin(best_other, once(other, name));
         best_p = fmin(best_p, once(p, name));
     }
-    printf("%-12s %5d:%-5d %10u %10zu %9.3f %9.3f %8.2f\n", name, second, first, range, n_want, best_c,
+    printf("%-12s %5d:%-5d %10u %10zu %9.3f %9.3f %8.2f", name, second, first, range, n_want, best_c,
            best_p, best_p / best_c);
+    if (other)
+        printf(" %9.3f %8.2f", best_other, best_p / best_other);
+    printf("\n");
     sum_c += log(best_c);
+    sum_other += log(other ? best_other : best_c);
     sum_p += log(best_p);
     rows++;
 }
 
 static void mean(const char *name)
 {
-    printf("%-12s geometric mean %47.2f\n", name, exp((sum_p - sum_c) / rows));
-    sum_c = sum_p = 0;
+    printf("%-12s geometric mean %47.2f %18.2f\n", name, exp((sum_p - sum_c) / rows),
+           exp((sum_p - sum_other) / rows));
+    sum_c = sum_other = sum_p = 0;
     rows = 0;
 }
 
@@ -100,7 +105,8 @@ int main(void)
     static const uint32_t ranges[] = {600000, 4000000, 100000000};
     c_init();
     printf("cycles a number of both lists\n");
-    printf("%-12s %11s %10s %10s %9s %9s %8s\n", "operation", "lengths", "range", "result", "C", "proved", "ratio");
+    printf("%-12s %11s %10s %10s %9s %9s %8s %9s %8s\n", "operation", "lengths", "range", "result",
+           "C", "proved", "ratio", "no branch", "ratio");
     for (int ratio = 1; ratio <= 10; ratio *= 10)
         for (int r = 0; r < 3; r++)
             race("both_merge", ratio, 1, ranges[r], c_both_merge, NULL, p_both_merge);

@@ -13,21 +13,27 @@ ghost use Rattle.pk_model.specs.declared.commands.Refusal.{Refusal as Why};
 
 /// A step keeps a collection: the numbers rise still, from 1 on and below the next number.
 pub fn a_step_keeps_a_collection()
-    ensures { (request : Request) (c : Collection) → IsCollection c → IsCollection (after_one request c) }
+    ensures { (request : Request) (c : Collection) → IsCollection c
+        → IsCollection (after_one request c) }
 {}
 
 /// Which words satisfy a query depends on membership alone.
 pub fn satisfies_is_membership()
-    ensures term { (word : List ℕ) (words : List (List ℕ)) → (satisfies (Term word) words ≡ true) ↔ Contains words word }
-    ensures and { (p q : Tree) (words : List (List ℕ)) → (satisfies (And p q) words ≡ true) ↔ ((satisfies p words ≡ true) × (satisfies q words ≡ true)) }
-    ensures or { (p q : Tree) (words : List (List ℕ)) → (satisfies (Or p q) words ≡ true) ↔ ((satisfies p words ≡ true) ⊎ (satisfies q words ≡ true)) }
-    ensures not { (p : Tree) (words : List (List ℕ)) → (satisfies (Not p) words ≡ true) ↔ ((satisfies p words ≡ true) → ⊥) }
+    ensures term { (word : List ℕ) (words : List (List ℕ))
+        → (satisfies (Term word) words ≡ true) ↔ Contains words word }
+    ensures and { (p q : Tree) (words : List (List ℕ)) → (satisfies (And p q) words ≡ true)
+        ↔ ((satisfies p words ≡ true) × (satisfies q words ≡ true)) }
+    ensures or { (p q : Tree) (words : List (List ℕ)) → (satisfies (Or p q) words ≡ true)
+        ↔ ((satisfies p words ≡ true) ⊎ (satisfies q words ≡ true)) }
+    ensures not { (p : Tree) (words : List (List ℕ)) → (satisfies (Not p) words ≡ true)
+        ↔ ((satisfies p words ≡ true) → ⊥) }
 {}
 
 /// The answer of a query over a collection rises, and has just the numbers of the documents that
 /// are hits.
 pub fn an_answer_rises()
-    ensures rising { (query : Tree) (c : Collection) → IsCollection c → IsStrictlyIncreasing (answer query c.documents) }
+    ensures rising { (query : Tree) (c : Collection) → IsCollection c
+        → IsStrictlyIncreasing (answer query c.documents) }
     ensures hits { (query : Tree) (docs : List Doc) (n : ℕ) → Contains (answer query docs) n
         ↔ ((d : Doc) × Contains docs d × (is_hit query d ≡ true) × (d.number ≡ n)) }
 {}
@@ -36,8 +42,8 @@ pub fn an_answer_rises()
 pub fn places_are_determined()
     ensures one { (units : ℕ) (taken : List Extent) (writes : List ℕ) (places others : List Extent)
         → PlacedAs units taken writes places → PlacedAs units taken writes others → places ≡ others }
-    ensures full { (units : ℕ) (taken : List Extent) (writes : List ℕ) (places : List Extent) (need largest : ℕ)
-        → PlacedAs units taken writes places → FullAs units taken writes need largest → ⊥ }
+    ensures full { (units : ℕ) (taken : List Extent) (writes : List ℕ) (places : List Extent)
+        (need largest : ℕ) → PlacedAs units taken writes places → FullAs units taken writes need largest → ⊥ }
 {}
 
 /// A legal step goes over to the sessions that give what the store means: the log gains what was

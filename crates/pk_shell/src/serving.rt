@@ -52,7 +52,8 @@ fn hear<W: Write>(
     writer: &mut W,
     byte: u8,
 ) -> Result<bool, Unwritten>
-    ensures { Hears MemoryStep line.old store.old (W.contents writer.old) (byte ∷ []) result line.new store.new (W.contents writer.new) }
+    ensures { Hears MemoryStep line.old store.old (W.contents writer.old) (byte ∷ [])
+        result line.new store.new (W.contents writer.new) }
 {
     if byte != b'\n' {
         line.push(byte);
@@ -74,7 +75,8 @@ fn feed<W: Write>(
     writer: &mut W,
     chunk: &[u8],
 ) -> Result<bool, Unwritten>
-    ensures { Hears MemoryStep line.old store.old (W.contents writer.old) chunk.now result line.new store.new (W.contents writer.new) }
+    ensures { Hears MemoryStep line.old store.old (W.contents writer.old) chunk.now
+        result line.new store.new (W.contents writer.new) }
 {
     for byte in chunk {
         let Ok(quits) = hear(alloc, line, outbox, store, writer, *byte) else {

@@ -63,7 +63,8 @@ impl ListStore {
     ///
     /// Refused, in this order, as text too long, buffer full, numbers used up, or memory.
     pub fn add(&mut self, _alloc: Global, text: &str) -> Result<DocNo, Refusal>
-        ensures step { MemoryStep self.old (add text.now) (answered (λ n. added n.0) result) self.new }
+        ensures step { MemoryStep self.old (add text.now)
+            (answered (λ n. added n.0) result) self.new }
     {
         let buffered = self.buffer.len();
         if text.len() > MAX_TEXT_BYTES {
@@ -91,7 +92,8 @@ impl ListStore {
     ///
     /// Refused as no such document where no live document has the number.
     pub fn delete(&mut self, _alloc: Global, number: DocNo) -> Result<(), Refusal>
-        ensures step { MemoryStep self.old (delete number.0) (answered (λ _. deleted number.0) result) self.new }
+        ensures step { MemoryStep self.old (delete number.0)
+            (answered (λ _. deleted number.0) result) self.new }
         ensures fault { IfErr result (λ why. why ≡ Refusal.NoSuchDocument) }
     {
         if !self.buffer.remove(number) {
@@ -104,7 +106,8 @@ impl ListStore {
     ///
     /// Refused as memory where a growth was refused.
     pub fn find(&self, alloc: Global, query: &Query) -> Result<Vec<DocNo>, Refusal>
-        ensures step { MemoryStep self.now (find (tree_of query.now)) (answered (λ ns. found (numbers_in ns.items)) result) self.now }
+        ensures step { MemoryStep self.now (find (tree_of query.now))
+            (answered (λ ns. found (numbers_in ns.items)) result) self.now }
         ensures rising { IfOk result (λ ns. IsStrictlyIncreasing (numbers_in ns.items)) }
     {
         match self.buffer.find(alloc, query) {
@@ -117,7 +120,8 @@ impl ListStore {
     ///
     /// Refused as no such document where no live document has the number, or as memory.
     pub fn show(&self, alloc: Global, number: DocNo) -> Result<String, Refusal>
-        ensures step { MemoryStep self.now (show number.0) (answered (λ t. text_is (string_bytes t)) result) self.now }
+        ensures step { MemoryStep self.now (show number.0)
+            (answered (λ t. text_is (string_bytes t)) result) self.now }
     {
         match self.buffer.text_of(alloc, number) {
             Ok(Some(text)) => Ok(text),
@@ -128,7 +132,8 @@ impl ListStore {
 
     /// How many documents live, and the next number. It is never refused.
     pub fn counts(&self) -> Result<Counts, Refusal>
-        ensures step { MemoryStep self.now count (answered (λ c. counted c.documents c.next) result) self.now }
+        ensures step { MemoryStep self.now count
+            (answered (λ c. counted c.documents c.next) result) self.now }
         ensures collection { IsCollection self.now.now }
     {
         Ok(Counts {
