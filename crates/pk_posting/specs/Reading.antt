@@ -3,7 +3,9 @@ use Rattle.std.specs.Prelude.{◌≡◌, ◌+◌, ◌*◌, ◌-◌, ◌/◌, ◌
 use Rattle.std.specs.Prelude.{ℕ, List, length, take, slice_index}
 use Rattle.pk_posting.specs.declared.decoding.DecodeFault.{DecodeFault}
 use Rattle.pk_posting.specs.declared.decoding.DecodeFault.TheVariants.{Damaged, Memory}
-use Rattle.pk_posting.specs.Posting.{word, IsRightBlock, BlockOf, Spells, base, offset, width, total, seed}
+use Rattle.pk_lanes.specs.Packed.{Packed}
+use Rattle.pk_lanes.specs.Differences.{Restores}
+use Rattle.pk_posting.specs.Posting.{part, word, IsRightBlock, BlockOf, Spells, base, offset, width, total, seed}
 
 -- where block k begins, and the widths of its metablock
 pub record Begun (bytes : List ℕ) (B k old_at old_widths at widths : ℕ) : Type 0 where
@@ -20,6 +22,17 @@ pub record Breaks (bytes : List ℕ) (B k at : ℕ) : Type 0 where
   pub first : k % 16 ≡ 0
   pub broken : at + 16 ≤ length bytes
       → ((j : ℕ) → j < 16 → B ≤ k + j → slice_index bytes (at + j) ≡ 0) → ⊥
+
+-- the packed bytes at one place restore the numbers xs
+abbrev pub IsRestored : List ℕ → ℕ → ℕ → List ℕ → List ℕ → Type 0
+IsRestored bytes at b before xs = (ds : List ℕ) × Packed (part at (16 * b) bytes) b ds × Restores before ds xs
+
+-- the offset and the width of the block k are right, and its packed bytes restore the numbers xs
+pub record IsTaken (bytes : List ℕ) (B k at widths : ℕ) (before xs : List ℕ) : Type 0 where
+  pub offset : offset bytes k + base B ≡ at
+  pub small : slice_index bytes (widths + k % 16) ≤ 32
+  pub room : at + 16 * slice_index bytes (widths + k % 16) ≤ length bytes
+  pub restored : IsRestored bytes at (slice_index bytes (widths + k % 16)) before xs
 
 -- the entry and the block k give the numbers xs
 pub record Gives (bytes : List ℕ) (B k at widths : ℕ) (before xs : List ℕ) : Type 0 where

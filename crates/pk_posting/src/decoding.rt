@@ -4,7 +4,7 @@ ghost use Rattle.std.specs.Prelude.{◌≡◌, ◌+◌, ◌*◌, ◌/◌, ◌%�
 ghost use Rattle.std.specs.Prelude.{ℕ, List, [], length, IfOk, IfErr, OnOk, IsTrue, MatchResult};
 ghost use Rattle.std.specs.Prelude.{true, slice_index, MatchOption};
 ghost use Rattle.pk_posting.specs.Posting.{word, differences, IsRightBlock, NeedsBits, Spells, base};
-ghost use Rattle.pk_posting.specs.Reading.{Begun, Breaks, Gives, ReadTo, NotSpelled};
+ghost use Rattle.pk_posting.specs.Reading.{Begun, Breaks, Gives, IsRestored, IsTaken, ReadTo, NotSpelled};
 ghost use Rattle.pk_posting.specs.Tails.{TailRead, NoTail, NoList};
 ghost use Rattle.pk_posting.specs.declared.decoding.DecodeFault.TheVariants.{Memory};
 
@@ -93,26 +93,28 @@ fn read_blocks(bytes: &[u8], blocks: usize, out: &mut Vec<u32>) -> Result<usize,
         if !block_of(bytes, blocks, k, begin_at, begin_widths, &seed, &mut xs) {
             return Err(DecodeFault::Damaged);
         }
-        seed = [xs[124], xs[125], xs[126], xs[127]];
         out.extend_from_slice(&xs)?;
+        if !is_right(bytes, blocks, k, begin_at, begin_widths, &seed, &xs) {
+            return Err(DecodeFault::Damaged);
+        }
+        seed = [xs[124], xs[125], xs[126], xs[127]];
         widths = begin_widths;
         at = begin_at + 16 * bytes[widths + k % 16] as usize;
     }
     Ok(at)
 }
 
-// The block at one place.
-fn block_at(bytes: &[u8], at: usize, b: usize, seed: &[u32; 4], xs: &mut [u32; 128]) -> bool
-    requires place { at ≤ length bytes.now }
+// Whether the numbers that a block's packed bytes restore make it right: they rise, and no fewer
+// bits hold its differences.
+fn is_right_block(bytes: &[u8], at: usize, b: usize, seed: &[u32; 4], xs: &[u32; 128]) -> bool
+    requires small { b ≤ 32 }
+    requires room { at + 16 * b ≤ length bytes.now }
+    requires restored { IsRestored bytes.now at b seed.now xs.now }
     requires order { (i : ℕ) → i < 3 → slice_index seed.now i ≤ slice_index seed.now (i + 1) }
-    ensures good { IsTrue result → IsRightBlock bytes.now at b seed.now xs.new }
+    ensures good { IsTrue result → IsRightBlock bytes.now at b seed.now xs.now }
     ensures only { (ys : List ℕ) → IsRightBlock bytes.now at b seed.now ys
-        → (result ≡ true) × (xs.new ≡ ys) }
+        → (result ≡ true) × (xs.now ≡ ys) }
 {
-    if b > 32 || bytes.len() - at < 16 * b {
-        return false;
-    }
-    unpack_sums(&bytes[at..at + 16 * b], b as u32, seed, xs);
     if !ascending(seed, xs) {
         return false;
     }
@@ -186,7 +188,7 @@ fn ends_with(bytes: &[u8], at: usize, xs: &[u32; 128]) -> bool
     true
 }
 
-// The block k, if its entry and its bytes are right.
+// Takes the numbers of the block k out of its packed bytes, if its offset and its width are right.
 fn block_of(
     bytes: &[u8],
     blocks: usize,
@@ -201,20 +203,44 @@ fn block_of(
     requires head { base blocks ≤ length bytes.now }
     requires place { at ≤ length bytes.now }
     requires room { widths + 16 ≤ length bytes.now }
-    requires order { (i : ℕ) → i < 3 → slice_index seed.now i ≤ slice_index seed.now (i + 1) }
-    ensures gives { IsTrue result → Gives bytes.now blocks k at widths seed.now xs.new }
-    ensures only { (ys : List ℕ) → Gives bytes.now blocks k at widths seed.now ys
-        → (result ≡ true) × (xs.new ≡ ys) }
+    ensures taken { IsTrue result → IsTaken bytes.now blocks k at widths seed.now xs.new }
+    ensures only { (ys : List ℕ) → Gives bytes.now blocks k at widths seed.now ys → result ≡ true }
 {
-    let entry = 4 + 20 * k;
-    if word_at(bytes, entry) as usize + (4 + 20 * blocks) != at {
+    if word_at(bytes, 4 + 20 * k) as usize + (4 + 20 * blocks) != at {
         return false;
     }
     let b = bytes[widths + k % 16] as usize;
-    if !block_at(bytes, at, b, seed, xs) {
+    if b > 32 || bytes.len() - at < 16 * b {
         return false;
     }
-    ends_with(bytes, entry + 4, xs)
+    unpack_sums(&bytes[at..at + 16 * b], b as u32, seed, xs);
+    true
+}
+
+// Whether the numbers taken out of the block k are right, and end as its entry says.
+fn is_right(
+    bytes: &[u8],
+    blocks: usize,
+    k: usize,
+    at: usize,
+    widths: usize,
+    seed: &[u32; 4],
+    xs: &[u32; 128],
+) -> bool
+    requires one { k < blocks }
+    requires most { blocks ≤ 1048576 }
+    requires head { base blocks ≤ length bytes.now }
+    requires room { widths + 16 ≤ length bytes.now }
+    requires taken { IsTaken bytes.now blocks k at widths seed.now xs.now }
+    requires order { (i : ℕ) → i < 3 → slice_index seed.now i ≤ slice_index seed.now (i + 1) }
+    ensures gives { IsTrue result → Gives bytes.now blocks k at widths seed.now xs.now }
+    ensures only { (ys : List ℕ) → Gives bytes.now blocks k at widths seed.now ys
+        → (result ≡ true) × (xs.now ≡ ys) }
+{
+    if !is_right_block(bytes, at, bytes[widths + k % 16] as usize, seed, xs) {
+        return false;
+    }
+    ends_with(bytes, 4 + 20 * k + 4, xs)
 }
 
 // Puts the numbers of the tail into `out`, `count` numbers that rise from `before`.

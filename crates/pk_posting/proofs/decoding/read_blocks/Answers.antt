@@ -14,12 +14,17 @@ pub returns-then-not-block_of-clause-damaged : goal.returns-then-not-block_of-cl
 returns-then-not-block_of-clause-damaged c xs s e =
     let given = entry_of c.args.bytes.now c.args.blocks c.loop-k.k c.loop-k.out.items c.loop-k.seed c.loop-k.at c.loop-k.widths c.in-Some.begin_at c.in-Some.begin_widths
     c.loop-k-test.true c.loop-k.invariant c.in-Some.ensures xs s e in
-    let all = c.block_of.ensures.only _ given in
-    false_is (c.block_of.result) all.0 c.if-not-block_of.true
+    false_is c.block_of.result (c.block_of.ensures.only _ given) c.if-not-block_of.true
+
+pub returns-then-not-is_right-clause-damaged : goal.returns-then-not-is_right-clause-damaged
+returns-then-not-is_right-clause-damaged c xs s e =
+    let given = entry_of c.args.bytes.now c.args.blocks c.loop-k.k c.loop-k.out.items c.loop-k.seed c.loop-k.at c.loop-k.widths c.in-Some.begin_at c.in-Some.begin_widths
+    c.loop-k-test.true c.loop-k.invariant c.in-Some.ensures xs s e in
+    false_is c.is_right.result (c.is_right.ensures.only _ given).0 c.if-not-is_right.true
 
 pub loop-k-preserved : goal.loop-k-preserved
 loop-k-preserved c =
     rw c.in_ok-extend_from_slice.ensures.items (
     read_more c.args.bytes.now c.args.blocks c.loop-k.k c.loop-k.out.items c.loop-k.seed c.loop-k.at c.loop-k.widths c.in-Some.begin_at c.in-Some.begin_widths c.block_of.new.xs
     (slice_index c.block_of.new.xs 124 ∷ slice_index c.block_of.new.xs 125 ∷ slice_index c.block_of.new.xs 126 ∷ slice_index c.block_of.new.xs 127 ∷ [])
-    c.loop-k-test.true c.loop-k.invariant c.in-Some.ensures (c.if-not-block_of.ensures.gives refl) refl (four_of c.block_of.new.xs) (λ ys g. (c.block_of.ensures.only ys g).1))
+    c.loop-k-test.true c.loop-k.invariant c.in-Some.ensures (c.if-not-is_right.ensures.gives refl) refl (four_of c.block_of.new.xs) (λ ys g. (c.is_right.ensures.only ys g).1))
