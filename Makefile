@@ -4,20 +4,28 @@
 
 SESSION = examples/mail.lines
 PROGRAM = crates/pk_find/out/pk_find
+STORE = $(CURDIR)/demo.store
+UNITS = 4096
 
 .PHONY: demo try test memory check fmt bench
 
-# Proves and builds the program, and answers a session over a small mail archive.
+# Proves and builds the program, makes a store in a file, and answers a session over a small mail
+# archive.
 demo:
-	cd crates/pk_find && rt run -- run < ../../$(SESSION)
+	rm -f $(STORE)
+	cd crates/pk_find && rt run -- create $(STORE) --units $(UNITS)
+	cd crates/pk_find && rt run -- run $(STORE) < ../../$(SESSION)
 
 # Answers the same session before anything is proved.
 try:
-	cd crates/pk_find && rt try -- run < ../../$(SESSION)
+	rm -f $(STORE)
+	cd crates/pk_find && rt try -- create $(STORE) --units $(UNITS)
+	cd crates/pk_find && rt try -- run $(STORE) < ../../$(SESSION)
 
-# The gate: every proof from nothing, each must-fail edit, each test, each program twice.
+# The gate: every proof from nothing, each must-fail edit, each test, each program twice; then
+# sessions that are killed.
 test:
-	rt ci
+	tools/test.sh
 
 # Refuses each request for memory in turn, over the test programs that `make test` left.
 memory:
@@ -33,5 +41,5 @@ fmt:
 
 # Adding and finding 30 MB of English, beside SQLite FTS5; builds the program first.
 bench:
-	cd crates/pk_find && rt run -- run < /dev/null
+	cd crates/pk_find && rt run -- --help
 	bench/words/run.sh $(PROGRAM)

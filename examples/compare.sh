@@ -4,10 +4,14 @@
 program=${1:?name the program}
 cd "$(dirname "$0")" || exit 1
 case $program in /*) ;; *) program=$OLDPWD/$program ;; esac
+store=$(mktemp -u) || exit 1
+trap 'rm -f "$store"' EXIT
 status=0
 for lines in *.lines; do
     name=${lines%.lines}
-    if "$program" run < "$lines" | cmp -s - "$name.replies"; then
+    rm -f "$store"
+    "$program" create "$store" --units 64 > /dev/null || exit 1
+    if "$program" run "$store" < "$lines" | cmp -s - "$name.replies"; then
         echo "$name: as written"
     else
         echo "$name: differs"

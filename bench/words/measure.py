@@ -17,6 +17,7 @@ import sqlite3
 import statistics
 import subprocess
 import sys
+import tempfile
 import threading
 import time
 
@@ -27,7 +28,13 @@ class Engine:
     """The program, asked over a pipe: one line, one reply line."""
 
     def __init__(self, program):
-        self.process = subprocess.Popen([program, "run"], stdin=subprocess.PIPE, stdout=subprocess.PIPE)
+        # No document is committed, so that the smallest store will do.
+        self.folder = tempfile.TemporaryDirectory()
+        store = os.path.join(self.folder.name, "store")
+        subprocess.run([program, "create", store, "--units", "64"], stdout=subprocess.DEVNULL,
+                       check=True)
+        self.process = subprocess.Popen([program, "run", store], stdin=subprocess.PIPE,
+                                        stdout=subprocess.PIPE)
         self.ask("count")
 
     def ask(self, line):

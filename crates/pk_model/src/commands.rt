@@ -14,6 +14,8 @@ pub enum Command {
     Find(Query),
     /// Asks for the text of the live document of this number.
     Show(DocNo),
+    /// Writes what is uncommitted to the disk, so that it outlives a crash.
+    Commit,
     /// Asks how many documents live, and for the next number.
     Count,
 }
@@ -71,6 +73,8 @@ pub enum Reply {
     Found(Vec<DocNo>),
     /// The text of the document.
     Text(String),
+    /// What was uncommitted is written.
+    Committed,
     /// The counts of the collection.
     Counted(Counts),
     /// The command was refused.

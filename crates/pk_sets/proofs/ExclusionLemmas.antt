@@ -9,7 +9,7 @@ use Rattle.std.proofs.lemmas.List.{drop_all}
 use Rattle.pk_sets.specs.Sets.{has, difference}
 use Rattle.pk_sets.proofs.IntersectionLemmas.{Before, eq_false_turned, none_above, filter_same}
 use Rattle.pk_sets.proofs.PartLemmas.{eq_same}
-use Rattle.pk_sets.proofs.UnionLemmas.{Heads, head_of, rest_above, chunk_before, higher}
+use Rattle.pk_sets.proofs.UnionLemmas.{Heads, head_of, rest_above, run_before, higher}
 
 -- a number below all of the first list takes none away
 lower_alone : (y : ℕ) (zs ys : List ℕ) → Each1 (λ z. y < z) zs → difference zs (y ∷ ys) ≡ difference zs ys
@@ -76,14 +76,37 @@ difference_back : (xs ys rest : List ℕ) → Each1 (λ y. Each1 (λ x. y < x) x
 difference_back xs [] rest below = refl
 difference_back xs (y ∷ ys) rest below = lower_alone y xs (ys ++ rest) below.0 ∙ difference_back xs ys rest below.1
 
-pub difference_four_left : (a b : List ℕ) → IsStrictlyIncreasing a → IsStrictlyIncreasing b → (i j : ℕ) → i + 4 ≤ length a
-    → slice_index a (i + 3) < slice_index b j → difference (drop i a) (drop j b) ≡ chunk i 4 a ++ difference (drop (i + 4) a) (drop j b)
-difference_four_left a b inc_a inc_b i j room h =
-    ap (λ l. difference l (drop j b)) (chunk-drop i 4 a)
-    ∙ difference_front (chunk i 4 a) (drop (i + 4) a) (drop j b) (chunk_before a b inc_a inc_b i j room h)
+-- the run of a below the number at j of b is kept
+pub difference_run : (a b : List ℕ) → IsStrictlyIncreasing a → IsStrictlyIncreasing b → (i j w : ℕ) → i + w ≤ length a
+    → (0 < w → slice_index a (i + w - 1) < slice_index b j) → difference (drop i a) (drop j b) ≡ chunk i w a ++ difference (drop (i + w) a) (drop j b)
+difference_run a b inc_a inc_b i j w room h =
+    ap (λ l. difference l (drop j b)) (chunk-drop i w a)
+    ∙ difference_front (chunk i w a) (drop (i + w) a) (drop j b) (run_before a b inc_a inc_b i j w room h)
 
-pub difference_four_right : (a b : List ℕ) → IsStrictlyIncreasing a → IsStrictlyIncreasing b → (i j : ℕ) → j + 4 ≤ length b
-    → slice_index b (j + 3) < slice_index a i → difference (drop i a) (drop j b) ≡ difference (drop i a) (drop (j + 4) b)
-difference_four_right a b inc_a inc_b i j room h =
-    ap (difference (drop i a)) (chunk-drop j 4 b)
-    ∙ difference_back (drop i a) (chunk j 4 b) (drop (j + 4) b) (chunk_before b a inc_b inc_a j i room h)
+-- the run of b below the number at i of a can be passed
+pub difference_pass : (a b : List ℕ) → IsStrictlyIncreasing a → IsStrictlyIncreasing b → (i j w : ℕ) → j + w ≤ length b
+    → (0 < w → slice_index b (j + w - 1) < slice_index a i) → difference (drop i a) (drop j b) ≡ difference (drop i a) (drop (j + w) b)
+difference_pass a b inc_a inc_b i j w room h =
+    ap (difference (drop i a)) (chunk-drop j w b)
+    ∙ difference_back (drop i a) (chunk j w b) (drop (j + w) b) (run_before b a inc_b inc_a j i w room h)
+
+-- the run up to the place m
+pub difference_to : (a b : List ℕ) → IsStrictlyIncreasing a → IsStrictlyIncreasing b → (i m j : ℕ) → i ≤ m → m ≤ length a
+    → (i < m → slice_index a (m - 1) < slice_index b j) → difference (drop i a) (drop j b) ≡ chunk i (m - i) a ++ difference (drop m a) (drop j b)
+difference_to a b inc_a inc_b i m j lower upper h =
+    let place : i + (m - i) ≡ m = omega arith in
+    difference_run a b inc_a inc_b i j (m - i) (omega arith) (λ some. rw place (h (omega arith)))
+    ∙ ap (λ k. chunk i (m - i) a ++ difference (drop k a) (drop j b)) place
+
+pub difference_past : (a b : List ℕ) → IsStrictlyIncreasing a → IsStrictlyIncreasing b → (i j m : ℕ) → j ≤ m → m ≤ length b
+    → (j < m → slice_index b (m - 1) < slice_index a i) → difference (drop i a) (drop j b) ≡ difference (drop i a) (drop m b)
+difference_past a b inc_a inc_b i j m lower upper h =
+    let place : j + (m - j) ≡ m = omega arith in
+    difference_pass a b inc_a inc_b i j (m - j) (omega arith) (λ some. rw place (h (omega arith)))
+    ∙ ap (λ k. difference (drop i a) (drop k b)) place
+
+-- the last of four
+pub four_below : (a : List ℕ) (i x : ℕ) → slice_index a (i + 3) < x → 0 < 4 → slice_index a (i + 4 - 1) < x
+four_below a i x h some =
+    let last : i + 4 - 1 ≡ i + 3 = omega arith in
+    rw last h

@@ -1,9 +1,10 @@
 -- Which of four numbers are among those before a place of a rising list.
-use Rattle.std.proofs.Common.{◌≡◌, ℕ, ◌<◌, ◌≤◌, ◌+◌, ◌-◌, ◌/◌, ◌%◌, ◌^◌, List, ◌++◌, length, take, drop, slice_index, Bool, true, false, cond, not, ◌||◌, bit_or, max, arith, refl, sym, ap, ap₂, ◌∙◌}
+use Rattle.std.proofs.Common.{◌≡◌, ℕ, ◌<◌, ◌≤◌, ◌+◌, ◌-◌, ◌/◌, ◌%◌, ◌^◌, List, ◌++◌, length, take, drop, slice_index, Bool, true, false, cond, not, ◌||◌, bit_or, nat_le, max, arith, refl, sym, ap, ap₂, ◌∙◌}
 use Rattle.std.specs.Simd.Lanes.{chunk}
 use Rattle.std.specs.List.Sorted.{IsStrictlyIncreasing}
 use Rattle.std.proofs.lemmas.Simd.{chunk-drop, get_or-chunk}
-use Rattle.std.proofs.lemmas.List.{take-append-drop, take-take, drop-take}
+use Rattle.std.proofs.lemmas.List.{take-append-drop, take-take, drop-take, take-append-le, length-take}
+use Rattle.std.proofs.lemmas.Bool.Decides.{nat_tests}
 use Rattle.std.proofs.lemmas.List.Elements.{filter-append}
 use Rattle.std.proofs.lemmas.Nat.Bits.{bit_at_or, bit_at-zero}
 use Rattle.pk_sets.specs.Sets.{has, difference}
@@ -65,3 +66,21 @@ start_over a b i s none =
     (each_drop (λ x. not (has b x) ≡ not (has (drop s b) x)) i a (λ k h l.
     let x = slice_index a k in
     ap not (ap (λ l. has l x) (sym (take-append-drop s b)) ∙ has_append x (take s b) (drop s b) ∙ ap (λ q. q || has (drop s b) x) (none k h l))))
+
+-- what was picked, where the test holds and where it does not
+pub picked : (x y u v r : ℕ) → r ≡ cond (nat_le x y) u v → x ≤ y → r ≡ u
+picked x y u v r e h =
+    let yes : nat_le x y ≡ true = grind (arith, nat_tests) in
+    e ∙ ap (λ q. cond q u v) yes
+
+pub not_picked : (x y u v r : ℕ) → r ≡ cond (nat_le x y) u v → y < x → r ≡ v
+not_picked x y u v r e h =
+    let no : nat_le x y ≡ false = grind (arith, nat_tests) in
+    e ∙ ap (λ q. cond q u v) no
+
+-- what was written first still stands
+pub still_there : (n m : ℕ) (xs out rest : List ℕ) → n ≤ m → n ≤ length xs → take m out ≡ take n xs ++ rest → take n out ≡ take n xs
+still_there n m xs out rest h room e =
+    sym (take-take n m out h) ∙ ap (take n) e
+    ∙ take-append-le n (take n xs) rest (omega (arith, length-take n xs))
+    ∙ take-take n n xs (omega arith)

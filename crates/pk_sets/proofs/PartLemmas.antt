@@ -1,8 +1,11 @@
 -- Parts of rising lists.
-use Rattle.std.proofs.Common.{rules, ◌≡◌, ℕ, suc, ◌<◌, ◌≤◌, ◌+◌, ◌-◌, List, [], ◌∷◌, ◌++◌, length, take, drop, slice_index, slice_set, get_or, Bool, true, false, cond, ◌||◌, nat_eq, min, arith, refl, sym, ap, ap₂, subst, ◌∙◌, ◌⊎◌, inl, inr, drop-cons}
+use Rattle.std.proofs.Common.{rules, ◌≡◌, ℕ, suc, ◌<◌, ◌≤◌, ◌+◌, ◌-◌, List, [], ◌∷◌, ◌++◌, length, take, drop, slice_index, slice_set, get_or, Bool, true, false, cond, ◌||◌, nat_eq, min, arith, refl, sym, ap, ap₂, subst, ◌∙◌, ◌⊎◌, inl, inr, drop-cons, take-add, append_assoc, length-append}
+use Rattle.std.proofs.Math.Seq.{drop-append_seam, take-append-add}
 use Rattle.std.specs.List.Sorted.{IsStrictlyIncreasing}
 use Rattle.std.specs.Simd.Lanes.{Each1, chunk}
-use Rattle.std.proofs.lemmas.List.{places, drop_all}
+use Rattle.std.proofs.lemmas.List.{places, drop_all, drop-drop, take-append-le, length-take, take-take}
+use Rattle.std.proofs.lemmas.List.Edits.{take-paste}
+use Rattle.std.specs.List.{copy_within}
 use Rattle.std.proofs.lemmas.List.Kept.{AllPairs-from_increasing}
 use Rattle.std.proofs.lemmas.List.Sums.{length-filter, count_by-le-length}
 use Rattle.std.proofs.lemmas.Bool.{cases_lt}
@@ -107,6 +110,43 @@ merge_equal a b i j w p h =
 
 pub one_chunk : (i : ℕ) (xs : List ℕ) → i < length xs → chunk i 1 xs ≡ slice_index xs i ∷ []
 one_chunk i xs h = rw (drop-cons xs i 0) refl
+
+-- the n numbers after those from one place to another
+pub chunk_more : (from at n : ℕ) (xs : List ℕ) → from ≤ at → chunk from (at - from) xs ++ chunk at n xs ≡ chunk from (at + n - from) xs
+chunk_more from at n xs h =
+    let size : at + n - from ≡ (at - from) + n = omega arith in
+    let place : from + (at - from) ≡ at = omega arith in
+    rw size (sym (take-add (at - from) n (drop from xs)
+    ∙ ap (λ l. chunk from (at - from) xs ++ take n l) (drop-drop (at - from) from xs ∙ ap (λ m. drop m xs) place)))
+
+-- a run that is written in two parts
+pub run_on : (n from at end to more m : ℕ) (xs out mid start : List ℕ) → from ≤ at → at ≤ end → m ≡ more
+    → take more out ≡ take to mid ++ chunk at (end - at) xs → take to mid ≡ take n start ++ chunk from (at - from) xs
+    → take m out ≡ take n start ++ chunk from (end - from) xs
+run_on n from at end to more m xs out mid start lower upper e second first =
+    let place : at + (end - at) ≡ end = omega arith in
+    ap (λ k. take k out) e ∙ second ∙ ap (λ l. l ++ chunk at (end - at) xs) first
+    ∙ append_assoc (take n start) (chunk from (at - from) xs) (chunk at (end - at) xs)
+    ∙ ap (λ l. take n start ++ l) (chunk_more from at (end - at) xs lower ∙ ap (λ k. chunk from (k - from) xs) place)
+
+-- of w numbers that were written, the first k
+pub part_of_run : (to w k at : ℕ) (xs out mid : List ℕ) → k ≤ w → to ≤ length mid
+    → take (to + w) out ≡ take to mid ++ chunk at w xs → take (to + k) out ≡ take to mid ++ chunk at k xs
+part_of_run to w k at xs out mid less room e =
+    let size : to + k ≡ length (take to mid) + k = omega (arith, length-take to mid) in
+    sym (take-take (to + k) (to + w) out (omega arith)) ∙ ap (take (to + k)) e
+    ∙ ap (λ m. take m (take to mid ++ chunk at w xs)) size
+    ∙ take-append-add (take to mid) (chunk at w xs) k
+    ∙ ap (λ l. take to mid ++ l) (take-take k w (drop at xs) less)
+
+-- what is left of two parts when the second has been moved down to the first
+pub moved_down : (s n m : ℕ) (low high : List ℕ) → length low ≡ s → n ≤ s → m ≤ length high
+    → take (n + m) (copy_within (low ++ high) s (s + m) n) ≡ take n low ++ take m high
+moved_down s n m low high e h k =
+    let size : s + m - s ≡ m = omega arith in
+    let back : drop s (low ++ high) ≡ high = ap (λ l. drop l (low ++ high)) (sym e) ∙ drop-append_seam low high in
+    rw (size, back) (take-paste (low ++ high) n high m (omega (arith, length-append low high)) k
+    ∙ ap (λ l. l ++ take m high) (take-append-le n low high (omega (arith, e))))
 
 pub one_less : (a b : List ℕ) (i j : ℕ) → Places a b i j 1 → slice_index a i < slice_index b j
     → intersection (drop i a) (drop j b) ≡ intersection (drop (i + 1) a) (drop j b)

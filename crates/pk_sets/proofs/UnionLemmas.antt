@@ -1,16 +1,15 @@
 -- The union of rising lists: its steps, its order, its members and its size.
-use Rattle.std.proofs.Common.{◌≡◌, ℕ, suc, ◌<◌, ◌≤◌, ◌+◌, List, [], ◌∷◌, ◌++◌, length, drop, slice_index, Bool, true, false, cond, nat_eq, nat_lt, min, arith, refl, sym, ap, ap₂, ◌∙◌, ◌⊎◌, inl, inr, append-nil, drop-cons}
+use Rattle.std.proofs.Common.{◌≡◌, ℕ, suc, ◌<◌, ◌≤◌, ◌+◌, ◌-◌, List, [], ◌∷◌, ◌++◌, length, take, drop, slice_index, Bool, true, false, cond, nat_eq, nat_lt, min, arith, refl, sym, ap, ap₂, ◌∙◌, ◌⊎◌, inl, inr, append-nil, drop-cons}
 use Rattle.std.specs.Simd.Lanes.{Each1, chunk}
-use Rattle.std.proofs.Common.{subst}
 use Rattle.std.proofs.lemmas.Simd.{chunk-drop}
 use Rattle.std.specs.List.Sorted.{IsStrictlyIncreasing}
 use Rattle.std.proofs.lemmas.Simd.{Each1-weaker}
 use Rattle.std.proofs.lemmas.Bool.{cases_lt}
 use Rattle.std.proofs.lemmas.Bool.Decides.{nat_tests}
-use Rattle.std.proofs.lemmas.List.{drop_all}
+use Rattle.std.proofs.lemmas.List.{drop_all, take-append-drop}
 use Rattle.pk_sets.specs.Sets.{union, with_number}
 use Rattle.pk_sets.proofs.IntersectionLemmas.{Rising, Before, eq_false_turned}
-use Rattle.pk_sets.proofs.PartLemmas.{eq_same, each_drop, each_chunk, at_most, rising_drop, below}
+use Rattle.pk_sets.proofs.PartLemmas.{eq_same, each_drop, each_chunk, at_most, below}
 
 lt_true : (x y : ℕ) → x < y → nat_lt x y ≡ true
 lt_true x y h = grind (arith, nat_tests)
@@ -150,35 +149,66 @@ goes_on x y p q p1 p0 q1 q0 = elim (cases_lt x y) [
   ]
 ]
 
--- numbers of the first list that are below the rest of both stand first
-union_front : (xs rest ys : List ℕ) → Rising (xs ++ rest) → Before xs ys → union (xs ++ rest) ys ≡ xs ++ union rest ys
-union_front [] rest ys rising below = refl
-union_front (x ∷ xs) rest ys rising below =
-    with_front x (union (xs ++ rest) ys) (each_union (λ z. x < z) (xs ++ rest) ys rising.0 below.0)
-    ∙ ap (λ l. x ∷ l) (union_front xs rest ys rising.1 below.1)
-
 -- numbers of the second list that are below all of the first stand first
 union_back : (xs ys rest : List ℕ) → Each1 (λ y. Each1 (λ x. y < x) xs) ys → union xs (ys ++ rest) ≡ ys ++ union xs rest
 union_back xs [] rest below = refl
 union_back xs (y ∷ ys) rest below = union_past y xs (ys ++ rest) below.0 ∙ ap (λ l. y ∷ l) (union_back xs ys rest below.1)
 
--- the four at i of a are below the number at j of b
-pub chunk_before : (a b : List ℕ) → IsStrictlyIncreasing a → IsStrictlyIncreasing b → (i j : ℕ) → i + 4 ≤ length a
-    → slice_index a (i + 3) < slice_index b j → Before (chunk i 4 a) (drop j b)
-chunk_before a b inc_a inc_b i j room h =
-    each_chunk (λ x. Each1 (λ y. x < y) (drop j b)) i 4 a room (λ k l m.
+-- the w numbers at i of a are below the number at j of b
+pub run_before : (a b : List ℕ) → IsStrictlyIncreasing a → IsStrictlyIncreasing b → (i j w : ℕ) → i + w ≤ length a
+    → (0 < w → slice_index a (i + w - 1) < slice_index b j) → Before (chunk i w a) (drop j b)
+run_before a b inc_a inc_b i j w room h =
+    each_chunk (λ x. Each1 (λ y. x < y) (drop j b)) i w a room (λ k l m.
     each_drop (λ y. slice_index a k < y) j b (λ q r s.
-    omega (arith, h, at_most a inc_a k (i + 3) (omega arith) (omega arith), at_most b inc_b j q r s)))
+    omega (arith, h (omega arith), at_most a inc_a k (i + w - 1) (omega arith) (omega arith), at_most b inc_b j q r s)))
 
-pub union_four_left : (a b : List ℕ) → IsStrictlyIncreasing a → IsStrictlyIncreasing b → (i j : ℕ) → i + 4 ≤ length a
-    → slice_index a (i + 3) < slice_index b j → union (drop i a) (drop j b) ≡ chunk i 4 a ++ union (drop (i + 4) a) (drop j b)
-union_four_left a b inc_a inc_b i j room h =
-    let parts = chunk-drop i 4 a in
-    ap (λ l. union l (drop j b)) parts
-    ∙ union_front (chunk i 4 a) (drop (i + 4) a) (drop j b) (subst Rising parts (rising_drop a inc_a i)) (chunk_before a b inc_a inc_b i j room h)
+-- the run of b below the number at i of a stands first
+pub union_run : (a b : List ℕ) → IsStrictlyIncreasing a → IsStrictlyIncreasing b → (i j w : ℕ) → j + w ≤ length b
+    → (0 < w → slice_index b (j + w - 1) < slice_index a i) → union (drop i a) (drop j b) ≡ chunk j w b ++ union (drop i a) (drop (j + w) b)
+union_run a b inc_a inc_b i j w room h =
+    ap (union (drop i a)) (chunk-drop j w b)
+    ∙ union_back (drop i a) (chunk j w b) (drop (j + w) b) (run_before b a inc_b inc_a j i w room h)
 
-pub union_four_right : (a b : List ℕ) → IsStrictlyIncreasing a → IsStrictlyIncreasing b → (i j : ℕ) → j + 4 ≤ length b
-    → slice_index b (j + 3) < slice_index a i → union (drop i a) (drop j b) ≡ chunk j 4 b ++ union (drop i a) (drop (j + 4) b)
-union_four_right a b inc_a inc_b i j room h =
-    ap (union (drop i a)) (chunk-drop j 4 b)
-    ∙ union_back (drop i a) (chunk j 4 b) (drop (j + 4) b) (chunk_before b a inc_b inc_a j i room h)
+-- the run up to the place m
+pub union_to : (a b : List ℕ) → IsStrictlyIncreasing a → IsStrictlyIncreasing b → (i j m : ℕ) → j ≤ m → m ≤ length b
+    → (j < m → slice_index b (m - 1) < slice_index a i) → union (drop i a) (drop j b) ≡ chunk j (m - j) b ++ union (drop i a) (drop m b)
+union_to a b inc_a inc_b i j m lower upper h =
+    let place : j + (m - j) ≡ m = omega arith in
+    union_run a b inc_a inc_b i j (m - j) (omega arith) (λ some. rw place (h (omega arith)))
+    ∙ ap (λ k. chunk j (m - j) b ++ union (drop i a) (drop k b)) place
+
+-- a number below all of the second part has its place in the first
+with_append : (x : ℕ) (ys rest : List ℕ) → Each1 (λ z. x < z) rest → with_number x (ys ++ rest) ≡ with_number x ys ++ rest
+with_append x [] rest above = with_front x rest above
+with_append x (y ∷ ys) rest above = elim (cases_lt x y) [
+  | inl l ↦ rw (with_less x y (ys ++ rest) l, with_less x y ys l) refl
+  | inr r ↦ elim (cases_lt y x) [
+    | inl l ↦ rw (with_past x y (ys ++ rest) l, with_past x y ys l) (ap (λ l. y ∷ l) (with_append x ys rest above))
+    | inr s ↦ (let e : x ≡ y = omega arith in rw (with_same x y (ys ++ rest) e, with_same x y ys e) refl)
+  ]
+]
+
+-- where the first parts are below the second ones, their unions follow one another
+union_parts : (xs more ys rest : List ℕ) → Before xs more → Before xs rest → Before ys more
+    → union (xs ++ more) (ys ++ rest) ≡ union xs ys ++ union more rest
+union_parts [] more ys rest h k l = union_back more ys rest l
+union_parts (x ∷ xs) more ys rest h k l =
+    ap (with_number x) (union_parts xs more ys rest h.1 k.1 l)
+    ∙ with_append x (union xs ys) (union more rest) (each_union (λ z. x < z) more rest h.0 k.0)
+
+-- the halves of a at i, and of b where it is no longer below the number at i of a
+pub union_halves : (a b : List ℕ) → IsStrictlyIncreasing a → IsStrictlyIncreasing b → (i j : ℕ) → i < length a → j ≤ length b
+    → (0 < j → slice_index b (j - 1) < slice_index a i) → (j < length b → slice_index a i ≤ slice_index b j)
+    → union (take i a) (take j b) ++ union (drop i a) (drop j b) ≡ union a b
+union_halves a b inc_a inc_b i j left right before here =
+    let above_a : Before (take i a) (drop i a) =
+    each_chunk (λ x. Each1 (λ y. x < y) (drop i a)) 0 i a (omega arith) (λ k l m.
+    each_drop (λ y. slice_index a k < y) i a (λ q r s. below a inc_a k q (omega arith) s)) in
+    let above_b : Before (take i a) (drop j b) =
+    each_chunk (λ x. Each1 (λ y. x < y) (drop j b)) 0 i a (omega arith) (λ k l m.
+    each_drop (λ y. slice_index a k < y) j b (λ q r s.
+    omega (arith, below a inc_a k i (omega arith) left, here (omega arith), at_most b inc_b j q r s))) in
+    let room : 0 + j ≤ length b = omega arith in
+    let last : 0 < j → slice_index b (0 + j - 1) < slice_index a i = λ h. (let e : 0 + j - 1 ≡ j - 1 = omega arith in rw e (before h)) in
+    sym (union_parts (take i a) (drop i a) (take j b) (drop j b) above_a above_b (run_before b a inc_b inc_a 0 i j room last))
+    ∙ ap₂ union (take-append-drop i a) (take-append-drop j b)

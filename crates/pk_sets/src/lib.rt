@@ -16,9 +16,12 @@
 //! then halves the way back, and compares the stretch it ends at in lanes. Both are after Lemire,
 //! Boytsov and Kurz (2016), "SIMD compression and the intersection of sorted integers".
 //!
-//! `either` goes by single numbers, without a branch on which is lower, and copies four at once
-//! where they stand below the other list. `without` compares four against four, and keeps a number
-//! once nothing that is left of the second list can meet it. The ends are done plainly.
+//! `either` goes by single numbers, without a branch on which is lower, through the lower and the
+//! higher halves of both lists side by side: each step waits for the one before, and two rows of
+//! steps wait at the same time. `without` compares four against four, and keeps a number once
+//! nothing that is left of the second list can meet it. Where one list is some 8 times as long as
+//! the other or longer, both copy or pass its numbers in runs, four at once, up to the next number
+//! of the other. The ends are done plainly.
 //!
 //! Contracts see a set as its list. `specs/Sets.antt` has the operations by membership, and `laws`
 //! what follows from them: the results rise, the order of the two lists does not matter, and the
@@ -26,6 +29,7 @@
 #![tactic(auto)]
 
 mod excluding;
+mod finding;
 mod galloping;
 mod intersecting;
 pub mod laws;

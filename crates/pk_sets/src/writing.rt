@@ -1,9 +1,11 @@
 //! How a result is written, and how far each side goes on.
 
-ghost use Rattle.std.specs.Prelude.{◌≡◌, ℕ, ◌+◌, ◌-◌, ◌<◌, ◌≤◌, length};
+ghost use Rattle.std.specs.Prelude.{◌≡◌, ℕ, ◌+◌, ◌-◌, ◌<◌, ◌≤◌, length, slice_index};
 ghost use Rattle.std.specs.Prelude.{take, drop, ◌++◌, [], ◌∷◌};
 ghost use Rattle.std.specs.Simd.Lanes.{chunk};
+ghost use Rattle.std.specs.List.Sorted.{IsStrictlyIncreasing};
 
+use crate::finding::count_below;
 use std::simd::prelude::*;
 
 // Writes x at place n, and counts it where the bit is 1: a branch would often be foreseen wrongly.
@@ -35,6 +37,39 @@ pub fn put_four(xs: &[u32], from: usize, n: usize, out: &mut [u32])
     ensures { take (n + 4) out.new ≡ take n out.old ++ chunk from 4 xs.now }
 {
     u32x4::from_slice(&xs[from..]).copy_to_slice(&mut out[n..]);
+}
+
+// Writes at place n the numbers from `from` on that are below x, four at once as far as that goes,
+// and gives the place of the first that is not.
+#[inline(always)]
+pub fn put_below(xs: &[u32], from: usize, x: u32, n: usize, out: &mut [u32]) -> usize
+    requires rising { IsStrictlyIncreasing xs.now }
+    requires left { from ≤ length xs.now }
+    requires room { n + (length xs.now - from) ≤ length out.old }
+    ensures lower { from ≤ result }
+    ensures upper { result ≤ length xs.now }
+    ensures before { from < result → slice_index xs.now (result - 1) < x }
+    ensures found { take (n + (result - from)) out.new
+        ≡ take n out.old ++ chunk from (result - from) xs.now }
+{
+    let mut at = from;
+    let mut to = n;
+    'fours: while 4 <= xs.len() - at && xs[at + 3] < x {
+        put_four(xs, at, to, out);
+        at += 4;
+        to += 4;
+    }
+    if 4 <= xs.len() - at {
+        // Not all four count, and what stands past those that do is open.
+        put_four(xs, at, to, out);
+        return at + count_below(xs, at, x);
+    }
+    'ones: while at < xs.len() && xs[at] < x {
+        out[to] = xs[at];
+        at += 1;
+        to += 1;
+    }
+    at
 }
 
 // Writes at place n what is left of the numbers from `from` on.

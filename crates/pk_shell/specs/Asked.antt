@@ -1,10 +1,11 @@
 -- What a line asks.
-use Rattle.std.specs.Prelude.{ℕ, ◌^◌, Bool, true, false, ◌&&◌, nat_lt, nat_le, List, [], ◌∷◌, length, codes, Option, Some, None, ◌==◌, if◌then◌else◌}
+use Rattle.std.specs.Prelude.{ℕ, ◌^◌, Bool, true, false, ◌&&◌, nat_lt, nat_le, List, [], ◌∷◌, length}
+use Rattle.std.specs.Prelude.{codes, Option, Some, None, ◌==◌, if◌then◌else◌}
 use Rattle.std.specs.List.{before_first, after_first, position_or_len}
 use Rattle.std.specs.Str.{bytes_eq, all_ascii_digits}
 use Rattle.std.specs.Str.Lossy.{utf8_valid_len}
 use Rattle.std.specs.Str.Parse.{digits_value}
-use Rattle.pk_model.specs.Steps.{Request, add, delete, show, count}
+use Rattle.pk_model.specs.Steps.{Request, add, delete, show, commit, count}
 use Rattle.pk_shell.specs.declared.line.TheConstants.{MAX_LINE_BYTES}
 
 -- what a line asks: a refusal of the shell's own, a command, the documents of a query text, or the end
@@ -40,7 +41,8 @@ about command None = refuses (codes "unknown")
 -- a line without a space
 abbrev pub asked_alone : List ℕ → Asked
 asked_alone word =
-    if bytes_eq word (codes "count") then does count
+    if bytes_eq word (codes "commit") then does commit
+    else if bytes_eq word (codes "count") then does count
     else if bytes_eq word (codes "quit") then quits
     else refuses (codes "unknown")
 

@@ -6,7 +6,9 @@ use Rattle.pk_model.specs.declared.commands.Refusal.{Refusal}
 use Rattle.pk_shell.specs.Talk.{Talk}
 
 -- so many bytes were read since the start, and this came of them
-pub record Progress {S : Type 0} (Step : S → Request → Result Answer Refusal → S → Type 0) (s0 : S) (r0 r w0 : Option (List ℕ)) (held : Option (List ℕ)) (s : S) (w : Option (List ℕ)) : Type 0 where
+pub record Progress {S : Type 0} (Step : S → Request → Result Answer Refusal → S → Type 0)
+    (s0 : S) (r0 r w0 : Option (List ℕ)) (held : Option (List ℕ)) (s : S) (w : Option (List ℕ))
+    : Type 0 where
   pub read : List ℕ
   pub consumed : Consumes r0 r read
   pub talk : Talk Step s0 w0 read held s w

@@ -1,9 +1,13 @@
 -- How replies are spelled, without their line feed.
-use Rattle.std.specs.Prelude.{ℕ, List, [], ◌∷◌, ◌++◌, length, codes, decimal, Result, Ok, Err, ◌==◌, if◌then◌else◌}
+use Rattle.std.specs.Prelude.{ℕ, List, [], ◌∷◌, ◌++◌, length, codes, decimal, Result, Ok, Err, ◌==◌}
+use Rattle.std.specs.Prelude.{if◌then◌else◌}
 use Rattle.std.specs.List.{flat_map}
 use Rattle.pk_model.specs.Steps.{Answer, added, deleted, found, text_is, committed, merged, tidied, counted}
 use Rattle.pk_model.specs.declared.commands.Refusal.{Refusal}
-use Rattle.pk_model.specs.declared.commands.Refusal.TheVariants.{Reopen, TextTooLong, BufferFull, NumbersUsedUp, NoSuchDocument, TooManySegments, SegmentTooLarge, Memory, Full, Damaged, Disk}
+use Rattle.pk_model.specs.declared.commands.Refusal.TheVariants.{Reopen, TextTooLong, BufferFull}
+use Rattle.pk_model.specs.declared.commands.Refusal.TheVariants.{NumbersUsedUp, NoSuchDocument}
+use Rattle.pk_model.specs.declared.commands.Refusal.TheVariants.{TooManySegments, SegmentTooLarge}
+use Rattle.pk_model.specs.declared.commands.Refusal.TheVariants.{Memory, Full, Damaged, Disk}
 use Rattle.pk_query.specs.declared.fault.QueryFault.{QueryFault}
 use Rattle.pk_query.specs.declared.fault.QueryFault.TheVariants as query
 
@@ -17,7 +21,8 @@ refusal_text NoSuchDocument = codes "no such document"
 refusal_text TooManySegments = codes "too many segments"
 refusal_text SegmentTooLarge = codes "segment too large"
 refusal_text Memory = codes "memory"
-refusal_text (Full need largest) = codes "full need " ++ (decimal need ++ (codes " largest " ++ decimal largest))
+refusal_text (Full need largest) =
+    codes "full need " ++ (decimal need ++ (codes " largest " ++ decimal largest))
 refusal_text Damaged = codes "damaged"
 refusal_text Disk = codes "disk"
 
@@ -47,5 +52,6 @@ reply_text (Ok (text_is text)) = codes "text " ++ flat_map escaped text
 reply_text (Ok committed) = codes "committed"
 reply_text (Ok merged) = codes "merged"
 reply_text (Ok tidied) = codes "tidied"
-reply_text (Ok (counted documents next)) = codes "count " ++ (decimal documents ++ (codes " next " ++ decimal next))
+reply_text (Ok (counted documents next)) =
+    codes "count " ++ (decimal documents ++ (codes " next " ++ decimal next))
 reply_text (Err why) = codes "refused " ++ refusal_text why

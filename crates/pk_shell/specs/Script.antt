@@ -1,5 +1,6 @@
 -- Legal scripts, over any engine: S is what it means, Step says which of its steps are legal.
-use Rattle.std.specs.Prelude.{◌≡◌, ℕ, ◌⊎◌, ◌<◌, List, [], ◌∷◌, ◌++◌, codes, length, Option, Result, Ok, Err, MatchBool}
+use Rattle.std.specs.Prelude.{◌≡◌, ℕ, ◌⊎◌, ◌<◌, List, [], ◌∷◌, ◌++◌, codes, length, Option}
+use Rattle.std.specs.Prelude.{Result, Ok, Err, MatchBool}
 use Rattle.std.specs.List.{flat_map, AllByRecursion}
 use Rattle.std.specs.Io.KnownBytes.{Appends, Consumes, IsAtEnd}
 use Rattle.pk_model.specs.Tree.{Tree}
@@ -16,20 +17,28 @@ use Rattle.pk_shell.specs.declared.ending.ShellFault.{ShellFault}
 use Rattle.pk_shell.specs.declared.ending.ShellFault.TheVariants.{Input, Output, TooManyReads, Memory}
 
 -- the reply line to what a line asks, without its line feed
-abbrev pub IsReply : {S : Type 0} → (S → Request → Result Answer Refusal → S → Type 0) → S → Asked → List ℕ → S → Type 0
+abbrev pub IsReply : {S : Type 0} → (S → Request → Result Answer Refusal → S → Type 0)
+    → S → Asked → List ℕ → S → Type 0
 IsReply Step s (refuses why) reply s' = (reply ≡ codes "refused " ++ why) × (s' ≡ s)
 IsReply Step s quits reply s' = (reply ≡ codes "bye") × (s' ≡ s)
-IsReply Step s (does request) reply s' = (outcome : Result Answer Refusal) × Step s request outcome s' × (reply ≡ reply_text outcome)
--- a query text that reads as a query is found, and any other gets its fault; one that reads may find no memory
+IsReply Step s (does request) reply s' =
+    (outcome : Result Answer Refusal) × Step s request outcome s' × (reply ≡ reply_text outcome)
+-- a query text that reads as a query is found, and any other gets its fault; one that reads may find
+-- no memory
 IsReply Step s (queries text) reply s' =
-    ((query : Tree) × (outcome : Result Answer Refusal) × IsQuery text query × Step s (find query) outcome s' × (reply ≡ reply_text outcome))
-    ⊎ ((fault : QueryFault) × Refuses text fault × (reply ≡ codes "refused " ++ fault_text fault) × (s' ≡ s))
+    ((query : Tree) × (outcome : Result Answer Refusal) × IsQuery text query
+    × Step s (find query) outcome s' × (reply ≡ reply_text outcome))
+    ⊎ ((fault : QueryFault) × Refuses text fault
+    × (reply ≡ codes "refused " ++ fault_text fault) × (s' ≡ s))
 
 -- THE LEGAL SCRIPT: each line has its reply; after a quit nothing is answered.
-abbrev pub Script : {S : Type 0} → (S → Request → Result Answer Refusal → S → Type 0) → S → List (List ℕ) → List (List ℕ) → S → Ended → Type 0
+abbrev pub Script : {S : Type 0} → (S → Request → Result Answer Refusal → S → Type 0)
+    → S → List (List ℕ) → List (List ℕ) → S → Ended → Type 0
 Script Step s [] [] s' how = (s' ≡ s) × (how ≡ InputEnd)
-Script {S} Step s (line ∷ lines) (reply ∷ replies) s' how = (mid : S) × IsReply Step s (asked line) reply mid
-    × MatchBool (is_quit (asked line)) ((replies ≡ []) × (s' ≡ mid) × (how ≡ Quit)) (Script Step mid lines replies s' how)
+Script {S} Step s (line ∷ lines) (reply ∷ replies) s' how =
+    (mid : S) × IsReply Step s (asked line) reply mid
+    × MatchBool (is_quit (asked line)) ((replies ≡ []) × (s' ≡ mid) × (how ≡ Quit))
+    (Script Step mid lines replies s' how)
 Script Step s [] (reply ∷ replies) s' how = ⊥
 Script Step s (line ∷ lines) [] s' how = ⊥
 
@@ -38,7 +47,8 @@ abbrev pub spelled : List (List ℕ) → List ℕ
 spelled replies = flat_map with_feed replies
 
 -- at Quit and InputEnd: what was written is a legal script's replies to what was read.
-pub record Served {S : Type 0} (Step : S → Request → Result Answer Refusal → S → Type 0) (s : S) (r r' w w' : Option (List ℕ)) (how : Ended) (s' : S) : Type 0 where
+pub record Served {S : Type 0} (Step : S → Request → Result Answer Refusal → S → Type 0)
+    (s : S) (r r' w w' : Option (List ℕ)) (how : Ended) (s' : S) : Type 0 where
   pub read : List ℕ
   pub consumed : Consumes r r' read
   pub at_end : how ≡ InputEnd → IsAtEnd r'
@@ -47,7 +57,8 @@ pub record Served {S : Type 0} (Step : S → Request → Result Answer Refusal �
   pub written : Appends w w' (spelled replies)
 
 -- at Input and TooManyReads: the replies to the whole lines read so far.
-pub record Broken {S : Type 0} (Step : S → Request → Result Answer Refusal → S → Type 0) (s : S) (r r' w w' : Option (List ℕ)) (s' : S) : Type 0 where
+pub record Broken {S : Type 0} (Step : S → Request → Result Answer Refusal → S → Type 0)
+    (s : S) (r r' w w' : Option (List ℕ)) (s' : S) : Type 0 where
   pub lines : List (List ℕ)
   pub rest : List ℕ
   pub clean : AllByRecursion HasNoFeed lines × HasNoFeed rest
@@ -57,7 +68,8 @@ pub record Broken {S : Type 0} (Step : S → Request → Result Answer Refusal �
   pub written : Appends w w' (spelled replies)
 
 -- at Output: the replies to the lines executed, of which the last one is cut short.
-pub record CutShort {S : Type 0} (Step : S → Request → Result Answer Refusal → S → Type 0) (s : S) (r r' w w' : Option (List ℕ)) (s' : S) : Type 0 where
+pub record CutShort {S : Type 0} (Step : S → Request → Result Answer Refusal → S → Type 0)
+    (s : S) (r r' w w' : Option (List ℕ)) (s' : S) : Type 0 where
   pub read : List ℕ
   pub consumed : Consumes r r' read
   pub lines : List (List ℕ)
@@ -80,7 +92,9 @@ pub record IsUntouched {S : Type 0} (s : S) (r r' w w' : Option (List ℕ)) (s' 
   pub state : s' ≡ s
 
 -- THE SHELL'S THEOREM, by how it ends
-abbrev pub Ends : {S : Type 0} → (S → Request → Result Answer Refusal → S → Type 0) → S → Option (List ℕ) → Option (List ℕ) → Option (List ℕ) → Option (List ℕ) → Result Ended ShellFault → S → Type 0
+abbrev pub Ends : {S : Type 0} → (S → Request → Result Answer Refusal → S → Type 0)
+    → S → Option (List ℕ) → Option (List ℕ) → Option (List ℕ) → Option (List ℕ)
+    → Result Ended ShellFault → S → Type 0
 Ends Step s r r' w w' (Ok how) s' = Served Step s r r' w w' how s'
 Ends Step s r r' w w' (Err Input) s' = Broken Step s r r' w w' s'
 Ends Step s r r' w w' (Err TooManyReads) s' = Broken Step s r r' w w' s'

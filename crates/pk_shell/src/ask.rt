@@ -3,7 +3,13 @@
 ghost use Rattle.std.specs.Prelude.{◌≡◌};
 ghost use Rattle.std.specs.Option.{option_map};
 ghost use Rattle.std.specs.Str.{all_ascii_digits};
-ghost use Rattle.pk_shell.specs.Asked.{asked_alone, asked_with, asked_text, is_short_numeral, number_of};
+ghost use Rattle.pk_shell.specs.Asked.{
+  asked_alone,
+  asked_with,
+  asked_text,
+  is_short_numeral,
+  number_of,
+};
 ghost use Rattle.pk_shell.specs.AskView.{line_asks};
 
 use pk_model::DocNo;
@@ -15,6 +21,7 @@ pub enum Ask<'a> {
     Delete(DocNo),
     Find(&'a str),
     Show(DocNo),
+    Commit,
     Count,
     Quit,
     Unknown,
@@ -56,7 +63,9 @@ fn number_of(text: &str) -> Option<DocNo>
 fn ask_alone<'a>(word: &str) -> Ask<'a>
     ensures { line_asks result ≡ asked_alone word.now }
 {
-    if word == "count" {
+    if word == "commit" {
+        Ask::Commit
+    } else if word == "count" {
         Ask::Count
     } else if word == "quit" {
         Ask::Quit

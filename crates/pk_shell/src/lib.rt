@@ -1,4 +1,4 @@
-//! Lines to replies: the shell of the engine.
+//! Lines to replies: the shell of a store.
 //!
 //! A line is the bytes up to a line feed; bytes after the last line feed, if any, are a line. Each
 //! line gets one reply line. [`serve`] reads them from any reader, however it cuts its input, and
@@ -11,12 +11,27 @@
 //! | `delete N` | `deleted N` |
 //! | `find Q` | `found K:` and the K numbers, each after a space |
 //! | `show N` | `text ` and the text, a line feed as `\n`, a backslash as `\\` |
+//! | `commit` | `committed`: what was uncommitted is on the disk |
 //! | `count` | `count D next N` |
 //! | `quit` | `bye`; what follows is not answered |
 //!
 //! Anything else is `refused ` and a reason. A line is judged in this order: too long (more than
 //! 1,048,640 bytes; what passes that is skipped and never kept), no UTF-8 text, unknown. A refused
-//! query is answered before the store is asked.
+//! query is answered before the store is asked, also by a store that is to be opened again.
+//!
+//! | reason | when the store is asked |
+//! |---|---|
+//! | `reopen` | a write or a sync failed before: no command is answered until it is opened again |
+//! | `text too long`, `buffer full` | the text to add, or all that is uncommitted, is too long |
+//! | `numbers used up` | no number is left for a document, or none for a commit |
+//! | `no such document` | no live document has the number, or `delete` names a committed one |
+//! | `too many segments` | a commit of new documents would be the 65th |
+//! | `segment too large` | what a commit adds would pass 1,073,741,824 bytes |
+//! | `full need A largest B` | a commit needs A units in a row, and the disk has B |
+//! | `memory`, `disk` | a growth of memory was refused, a call of the device failed |
+//! | `damaged` | bytes of the disk are no spelling of what should stand there |
+//!
+//! What is uncommitted lives in memory: it is lost where the session's end drops the store.
 //!
 //! | `serve` ends with | when | what was written |
 //! |---|---|---|
@@ -28,7 +43,8 @@
 //! | `ShellFault::Memory` | its two buffers were not to be had | nothing, and nothing was read |
 //!
 //! In specs/, `Asked` says what a line asks, `ReplyText` how a reply is spelled, `Script` what a
-//! legal script is and what each ending means; `Script` is said of any engine, by its steps.
+//! legal script is and what each ending means. `Script` is said of any engine, by its steps:
+//! those of [`serve`] are the store's `Steps`, over any disk.
 #![tactic(auto)]
 
 mod ask;

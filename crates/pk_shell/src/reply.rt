@@ -1,19 +1,20 @@
 //! What a line is answered.
 
 ghost use Rattle.std.specs.Prelude.{◌≡◌};
-ghost use Rattle.pk_model.specs.Steps.{add, delete, find, show, count};
+ghost use Rattle.pk_model.specs.Steps.{add, delete, find, show, commit, count};
 ghost use Rattle.pk_model.specs.Tree.{tree_of};
 ghost use Rattle.pk_model.specs.Views.{reply_of};
-ghost use Rattle.pk_store.specs.ListStore.{MemoryStep};
+ghost use Rattle.pk_store.specs.Store.{Steps};
 ghost use Rattle.pk_shell.specs.Asked.{asked_short, queries, is_quit};
 ghost use Rattle.pk_shell.specs.AskView.{line_asks};
 ghost use Rattle.pk_shell.specs.Script.{IsReply};
 ghost use Rattle.pk_shell.specs.Said.{said_text, is_bye};
 
 use super::ask::{Ask, ask_of};
+use pk_disk::Disk;
 use pk_model::{DocNo, Query, Reply};
 use pk_query::{QueryFault, parse};
-use pk_store::ListStore;
+use pk_store::Store;
 use std::alloc::Global;
 
 /// What is said to a line.
@@ -43,8 +44,9 @@ impl Said {
 }
 
 /// Answers a line that is not too long.
-pub fn reply_to(alloc: Global, store: &mut ListStore, line: &[u8]) -> Said
-    ensures reply { IsReply MemoryStep store.old (asked_short line.now)
+pub fn reply_to<D: Disk>(alloc: Global, store: &mut Store<D>, line: &[u8]) -> Said
+    ensures reply { IsReply (Steps D.honest D.content D.is_open D.moment D.images_since
+        D.failed_reads D.failed_writes) store.old (asked_short line.now)
         (said_text result) store.new }
     ensures bye { is_bye result ≡ is_quit (asked_short line.now) }
 {
@@ -55,8 +57,9 @@ pub fn reply_to(alloc: Global, store: &mut ListStore, line: &[u8]) -> Said
 }
 
 /// Answers what a line asks.
-fn reply_to_ask(alloc: Global, store: &mut ListStore, ask: Ask<'_>) -> Said
-    ensures reply { IsReply MemoryStep store.old (line_asks ask.entry)
+fn reply_to_ask<D: Disk>(alloc: Global, store: &mut Store<D>, ask: Ask<'_>) -> Said
+    ensures reply { IsReply (Steps D.honest D.content D.is_open D.moment D.images_since
+        D.failed_reads D.failed_writes) store.old (line_asks ask.entry)
         (said_text result) store.new }
     ensures bye { is_bye result ≡ is_quit (line_asks ask.entry) }
 {
@@ -65,6 +68,7 @@ fn reply_to_ask(alloc: Global, store: &mut ListStore, ask: Ask<'_>) -> Said
         Ask::Delete(number) => Said::Told(deleted(alloc, store, number)),
         Ask::Find(text) => found(alloc, store, text),
         Ask::Show(number) => Said::Told(shown(alloc, store, number)),
+        Ask::Commit => Said::Told(committed(alloc, store)),
         Ask::Count => Said::Told(counted(store)),
         Ask::Quit => Said::Bye,
         Ask::Unknown => Said::Unknown,
@@ -72,8 +76,9 @@ fn reply_to_ask(alloc: Global, store: &mut ListStore, ask: Ask<'_>) -> Said
 }
 
 /// The reply to `add`.
-fn added(alloc: Global, store: &mut ListStore, text: &str) -> Reply
-    ensures { MemoryStep store.old (add text.now) (reply_of result) store.new }
+fn added<D: Disk>(alloc: Global, store: &mut Store<D>, text: &str) -> Reply
+    ensures { Steps D.honest D.content D.is_open D.moment D.images_since D.failed_reads
+        D.failed_writes store.old (add text.now) (reply_of result) store.new }
 {
     match store.add(alloc, text) {
         Ok(number) => Reply::Added(number),
@@ -82,8 +87,9 @@ fn added(alloc: Global, store: &mut ListStore, text: &str) -> Reply
 }
 
 /// The reply to `delete`.
-fn deleted(alloc: Global, store: &mut ListStore, number: DocNo) -> Reply
-    ensures { MemoryStep store.old (delete number.0) (reply_of result) store.new }
+fn deleted<D: Disk>(alloc: Global, store: &mut Store<D>, number: DocNo) -> Reply
+    ensures { Steps D.honest D.content D.is_open D.moment D.images_since D.failed_reads
+        D.failed_writes store.old (delete number.0) (reply_of result) store.new }
 {
     match store.delete(alloc, number) {
         Ok(()) => Reply::Deleted(number),
@@ -92,8 +98,10 @@ fn deleted(alloc: Global, store: &mut ListStore, number: DocNo) -> Reply
 }
 
 /// The reply to `find`: the query text is judged before the store is asked.
-fn found(alloc: Global, store: &ListStore, text: &str) -> Said
-    ensures reply { IsReply MemoryStep store.now (queries text.now) (said_text result) store.now }
+fn found<D: Disk>(alloc: Global, store: &mut Store<D>, text: &str) -> Said
+    ensures reply { IsReply (Steps D.honest D.content D.is_open D.moment D.images_since
+        D.failed_reads D.failed_writes) store.old
+        (queries text.now) (said_text result) store.new }
     ensures bye { is_bye result ≡ is_quit (queries text.now) }
 {
     match parse(alloc, text) {
@@ -103,8 +111,9 @@ fn found(alloc: Global, store: &ListStore, text: &str) -> Said
 }
 
 /// The reply to a query.
-fn found_for(alloc: Global, store: &ListStore, query: &Query) -> Reply
-    ensures { MemoryStep store.now (find (tree_of query.now)) (reply_of result) store.now }
+fn found_for<D: Disk>(alloc: Global, store: &mut Store<D>, query: &Query) -> Reply
+    ensures { Steps D.honest D.content D.is_open D.moment D.images_since D.failed_reads
+        D.failed_writes store.old (find (tree_of query.now)) (reply_of result) store.new }
 {
     match store.find(alloc, query) {
         Ok(numbers) => Reply::Found(numbers),
@@ -113,8 +122,9 @@ fn found_for(alloc: Global, store: &ListStore, query: &Query) -> Reply
 }
 
 /// The reply to `show`.
-fn shown(alloc: Global, store: &ListStore, number: DocNo) -> Reply
-    ensures { MemoryStep store.now (show number.0) (reply_of result) store.now }
+fn shown<D: Disk>(alloc: Global, store: &mut Store<D>, number: DocNo) -> Reply
+    ensures { Steps D.honest D.content D.is_open D.moment D.images_since D.failed_reads
+        D.failed_writes store.old (show number.0) (reply_of result) store.new }
 {
     match store.show(alloc, number) {
         Ok(text) => Reply::Text(text),
@@ -122,9 +132,21 @@ fn shown(alloc: Global, store: &ListStore, number: DocNo) -> Reply
     }
 }
 
+/// The reply to `commit`.
+fn committed<D: Disk>(alloc: Global, store: &mut Store<D>) -> Reply
+    ensures { Steps D.honest D.content D.is_open D.moment D.images_since D.failed_reads
+        D.failed_writes store.old commit (reply_of result) store.new }
+{
+    match store.commit(alloc) {
+        Ok(()) => Reply::Committed,
+        Err(why) => Reply::Refused(why),
+    }
+}
+
 /// The reply to `count`.
-fn counted(store: &ListStore) -> Reply
-    ensures { MemoryStep store.now count (reply_of result) store.now }
+fn counted<D: Disk>(store: &Store<D>) -> Reply
+    ensures { Steps D.honest D.content D.is_open D.moment D.images_since D.failed_reads
+        D.failed_writes store.now count (reply_of result) store.now }
 {
     match store.counts() {
         Ok(counts) => Reply::Counted(counts),

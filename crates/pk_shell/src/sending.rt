@@ -139,7 +139,8 @@ fn put_found<W: Write>(
     numbers: &[DocNo],
 ) -> Result<(), Unwritten>
     ensures { Puts outbox.old (W.contents writer.old) result outbox.new (W.contents writer.new)
-        (codes "found " ++ decimal (length numbers.now) ++ (codes ":" ++ flat_map spaced (numbers_in numbers.now))) }
+        (codes "found " ++ decimal (length numbers.now)
+        ++ (codes ":" ++ flat_map spaced (numbers_in numbers.now))) }
 {
     let Ok(()) = put_number(outbox, writer, b"found ", numbers.len() as u64) else {
         return Err(Unwritten);
@@ -262,6 +263,7 @@ fn put_reply<W: Write>(outbox: &mut Outbox, writer: &mut W, reply: &Reply) -> Re
         Reply::Deleted(number) => put_number(outbox, writer, b"deleted ", u64::from(number.0)),
         Reply::Found(numbers) => put_found(outbox, writer, numbers.as_slice()),
         Reply::Text(text) => put_text(outbox, writer, text.as_bytes()),
+        Reply::Committed => put(outbox, writer, b"committed"),
         Reply::Counted(counts) => {
             let next = u64::from(counts.next);
             put_pair(outbox, writer, b"count ", counts.documents, b" next ", next)
@@ -298,7 +300,8 @@ fn put_line<W: Write>(outbox: &mut Outbox, writer: &mut W, said: &Said) -> Resul
 
 /// Writes a reply line: in one call, where it is not longer than the outbox.
 pub fn send<W: Write>(outbox: &mut Outbox, writer: &mut W, said: &Said) -> Result<(), Unwritten>
-    ensures { Sent (W.contents writer.old) (W.contents writer.new) result (with_feed (said_text said.now)) }
+    ensures { Sent (W.contents writer.old) (W.contents writer.new) result
+        (with_feed (said_text said.now)) }
 {
     outbox.clear();
     let Ok(()) = put_line(outbox, writer, said) else {

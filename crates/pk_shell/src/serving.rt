@@ -1,7 +1,7 @@
 //! Lines from a reader, replies to a writer.
 
 ghost use Rattle.std.specs.Prelude.{[], ◌∷◌};
-ghost use Rattle.pk_store.specs.ListStore.{MemoryStep};
+ghost use Rattle.pk_store.specs.Store.{Steps};
 ghost use Rattle.pk_shell.specs.Asked.{asked_held};
 ghost use Rattle.pk_shell.specs.Script.{Ends};
 ghost use Rattle.pk_shell.specs.Talk.{Answers, Hears};
@@ -11,7 +11,8 @@ use super::line::Line;
 use super::outbox::Outbox;
 use super::reply::{Said, reply_to};
 use super::sending::{Unwritten, send};
-use pk_store::ListStore;
+use pk_disk::Disk;
+use pk_store::Store;
 use std::alloc::Global;
 use std::io::{Read, Write};
 
@@ -22,14 +23,15 @@ const MAX_READS: u64 = 1 << 40;
 const CHUNK_BYTES: usize = 16_384;
 
 /// Answers what is held of a line, and says whether it was a quit.
-fn answer<W: Write>(
+fn answer<W: Write, D: Disk>(
     alloc: Global,
     line: &Line,
     outbox: &mut Outbox,
-    store: &mut ListStore,
+    store: &mut Store<D>,
     writer: &mut W,
 ) -> Result<bool, Unwritten>
-    ensures { Answers MemoryStep (asked_held line.now) store.old store.new
+    ensures { Answers (Steps D.honest D.content D.is_open D.moment D.images_since
+        D.failed_reads D.failed_writes) (asked_held line.now) store.old store.new
         (W.contents writer.old) (W.contents writer.new) result }
 {
     let said = match line.held() {
@@ -44,15 +46,16 @@ fn answer<W: Write>(
 }
 
 /// Takes in one more byte, and answers the line that it ends.
-fn hear<W: Write>(
+fn hear<W: Write, D: Disk>(
     alloc: Global,
     line: &mut Line,
     outbox: &mut Outbox,
-    store: &mut ListStore,
+    store: &mut Store<D>,
     writer: &mut W,
     byte: u8,
 ) -> Result<bool, Unwritten>
-    ensures { Hears MemoryStep line.old store.old (W.contents writer.old) (byte ∷ [])
+    ensures { Hears (Steps D.honest D.content D.is_open D.moment D.images_since
+        D.failed_reads D.failed_writes) line.old store.old (W.contents writer.old) (byte ∷ [])
         result line.new store.new (W.contents writer.new) }
 {
     if byte != b'\n' {
@@ -67,15 +70,16 @@ fn hear<W: Write>(
 }
 
 /// Takes in more bytes and answers the lines that end in them. It stops at a quit.
-fn feed<W: Write>(
+fn feed<W: Write, D: Disk>(
     alloc: Global,
     line: &mut Line,
     outbox: &mut Outbox,
-    store: &mut ListStore,
+    store: &mut Store<D>,
     writer: &mut W,
     chunk: &[u8],
 ) -> Result<bool, Unwritten>
-    ensures { Hears MemoryStep line.old store.old (W.contents writer.old) chunk.now
+    ensures { Hears (Steps D.honest D.content D.is_open D.moment D.images_since
+        D.failed_reads D.failed_writes) line.old store.old (W.contents writer.old) chunk.now
         result line.new store.new (W.contents writer.new) }
 {
     for byte in chunk {
@@ -95,13 +99,14 @@ fn feed<W: Write>(
 ///
 /// What each ending means is `Ends`, in specs/: a fault names what was answered before it. How
 /// much behind a `quit` was taken from the reader is open.
-pub fn serve<R: Read, W: Write>(
+pub fn serve<R: Read, W: Write, D: Disk>(
     alloc: Global,
     reader: &mut R,
     writer: &mut W,
-    store: &mut ListStore,
+    store: &mut Store<D>,
 ) -> Result<Ended, ShellFault>
-    ensures { Ends MemoryStep store.old (R.remaining reader.old) (R.remaining reader.new)
+    ensures { Ends (Steps D.honest D.content D.is_open D.moment D.images_since
+        D.failed_reads D.failed_writes) store.old (R.remaining reader.old) (R.remaining reader.new)
         (W.contents writer.old) (W.contents writer.new) result store.new }
 {
     let Ok(mut line) = Line::new(alloc) else {

@@ -2,13 +2,14 @@
 use Rattle.std.proofs.Common.{arith, ap, sym, ◌∙◌, ◌≤◌, ◌+◌, ◌++◌, length, take, drop, append_assoc}
 use Rattle.std.specs.Simd.Lanes.{chunk}
 use Rattle.pk_sets.specs.Sets.{difference}
-use Rattle.pk_sets.proofs.ExclusionLemmas.{difference_four_left, difference_four_right}
+use Rattle.pk_sets.proofs.ExclusionLemmas.{difference_run, difference_pass, four_below}
 use Rattle.pk_sets.proofs.excluding.exclude_fours.Goals as goal
 
 pub fours-preserved-then-b-j : goal.fours-preserved-then-b-j
 fours-preserved-then-b-j c =
     let room : c.fours.j + 4 ≤ length c.args.b.now = omega arith in
-    let step = difference_four_right c.args.a.now c.args.b.now c.requires.rising_a c.requires.rising_b c.fours.i c.fours.j room c.if-b-j.true in
+    let step = difference_pass c.args.a.now c.args.b.now c.requires.rising_a c.requires.rising_b c.fours.i c.fours.j 4 room
+    (four_below c.args.b.now c.fours.j _ c.if-b-j.true) in
     record {
       in_a = omega arith;
       in_b = omega arith;
@@ -25,7 +26,7 @@ fours-preserved-then-a-i c =
     let front = take c.fours.n c.fours.out in
     let after = difference (drop (i + 4) a) (drop j b) in
     let room : i + 4 ≤ length a = omega arith in
-    let step = difference_four_left a b c.requires.rising_a c.requires.rising_b i j room c.if-a-i.true in
+    let step = difference_run a b c.requires.rising_a c.requires.rising_b i j 4 room (four_below a i _ c.if-a-i.true) in
     record {
       in_a = omega arith;
       in_b = omega arith;

@@ -4,7 +4,7 @@ use Rattle.pk_model.specs.Views.{reply_of}
 use Rattle.pk_shell.proofs.reply.found.Goals as goal
 
 pub returns-in-Ok-clause-reply : goal.returns-in-Ok-clause-reply
-returns-in-Ok-clause-reply c = inl (tree_of c.in-Ok.query, reply_of c.found_for.result, c.in-Ok.ensures.reads, c.found_for.ensures, refl)
+returns-in-Ok-clause-reply g c = inl (tree_of c.in-Ok.query, reply_of c.found_for.result, c.in-Ok.ensures.reads, c.found_for.ensures, refl)
 
 pub returns-in-Err-clause-reply : goal.returns-in-Err-clause-reply
-returns-in-Err-clause-reply c = inr (c.in-Err.fault, c.in-Err.ensures.fault, refl, refl)
+returns-in-Err-clause-reply g c = inr (c.in-Err.fault, c.in-Err.ensures.fault, refl, refl)

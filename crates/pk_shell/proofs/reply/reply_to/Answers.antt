@@ -1,6 +1,6 @@
 use Rattle.std.proofs.Common.{◌≡◌, refl, sym, ◌∙◌, ap, subst}
 use Rattle.std.specs.Prelude.{codes, ◌++◌}
-use Rattle.pk_store.specs.ListStore.{MemoryStep}
+use Rattle.pk_store.specs.Store.{Steps}
 use Rattle.pk_shell.specs.Asked.{asked_short, asked_text, is_quit}
 use Rattle.pk_shell.specs.AskView.{line_asks}
 use Rattle.pk_shell.specs.Script.{IsReply}
@@ -9,21 +9,21 @@ use Rattle.pk_shell.proofs.AskLemmas.{short_text, short_not_text}
 use Rattle.pk_shell.proofs.reply.reply_to.Goals as goal
 
 pub returns-in-Ok-clause-reply : goal.returns-in-Ok-clause-reply
-returns-in-Ok-clause-reply c =
+returns-in-Ok-clause-reply g c =
     let what : asked_short c.args.line.now ≡ line_asks c.ask_of.result = short_text _ c.in-Ok.ensures.cases.1 ∙ ap asked_text (sym c.in-Ok.ensures.cases.0) ∙ sym c.ask_of.ensures in
-    subst (λ a. IsReply MemoryStep c.args.store.now a (said_text c.reply_to_ask.result) c.reply_to_ask.new.store) (sym what) c.reply_to_ask.ensures.reply
+    subst (λ a. IsReply (Steps g.D.Disk.honest g.D.Disk.content g.D.Disk.is_open g.D.Disk.moment g.D.Disk.images_since g.D.Disk.failed_reads g.D.Disk.failed_writes) c.args.store.now a (said_text c.reply_to_ask.result) c.reply_to_ask.new.store) (sym what) c.reply_to_ask.ensures.reply
 
 pub returns-in-Ok-clause-bye : goal.returns-in-Ok-clause-bye
-returns-in-Ok-clause-bye c =
+returns-in-Ok-clause-bye g c =
     let what : asked_short c.args.line.now ≡ line_asks c.ask_of.result = short_text _ c.in-Ok.ensures.cases.1 ∙ ap asked_text (sym c.in-Ok.ensures.cases.0) ∙ sym c.ask_of.ensures in
     c.reply_to_ask.ensures.bye ∙ ap is_quit (sym what)
 
 pub returns-in-Err-clause-reply : goal.returns-in-Err-clause-reply
-returns-in-Err-clause-reply c =
+returns-in-Err-clause-reply g c =
     let what = short_not_text c.args.line.now _ c.in-Err.ensures.cases.1.front c.in-Err.ensures.valid_len c.in-Err.ensures.cases.0 in
-    subst (λ a. IsReply MemoryStep c.args.store.now a (codes "refused " ++ codes "not text") c.args.store.now) (sym what) (refl, refl)
+    subst (λ a. IsReply (Steps g.D.Disk.honest g.D.Disk.content g.D.Disk.is_open g.D.Disk.moment g.D.Disk.images_since g.D.Disk.failed_reads g.D.Disk.failed_writes) c.args.store.now a (codes "refused " ++ codes "not text") c.args.store.now) (sym what) (refl, refl)
 
 pub returns-in-Err-clause-bye : goal.returns-in-Err-clause-bye
-returns-in-Err-clause-bye c =
+returns-in-Err-clause-bye g c =
     let what = short_not_text c.args.line.now _ c.in-Err.ensures.cases.1.front c.in-Err.ensures.valid_len c.in-Err.ensures.cases.0 in
     ap is_quit (sym what)

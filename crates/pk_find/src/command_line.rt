@@ -1,0 +1,120 @@
+//! What the command line may say, and what it asks.
+
+ghost use Rattle.std.specs.Prelude.{IfSome};
+ghost use Rattle.pk_find.specs.Endings.{HasSize, IsOfSize};
+
+use clap::{Arg, ArgMatches, Command, value_parser};
+use std::alloc::{AllocError, Global};
+
+/// The fewest units of a store.
+const LEAST_UNITS: u64 = 64;
+
+/// The most units of a store.
+const MOST_UNITS: u64 = 2_147_483_648;
+
+const ABOUT: &str = "A Boolean search engine over lines of text";
+
+const CREATE_ABOUT: &str = "Makes a file with an empty store in it";
+
+const CREATE_HELP: &str = "\
+The store has N units of 512 bytes, from 64 to 2147483648, and its file gets that length at once.
+It never grows: 34 units are the store's own, and the others are for documents. A commit takes the
+bytes of its texts, 12 more for each and 24 more, in whole units side by side, and is refused where
+that room is not left. A store takes 64 commits of new documents.
+
+  pk_find create notes --units 65536
+
+makes a store of 32 MiB in the file `notes`, which must not be there yet.";
+
+const RUN_ABOUT: &str = "Answers commands from standard input, with the store in a file";
+
+const RUN_HELP: &str = "\
+Commands, one on each line, each answered by one line:
+  add TEXT     adds a document and tells its number
+  delete N     deletes document N, which must not be committed yet
+  find QUERY   tells the documents that satisfy the query
+  show N       tells the text of document N
+  commit       writes what was added since the last commit to the file
+  count        tells how many documents live, and the next number
+  quit         ends the session
+
+What is not committed is lost when the session ends or the machine stops. What is committed stays:
+`committed` is told once it is on the disk.
+
+A query is words, joined by AND, OR, NOT and brackets: red (apple OR pear) NOT green
+Words side by side are joined by AND. Case does not matter in a word; AND, OR and NOT are written
+in capitals.
+
+A line that is not done is answered `refused` and why. After `refused reopen` end the session and
+run the program again: what was committed before is there.";
+
+const PATH_HELP: &str = "The file of the store";
+
+/// What a command line asks.
+#[derive(Clone, Copy)]
+pub enum Asked<'a> {
+    /// A file of so many units with an empty store.
+    Create { path: &'a str, units: u64 },
+    /// A session with the store in a file.
+    Run { path: &'a str },
+}
+
+/// The path, which each command takes.
+fn path<'a>(alloc: Global) -> Arg<'a> {
+    Arg::new(alloc, "PATH").required(true).help(PATH_HELP)
+}
+
+/// The number of units, within the range of a store's.
+fn units<'a>(alloc: Global) -> Arg<'a> {
+    Arg::new(alloc, "units")
+        .long("units")
+        .value_name("N")
+        .required(true)
+        .value_parser(value_parser!(u64).range(64..=2_147_483_648))
+        .help("Its size in units of 512 bytes")
+}
+
+/// What the command line may say.
+pub fn program<'a>(alloc: Global) -> Result<Command<'a>, AllocError> {
+    let create = Command::new(alloc, "create")
+        .about(CREATE_ABOUT)
+        .after_help(CREATE_HELP)
+        .arg(path(alloc))?
+        .arg(units(alloc))?;
+    let run = Command::new(alloc, "run")
+        .about(RUN_ABOUT)
+        .after_help(RUN_HELP)
+        .arg(path(alloc))?;
+    Command::new(alloc, "pk_find")
+        .about(ABOUT)
+        .subcommand_required(true)
+        .arg_required_else_help(true)
+        .subcommand(create)?
+        .subcommand(run)
+}
+
+/// How many units `create` is to make. The range is the command line's own.
+fn units_of(matches: &ArgMatches<'_>) -> Option<u64>
+    ensures { IfSome result IsOfSize }
+{
+    match matches.get_one::<u64>("units") {
+        Some(units) if (LEAST_UNITS..=MOST_UNITS).contains(&units) => Some(units),
+        _ => None,
+    }
+}
+
+/// What a command line asks that was not refused.
+pub fn asked_by<'a>(matches: &ArgMatches<'a>) -> Option<Asked<'a>>
+    ensures { IfSome result HasSize }
+{
+    match matches.subcommand() {
+        Some(("create", given)) => Some(Asked::Create {
+            path: given.get_str("PATH")?,
+            units: units_of(given)?,
+        }),
+        Some(("run", given)) => Some(Asked::Run {
+            path: given.get_str("PATH")?,
+        }),
+        _ => None,
+    }
+}

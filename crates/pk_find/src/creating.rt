@@ -1,0 +1,59 @@
+//! A new store.
+
+ghost use Rattle.std.specs.Prelude.{◌≡◌, ◌⊎◌};
+ghost use Rattle.pk_find.specs.Endings.{IsFileMade, IsMade, IsOfSize};
+
+use super::telling::{DONE, FAILED, fail, file_reason, store_reason};
+use pk_disk::Disk;
+use pk_filedisk::FileDisk;
+use pk_store::Store;
+use std::alloc::Global;
+use std::fs::OpenFile;
+use std::io::Write;
+use std::os::unix::fs::FileExt;
+use std::rt::Files;
+
+/// The most decoded blocks that a store keeps.
+pub const CACHE_BLOCKS: u32 = 256;
+
+/// Makes an empty store on a disk of so many units, and tells that.
+fn create_on<D: Disk + Drop, W: Write, E: Write>(
+    alloc: Global,
+    disk: D,
+    units: u64,
+    output: &mut W,
+    faults: &mut E,
+) -> u8
+    ensures status { (result ≡ DONE) ⊎ (result ≡ FAILED) }
+    ensures made { result ≡ DONE → IsMade D.Disk disk units
+        (W.contents output.old) (W.contents output.new) }
+{
+    match Store::create(alloc, disk, CACHE_BLOCKS) {
+        Ok(_) => {}
+        Err(refused) => return fail(faults, store_reason(refused.why)),
+    }
+    match writeln!(output, "created {units} units") {
+        Ok(()) => DONE,
+        Err(_) => fail(faults, "output"),
+    }
+}
+
+/// Makes a file of so many units with an empty store.
+pub fn create<F: FileExt + OpenFile + Drop, S: Files<File = F>, W: Write, E: Write>(
+    rt: &S,
+    alloc: Global,
+    path: &str,
+    units: u64,
+    output: &mut W,
+    faults: &mut E,
+) -> u8
+    requires { IsOfSize units }
+    ensures status { (result ≡ DONE) ⊎ (result ≡ FAILED) }
+    ensures made { result ≡ DONE → IsFileMade ⟦<FileDisk<F> as Disk>⟧ units
+        (W.contents output.old) (W.contents output.new) }
+{
+    match FileDisk::make(rt, path, units) {
+        Ok(disk) => create_on(alloc, disk, units, output, faults),
+        Err(fault) => fail(faults, file_reason(fault)),
+    }
+}

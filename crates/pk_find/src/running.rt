@@ -1,0 +1,58 @@
+//! A session with a store.
+
+ghost use Rattle.std.specs.Prelude.{◌≡◌, ◌⊎◌};
+ghost use Rattle.pk_find.specs.Endings.{IsFileSession, IsSession};
+
+use super::creating::CACHE_BLOCKS;
+use super::telling::{DONE, FAILED, fail, file_reason, session_reason, store_reason};
+use pk_disk::Disk;
+use pk_filedisk::FileDisk;
+use pk_shell::serve;
+use pk_store::Store;
+use std::alloc::Global;
+use std::fs::OpenFile;
+use std::io::{Read, Write};
+use std::os::unix::fs::FileExt;
+use std::rt::Files;
+
+/// Answers the lines of the input, from the store on a disk.
+fn run_on<D: Disk + Drop, R: Read, W: Write, E: Write>(
+    alloc: Global,
+    disk: D,
+    input: &mut R,
+    output: &mut W,
+    faults: &mut E,
+) -> u8
+    ensures status { (result ≡ DONE) ⊎ (result ≡ FAILED) }
+    ensures served { result ≡ DONE → IsSession D.Disk disk (R.remaining input.old)
+        (R.remaining input.new) (W.contents output.old) (W.contents output.new) }
+{
+    let mut store = match Store::open_on(alloc, disk, CACHE_BLOCKS) {
+        Ok(store) => store,
+        Err(refused) => return fail(faults, store_reason(refused.why)),
+    };
+    match serve(alloc, input, output, &mut store) {
+        Ok(_) => DONE,
+        Err(fault) => fail(faults, session_reason(fault)),
+    }
+}
+
+/// Answers the lines of the input, from the store in a file.
+pub fn run<F: FileExt + OpenFile + Drop, S: Files<File = F>, R: Read, W: Write, E: Write>(
+    rt: &S,
+    alloc: Global,
+    path: &str,
+    input: &mut R,
+    output: &mut W,
+    faults: &mut E,
+) -> u8
+    ensures status { (result ≡ DONE) ⊎ (result ≡ FAILED) }
+    ensures served { result ≡ DONE → IsFileSession ⟦<FileDisk<F> as Disk>⟧
+        (R.remaining input.old) (R.remaining input.new)
+        (W.contents output.old) (W.contents output.new) }
+{
+    match FileDisk::on(rt, path) {
+        Ok(disk) => run_on(alloc, disk, input, output, faults),
+        Err(fault) => fail(faults, file_reason(fault)),
+    }
+}

@@ -1,0 +1,83 @@
+-- What the steps of opening answer: one entry, the segments of a body, and the whole of it.
+use Rattle.std.specs.Prelude.{◌≡◌, ◌<◌, ℕ, List, ◌++◌, Result, Ok, Err}
+use Rattle.std.specs.Global.{Vec}
+use Rattle.pk_disk.specs.Disk.{Rose}
+use Rattle.pk_manifest.specs.declared.fault.ManifestFault.{ManifestFault}
+use Rattle.pk_manifest.specs.declared.fault.ManifestFault.TheVariants as manifest
+use Rattle.pk_manifest.specs.declared.manifest.Part.{Part as Entry}
+use Rattle.pk_manifest.specs.Spelling.{Body as Table, view}
+use Rattle.pk_segment.specs.declared.segment.Segment.{Segment}
+use Rattle.pk_segment.specs.Opened.{first_of, last_of}
+use Rattle.pk_store.specs.declared.opening.Found.{Found}
+use Rattle.pk_store.specs.declared.refused.OpenFault.{OpenFault}
+use Rattle.pk_store.specs.declared.refused.OpenFault.TheVariants.{TooSmall, AlreadyAStore}
+use Rattle.pk_store.specs.declared.refused.OpenFault.TheVariants.{NotAStore, Damaged, Disk, Memory}
+use Rattle.pk_store.specs.Opening.{FaultCause, OpenAsSegments, OpensAs, OpensAsSegment}
+use Rattle.pk_store.specs.Opening.{RefusesOpening}
+
+-- what a fault of the body in force means to opening
+abbrev pub body_fault : ManifestFault → OpenFault
+body_fault manifest.NotAStore = NotAStore
+body_fault manifest.Damaged = Damaged
+body_fault manifest.Disk = Disk
+body_fault manifest.UsedUp = Memory
+body_fault manifest.Memory = Memory
+
+-- Disk is answered exactly where a read failed; whether the disk has a store was told before
+abbrev pub SegmentCause : {T : Type 0} → Result T OpenFault → ℕ → ℕ → Type 0
+SegmentCause (Ok v) reads reads' = reads' ≡ reads
+SegmentCause (Err TooSmall) reads reads' = ⊥
+SegmentCause (Err AlreadyAStore) reads reads' = ⊥
+SegmentCause (Err NotAStore) reads reads' = ⊥
+SegmentCause (Err Damaged) reads reads' = reads' ≡ reads
+SegmentCause (Err Disk) reads reads' = Rose reads reads'
+SegmentCause (Err Memory) reads reads' = reads' ≡ reads
+
+-- the entry opens as this segment, whose numbers are above low and below next
+abbrev pub OpensNext : List ℕ → ℕ → ℕ → Entry → Segment → Type 0
+OpensNext bytes low next e s =
+    OpensAsSegment bytes e s × (low < first_of s) × (last_of s < next)
+
+-- a segment that is P, or, where it is damaged, none is
+abbrev pub SegmentAs : (Segment → Type 0) → Result Segment OpenFault → Type 0
+SegmentAs P (Ok s) = P s
+SegmentAs P (Err TooSmall) = ⊥
+SegmentAs P (Err AlreadyAStore) = ⊥
+SegmentAs P (Err NotAStore) = ⊥
+SegmentAs P (Err Damaged) = (s : Segment) → P s → ⊥
+SegmentAs P (Err Disk) = Unit {0}
+SegmentAs P (Err Memory) = Unit {0}
+
+-- the entries open as those segments, or, where one is damaged, as none
+abbrev pub SegmentsAs : List ℕ → Table → Result (Vec Segment) OpenFault → Type 0
+SegmentsAs bytes table (Ok v) = OpenAsSegments bytes 0 table.next_number table.entries v.items
+SegmentsAs bytes table (Err TooSmall) = ⊥
+SegmentsAs bytes table (Err AlreadyAStore) = ⊥
+SegmentsAs bytes table (Err NotAStore) = ⊥
+SegmentsAs bytes table (Err Damaged) = (segments : List Segment)
+    → OpenAsSegments bytes 0 table.next_number table.entries segments → ⊥
+SegmentsAs bytes table (Err Disk) = Unit {0}
+SegmentsAs bytes table (Err Memory) = Unit {0}
+
+-- So far these segments are open, the last of their numbers is low, and those entries are left.
+pub record IsOpenSoFar (bytes : List ℕ) (next : ℕ) (entries : List Entry) (low : ℕ)
+    (segments : List Segment) (left : List Entry) : Type 0 where
+  pub onward : (rest : List Segment) → OpenAsSegments bytes low next left rest
+      → OpenAsSegments bytes 0 next entries (segments ++ rest)
+  pub back : (all : List Segment) → OpenAsSegments bytes 0 next entries all
+      → (rest : List Segment) × OpenAsSegments bytes low next left rest
+
+-- what was found on the disk, by its bytes
+abbrev pub FoundAs : List ℕ → Result Found OpenFault → Type 0
+FoundAs bytes (Ok found) = OpensAs bytes found.half (view found.manifest) found.segments.items
+FoundAs bytes (Err why) = RefusesOpening bytes why
+
+-- Disk is answered exactly where a read, or the sync, failed; the size was told before
+abbrev pub FoundCause : {T : Type 0} → Result T OpenFault → ℕ → ℕ → ℕ → ℕ → Type 0
+FoundCause (Ok v) r r' w w' = (r' ≡ r) × (w' ≡ w)
+FoundCause (Err TooSmall) r r' w w' = ⊥
+FoundCause (Err AlreadyAStore) r r' w w' = ⊥
+FoundCause (Err NotAStore) r r' w w' = FaultCause NotAStore r r' w w'
+FoundCause (Err Damaged) r r' w w' = FaultCause Damaged r r' w w'
+FoundCause (Err Disk) r r' w w' = FaultCause Disk r r' w w'
+FoundCause (Err Memory) r r' w w' = FaultCause Memory r r' w w'
