@@ -1,5 +1,5 @@
 //! The commands that read the disk, and nothing else.
-ghost use Rattle.std.specs.Prelude.{◌≡◌, ◌≤◌, ◌<◌, ◌+◌, ◌++◌, ◌∷◌, [], ℕ, List, length, IfOk};
+ghost use Rattle.std.specs.Prelude.{◌≡◌, ◌≤◌, ◌<◌, ◌+◌, ◌++◌, ◌∷◌, [], List, length, IfOk};
 ghost use Rattle.std.specs.Prelude.{All, MatchOption, slice_index_or, string_bytes, sum_by, ◌^◌};
 ghost use Rattle.pk_disk.specs.Units.{extent_bytes, start_of};
 ghost use Rattle.pk_model.specs.Collection.{Doc, answer};
@@ -43,11 +43,10 @@ impl<D: Disk> Store<D> {
             return Err(Refusal::Reopen);
         }
         let mut numbers = Vec::new(alloc);
-        let entries = &self.manifest.entries;
         let stored = find_stored(
             alloc,
             &mut self.disk,
-            entries,
+            &self.manifest.entries,
             &self.segments,
             query,
             &mut numbers,

@@ -102,18 +102,17 @@ fn store(
     assert!(rt; manifest.next_number == 7);
     let one = Segment::open(&mut SliceSource::new(first), 52, 1)?;
     let two = Segment::open(&mut SliceSource::new(&SECOND), 39, 1)?;
-    let segments = Vec::from_array(alloc, [one, two])?;
-    let mut buffer = Buffer::new(alloc);
-    buffer.add(DocNo(7), "a c")?;
-    Ok(Store {
+    let mut store = Store {
         disk: FaultDisk::once(below, k),
         manifest,
-        segments,
+        segments: Vec::from_array(alloc, [one, two])?,
         spare: half.other(),
-        buffer,
-        next: 8,
+        buffer: Buffer::new(alloc),
+        next: 7,
         reopen: false,
-    })
+    };
+    assert_eq!(rt; store.add(alloc, "a c"), Ok(DocNo(7)));
+    Ok(store)
 }
 
 // A query for one word.

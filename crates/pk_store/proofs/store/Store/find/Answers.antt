@@ -15,6 +15,7 @@ use Rattle.pk_store.specs.Kept.{AreSegments}
 use Rattle.pk_store.specs.Stored.{SpellsEntries}
 use Rattle.pk_store.proofs.FindingLemmas.{found_both}
 use Rattle.pk_store.proofs.ReadSteps.{answers_read, refuses_read, refuses_fault, find_fails, find_named, finds}
+use Rattle.pk_store.proofs.StoredLemmas.{lie_inside}
 use Rattle.pk_store.proofs.StoreSteps.{reopens, refuses}
 use Rattle.pk_store.proofs.store.Store.find.Goals as goal
 
@@ -54,3 +55,7 @@ returns-clause-step g c =
     (c.in_default.ensures.found h stored (subst (λ (es : List Entry). SpellsEntries (g.D.Disk.content c.self.inside.disk) es stored) (sym c.deref.ensures.value) is.spelled)
     (subst (λ (ss : List Segment). AreSegments ss stored) (sym c.deref-2.ensures.value) is.opened))
     c.in-Ok.ensures c.in-Ok-append.ensures.items)))
+
+-- the entries lie within the disk
+pub find_stored-stored-requires : goal.find_stored-stored-requires
+find_stored-stored-requires g c = rw c.deref.ensures.value (lie_inside (g.D.Disk.content c.self.inside.disk) (view c.self.inside.manifest) c.self.invariant.1.sound)

@@ -1,5 +1,5 @@
 -- What each way out of it answers: the text of the segment whose span the number lies in, or of the buffer, or what stopped the look-up.
-use Rattle.std.proofs.Common.{◌≡◌, sym, refl, subst, true, false, List, [], get_or, string_bytes}
+use Rattle.std.proofs.Common.{arith, ◌≡◌, sym, refl, subst, true, false, List, [], get_or, string_bytes}
 use Rattle.pk_manifest.specs.Spelling.{view}
 use Rattle.pk_model.specs.Collection.{is_live}
 use Rattle.pk_model.specs.Steps.{show, text_is, text_of}
@@ -10,8 +10,10 @@ use Rattle.pk_segment.specs.Extent.{keeps_disk_none}
 use Rattle.std.specs.Prelude.{All}
 use Rattle.pk_store.specs.Finding.{Spans}
 use Rattle.pk_store.specs.Store.{Shown, state_with}
+use Rattle.pk_store.proofs.FindingLemmas.{inside_at}
 use Rattle.pk_store.proofs.LiveLemmas.{located}
 use Rattle.pk_store.proofs.ReadSteps.{answers_read, refuses_read, refuses_fault, show_fails, show_named, shown_here, missing_here, shown_buffered, missing_buffered, spelled_here, opened_here}
+use Rattle.pk_store.proofs.StoredLemmas.{lie_inside}
 use Rattle.pk_store.proofs.StoreSteps.{reopens, refuses}
 use Rattle.pk_store.proofs.store.Store.show.Goals as goal
 use Rattle.pk_store.proofs.store.Store.show.Goals.{in-Ok-Some-text_of, in-Ok-None-text_of, in-Err-text_of}
@@ -75,3 +77,10 @@ returns-clause-step g c =
           rw (w.result-is, ← c.self.view_is) (refuses_read shown c.self.inside.disk c.if-self.false (keeps_disk_none _ _ _ _ _ _ _) (show n) Memory
           (λ h stored is. (show_fails (state_with shown stored) n fault.Memory c.if-self.false tt, tt)) refl (refl, refl, refl))
     ]
+
+-- the entry lies within the disk
+pub text_in-requires : goal.text_in-requires
+text_in-requires g c =
+    let within = located c.self.inside.segments.items _ c.in-Some.place c.args.number.0 c.index-segment.result.now c.deref.ensures.value c.in-Some.ensures c.index-segment.ensures in
+    inside_at _ c.self.inside.manifest.entries.items c.in-Some.place c.index.result.now (lie_inside (g.D.Disk.content c.self.inside.disk) (view c.self.inside.manifest) c.self.invariant.1.sound)
+    (omega (arith, within.0, c.self.invariant.1.opened)) c.index.ensures
