@@ -1,0 +1,216 @@
+"""Measures a store of the program in a file beside SQLite FTS5 in a file, on the same texts.
+
+    measure.py PROGRAM LINES [RUNS]
+
+LINES has a text a line. In each run the program, FTS5 and a table of SQLite without an index of
+words take all of them, one after the other, each 4,096 made lasting at once; they take turns in
+going first. What the last run left is then opened and asked.
+"""
+
+import collections
+import os
+import pathlib
+import platform
+import re
+import resource
+import shutil
+import sqlite3
+import statistics
+import subprocess
+import sys
+import tempfile
+import time
+import unicodedata
+
+from peers import Fts5, Program, Table, size_on_disk
+
+OPENINGS = 31
+SHOWS = 1_000
+FINDS = {"program": 3, "FTS5": 31}
+
+
+def processor_seconds(whose):
+    usage = resource.getrusage(whose)
+    return usage.ru_utime + usage.ru_stime
+
+
+def fill_program(program, path, texts):
+    """A new store with the texts: seconds, and processor seconds of the whole session."""
+    pathlib.Path(path).unlink(missing_ok=True)
+    Program.create(program, path, max(4_096, 2 * len(texts)))
+    os.sync()
+    before = processor_seconds(resource.RUSAGE_CHILDREN)
+    session = Program(program, path)
+    session.count()
+    seconds = session.fill(texts)
+    session.close()
+    return seconds, processor_seconds(resource.RUSAGE_CHILDREN) - before
+
+
+def fill_sqlite(kind, path, texts):
+    """The same with a table of SQLite."""
+    pathlib.Path(path).unlink(missing_ok=True)
+    base = kind(path)
+    base.create()
+    os.sync()
+    before = processor_seconds(resource.RUSAGE_SELF)
+    seconds = base.fill(texts)
+    used = processor_seconds(resource.RUSAGE_SELF) - before
+    base.close()
+    return seconds, used
+
+
+def pick_words(texts):
+    """A word of about 20 texts and one of about a tenth of them.
+
+    Only words of small letters that both find in the same texts: the program cuts at less than FTS5
+    does, which also drops accents.
+    """
+    ours, theirs = collections.Counter(), collections.Counter()
+    for text in texts:
+        text = text.lower()
+        apart = unicodedata.normalize("NFD", text)
+        plain = "".join(letter for letter in apart if not unicodedata.combining(letter))
+        ours.update(set(re.findall(r"\w+(?:['’.:·]\w+)*", text)))
+        theirs.update(set(re.findall(r"[^\W_]+", plain)))
+    same = [w for w in ours if re.fullmatch("[a-z]{4,}", w) and ours[w] == theirs[w]]
+
+    def nearest(wanted):
+        return min(same, key=lambda word: (abs(ours[word] - wanted), word))
+
+    return [nearest(20), nearest(len(texts) / 10)]
+
+
+def timed(times, action):
+    """The median seconds of the action, and its last answer."""
+    seconds = []
+    for _ in range(times):
+        start = time.perf_counter()
+        answer = action()
+        seconds.append(time.perf_counter() - start)
+    return statistics.median(seconds), answer
+
+
+def open_program(program, path):
+    """The least seconds from the start of the process to the reply to `count`."""
+    seconds = []
+    for _ in range(OPENINGS):
+        start = time.perf_counter()
+        session = Program(program, path)
+        session.count()
+        seconds.append(time.perf_counter() - start)
+        session.close()
+    return min(seconds)
+
+
+def bytes_read(program, path, lines, folder):
+    """The calls that read the store while the lines are answered, and the bytes that they gave."""
+    log = f"{folder}/reads"
+    command = ["strace", "-f", "-e", "trace=pread64", "-o", log, program, "run", path]
+    subprocess.run(command, input=lines, text=True, check=True, stdout=subprocess.DEVNULL)
+    given = re.findall(r"pread64\(.*= (\d+)$", pathlib.Path(log).read_text(errors="replace"), re.M)
+    return len(given), sum(map(int, given))
+
+
+def show_all(side, numbers, texts):
+    """Seconds to show the numbers, one after the other."""
+    start = time.perf_counter()
+    shown = [side.show(number) for number in numbers]
+    seconds = time.perf_counter() - start
+    if shown != [texts[number - 1] for number in numbers]:
+        sys.exit("measure: a text came back changed")
+    return seconds
+
+
+def processor():
+    for line in pathlib.Path("/proc/cpuinfo").read_text().splitlines():
+        if line.startswith("model name"):
+            return line.split(":")[1].strip()
+    return platform.processor()
+
+
+def row(what, figures, form, unit=1.0):
+    """A line of the table: the figures, and the first by each of the others."""
+    ours, *others = figures
+    told = [f"{figure * unit:{form}}" for figure in figures] + ["-"] * (2 - len(others))
+    ratios = [f"{ours / other:.2f}" for other in others] + ["-"] * (2 - len(others))
+    print("| " + " | ".join([what, *told, *ratios]) + " |", flush=True)
+
+
+def report_filling(filled, texts, paths):
+    print("| what | program | FTS5 | no index | program to FTS5 | to no index |")
+    print("|---|---|---|---|---|---|")
+    for what, pick in (("best", min), ("median", statistics.median)):
+        seconds = [pick(elapsed for elapsed, _ in results) for results in filled.values()]
+        row(f"add and commit, s, {what}", seconds, ".2f")
+        row(f"documents a second, {what}", [len(texts) / each for each in seconds], ".0f")
+    used = [statistics.median(cpu for _, cpu in results) for results in filled.values()]
+    row("processor s, median", used, ".2f")
+    row("file, MB", [size_on_disk(path) for path in paths.values()], ".1f", 1e-6)
+
+
+def report_asking(sides, texts):
+    for name, side in sides.items():
+        if side.count() != len(texts):
+            sys.exit(f"measure: {name} holds {side.count()} documents")
+    numbers = [1 + place * 7_919 % len(texts) for place in range(SHOWS)]
+    row(f"{SHOWS} shows, s", [show_all(side, numbers, texts) for side in sides.values()], ".4f")
+    for word in pick_words(texts):
+        found = {name: timed(FINDS[name], lambda: side.find(word)) for name, side in sides.items()}
+        (ours, hits), (theirs, their_hits) = found.values()
+        if hits != their_hits:
+            sys.exit(f"measure: {word} is in {hits} documents, and for FTS5 in {their_hits}")
+        row(f"find {word}, {hits} documents, ms", [ours, theirs], ".3f", 1e3)
+
+
+def report_opening(program, path, texts, folder):
+    empty = f"{folder}/empty"
+    Program.create(program, empty, 64)
+    print(f"opening and count, best of {OPENINGS}: {open_program(program, path) * 1e3:.2f} ms; "
+          f"of a store without documents: {open_program(program, empty) * 1e3:.2f} ms")
+    if shutil.which("strace") is None:
+        print("bytes read: left out, there is no strace")
+        return
+    calls, size = bytes_read(program, path, "count\nquit\n", folder)
+    print(f"read while opening: {size} bytes by {calls} calls")
+    middle = len(texts) // 2
+    more_calls, more = bytes_read(program, path, f"count\nshow {middle}\nquit\n", folder)
+    print(f"read by show {middle}, a text of {len(texts[middle - 1].encode())} bytes: "
+          f"{more - size} bytes by {more_calls - calls} calls")
+
+
+def main():
+    program = os.path.abspath(sys.argv[1])
+    lines = pathlib.Path(sys.argv[2])
+    texts = lines.read_text().split("\n")[:-1]
+    runs = int(sys.argv[3]) if len(sys.argv) > 3 else 3
+    with tempfile.TemporaryDirectory(dir=lines.parent) as folder:
+        paths = {"program": f"{folder}/store", "FTS5": f"{folder}/base", "no index": f"{folder}/table"}
+        ways = {
+            "program": lambda path: fill_program(program, path, texts),
+            "FTS5": lambda path: fill_sqlite(Fts5, path, texts),
+            "no index": lambda path: fill_sqlite(Table, path, texts),
+        }
+        filled = {name: [] for name in ways}
+        for run in range(runs):
+            for name in list(ways) if run % 2 == 0 else reversed(ways):
+                filled[name].append(ways[name](paths[name]))
+        size = sum(len(text.encode()) for text in texts)
+        print(f"{len(texts)} documents, {size / 1e6:.1f} MB, {runs} runs; {processor()}; "
+              f"SQLite {sqlite3.sqlite_version}; {time.strftime('%Y-%m-%d')}")
+        print(f"load as they were filled: {os.getloadavg()[0]:.1f} on {os.cpu_count()} processors")
+        for name, results in filled.items():
+            print(f"seconds of {name}:", *(f"{elapsed:.2f}" for elapsed, _ in results))
+        print()
+        report_filling(filled, texts, paths)
+        sides = {"program": Program(program, paths["program"]), "FTS5": Fts5(paths["FTS5"])}
+        report_asking(sides, texts)
+        for side in sides.values():
+            side.close()
+        print()
+        report_opening(program, paths["program"], texts, folder)
+        print(f"load as it ended: {os.getloadavg()[0]:.1f}")
+
+
+if __name__ == "__main__":
+    main()

@@ -1,0 +1,133 @@
+"""What measure.py measures: the program over a pipe, and SQLite in this process."""
+
+import os
+import pathlib
+import sqlite3
+import subprocess
+import threading
+import time
+
+BATCH = 4_096
+
+
+def replies_to(count):
+    """What the program answers to `count` added lines with a commit after each batch."""
+    for number in range(1, count + 1):
+        yield b"added %d\n" % number
+        if number % BATCH == 0 or number == count:
+            yield b"committed\n"
+
+
+def asks_for(texts):
+    """The lines that add the texts, with a commit after each batch."""
+    for start in range(0, len(texts), BATCH):
+        for text in texts[start : start + BATCH]:
+            yield f"add {text}\n"
+        yield "commit\n"
+
+
+class Program:
+    """A session of the program over a store: one line, one reply line."""
+
+    def __init__(self, program, path):
+        self.process = subprocess.Popen(
+            [program, "run", path], stdin=subprocess.PIPE, stdout=subprocess.PIPE
+        )
+
+    @staticmethod
+    def create(program, path, units):
+        command = [program, "create", path, "--units", str(units)]
+        subprocess.run(command, check=True, stdout=subprocess.DEVNULL)
+
+    def ask(self, line):
+        self.process.stdin.write(line.encode() + b"\n")
+        self.process.stdin.flush()
+        return self.process.stdout.readline().decode().rstrip("\n")
+
+    def fill(self, texts):
+        """Adds and commits the texts, and gives the seconds until the last reply."""
+        lines = "".join(asks_for(texts)).encode()
+        wanted = b"".join(replies_to(len(texts)))
+
+        def feed():
+            self.process.stdin.write(lines)
+            self.process.stdin.flush()
+
+        feeder = threading.Thread(target=feed, daemon=True)
+        replies = []
+        missing = len(wanted)
+        start = time.perf_counter()
+        feeder.start()
+        while missing > 0:
+            reply = os.read(self.process.stdout.fileno(), 65_536)
+            if not reply or b"refused" in reply:
+                raise SystemExit(f"measure: the program answered {reply[:200]!r}")
+            replies.append(reply)
+            missing -= len(reply)
+        seconds = time.perf_counter() - start
+        feeder.join()
+        if b"".join(replies) != wanted:
+            raise SystemExit("measure: the program's replies are not those of added lines")
+        return seconds
+
+    def count(self):
+        return int(self.ask("count").split()[1])
+
+    def find(self, word):
+        return int(self.ask(f"find {word}").split(":")[0].split()[1])
+
+    def show(self, number):
+        reply = self.ask(f"show {number}").removeprefix("text ")
+        return reply.replace("\\\\", "\\")
+
+    def close(self):
+        self.ask("quit")
+        self.process.wait()
+
+
+class Fts5:
+    """An FTS5 table with its texts in a file, without positions of words."""
+
+    table = "CREATE VIRTUAL TABLE documents USING fts5(text, detail=none)"
+
+    def __init__(self, path):
+        self.base = sqlite3.connect(path, isolation_level=None)
+        self.base.execute("PRAGMA journal_mode=DELETE")
+        self.base.execute("PRAGMA synchronous=FULL")
+
+    def create(self):
+        self.base.execute(self.table)
+
+    def fill(self, texts):
+        """Adds the texts, a transaction for each batch, and gives the seconds."""
+        rows = [(text,) for text in texts]
+        start = time.perf_counter()
+        for first in range(0, len(rows), BATCH):
+            self.base.execute("BEGIN")
+            self.base.executemany("INSERT INTO documents(text) VALUES (?)", rows[first : first + BATCH])
+            self.base.execute("COMMIT")
+        return time.perf_counter() - start
+
+    def count(self):
+        return self.base.execute("SELECT count(*) FROM documents").fetchone()[0]
+
+    def find(self, word):
+        query = "SELECT rowid FROM documents WHERE documents MATCH ? ORDER BY rowid"
+        return len(self.base.execute(query, (f'"{word}"',)).fetchall())
+
+    def show(self, number):
+        return self.base.execute("SELECT text FROM documents WHERE rowid = ?", (number,)).fetchone()[0]
+
+    def close(self):
+        self.base.close()
+
+
+class Table(Fts5):
+    """The texts in a table that has no index of their words, so that it finds nothing."""
+
+    table = "CREATE TABLE documents(text TEXT)"
+
+
+def size_on_disk(path):
+    """The bytes that the system holds for a file: a hole in it takes none."""
+    return pathlib.Path(path).stat().st_blocks * 512
