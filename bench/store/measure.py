@@ -185,15 +185,18 @@ def main():
     texts = lines.read_text().split("\n")[:-1]
     runs = int(sys.argv[3]) if len(sys.argv) > 3 else 3
     with tempfile.TemporaryDirectory(dir=lines.parent) as folder:
-        paths = {"program": f"{folder}/store", "FTS5": f"{folder}/base", "no index": f"{folder}/table"}
+        places = {"program": "store", "FTS5": "base", "no index": "table"}
+        paths = {name: f"{folder}/{place}" for name, place in places.items()}
         ways = {
             "program": lambda path: fill_program(program, path, texts),
             "FTS5": lambda path: fill_sqlite(Fts5, path, texts),
             "no index": lambda path: fill_sqlite(Table, path, texts),
         }
         filled = {name: [] for name in ways}
+        names = list(ways)
         for run in range(runs):
-            for name in list(ways) if run % 2 == 0 else reversed(ways):
+            first = run % len(names)
+            for name in names[first:] + names[:first]:
                 filled[name].append(ways[name](paths[name]))
         size = sum(len(text.encode()) for text in texts)
         print(f"{len(texts)} documents, {size / 1e6:.1f} MB, {runs} runs; {processor()}; "

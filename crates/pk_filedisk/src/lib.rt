@@ -1,8 +1,8 @@
 //! A disk in a real file.
 //!
 //! A caller sees a file of whole units of 512 bytes, 64 to 2^31 of them, as a `Disk`: its length
-//! never changes, each call is one read, write or sync of the system at a position, and a call
-//! answers a fault exactly where it raises its count. What bytes a real file holds, and what a
+//! never changes, each call reads, writes or syncs at a position of the file, and a call answers
+//! a fault exactly where it raises its count. What bytes a real file holds, and what a
 //! crash leaves of them, no clause says: the disk is not honest by contract.
 //!
 //! | call | what the system is asked |

@@ -46,7 +46,7 @@ Words side by side are joined by AND. Case does not matter in a word; AND, OR an
 in capitals.
 
 A line that is not done is answered `refused` and why. After `refused reopen` end the session and
-run the program again: what was committed before is there.";
+run the program again: what was committed before is there, and of what was not, all or nothing.";
 
 const PATH_HELP: &str = "The file of the store";
 

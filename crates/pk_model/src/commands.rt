@@ -8,7 +8,7 @@ use super::queries::Query;
 pub enum Command {
     /// Adds a document with this text.
     Add(String),
-    /// Deletes the live document of this number.
+    /// Deletes the live document of this number; so far one that is not committed yet.
     Delete(DocNo),
     /// Asks for the numbers of the live documents that satisfy the query.
     Find(Query),
@@ -40,7 +40,7 @@ pub enum Refusal {
     BufferFull,
     /// The next number is 4,294,967,295, or a generation or segment id has reached its end.
     NumbersUsedUp,
-    /// No live document has the number.
+    /// No live document has the number; for a deletion, so far, none that is not committed yet.
     NoSuchDocument,
     /// The body in force names as many segments as it can, and a document is new.
     TooManySegments,

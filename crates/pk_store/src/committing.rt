@@ -2,11 +2,11 @@
 //!
 //! 1. All memory is taken and all places are (`planning`). Nothing of the disk was touched.
 //! 2. The new segment and the next body are put in force (`replacing`).
-ghost use Rattle.std.specs.Prelude.{◌≡◌, ◌==◌, ◌&&◌, not};
+ghost use Rattle.std.specs.Prelude.{◌≡◌, ◌==◌, ◌&&◌, false, not};
 ghost use Rattle.pk_manifest.specs.Spelling.{view};
 ghost use Rattle.pk_model.specs.Steps.{commit, committed};
 ghost use Rattle.pk_model.specs.Legal.{answered};
-ghost use Rattle.pk_store.specs.Plan.{DueAs, IsPlan, MayCommit};
+ghost use Rattle.pk_store.specs.Plan.{DueAs, IsPlan, MayCommit, is_new};
 ghost use Rattle.pk_store.specs.Store.{Steps};
 
 use crate::planning::{Plan, plan_commit};
@@ -41,16 +41,18 @@ fn due(manifest: &Manifest, buffered: usize) -> Option<Refusal>
 impl<D: Disk> Store<D> {
     /// Writes what is uncommitted to the disk, so that it outlives a crash: the buffered documents
     /// as one segment in the first run of free units that fits, if there are any, and the body
-    /// that names it. Where nothing is new, which also a next number that rose is, it makes no
-    /// call of the device.
+    /// that names it. Without a new document, and with the next number as it was committed, there
+    /// is nothing to do, and no call of the device is made.
     ///
     /// Refused, in this order, as reopen; as numbers used up where no generation or no segment id
-    /// is left; as too many segments where 64 are there and a document is new; as segment too large
-    /// or as full; as memory. As disk where the device failed: after a write or a sync that failed
-    /// the store has to be opened again.
+    /// is left; as too many segments where 64 are there and a document is new. Then as segment too
+    /// large, as full or as memory, before anything is written. As disk where the device failed:
+    /// after a write or a sync that failed the store has to be opened again.
     pub fn commit(&mut self, alloc: Global) -> Result<(), Refusal>
         ensures step { Steps D.honest D.content D.is_open D.moment D.images_since D.failed_reads
             D.failed_writes self.old commit (answered (λ _. committed) result) self.new }
+        // With nothing to do neither the store nor the disk is touched.
+        ensures untouched { is_new self.old ≡ false → self.new ≡ self.old }
     {
         let buffered = self.buffer.len();
         if self.reopen {

@@ -12,22 +12,22 @@ use Rattle.pk_store.proofs.CommitRefusals.{news_is, flag_steps, nothing_steps, d
 use Rattle.pk_store.proofs.NextLemmas.{says_sound}
 use Rattle.pk_store.proofs.store.Store.commit.Goals as goal
 
-pub returns-then-self : goal.returns-then-self
-returns-then-self g c =
+pub returns-then-self-clause-step : goal.returns-then-self-clause-step
+returns-then-self-clause-step g c =
     let shown : Shown _ = record { disk = c.self.inside.disk; table = view c.self.inside.manifest; segments = c.self.inside.segments.items; spare = c.self.inside.spare; buffer = c.self.inside.buffer; next = c.self.inside.next; reopen = c.self.inside.reopen } in
-    record { step = rw (sym c.self.view_is) (flag_steps g.D.Disk.honest g.D.Disk.content g.D.Disk.is_open g.D.Disk.moment g.D.Disk.images_since g.D.Disk.failed_reads g.D.Disk.failed_writes shown c.if-self.true) }
+    rw (sym c.self.view_is) (flag_steps g.D.Disk.honest g.D.Disk.content g.D.Disk.is_open g.D.Disk.moment g.D.Disk.images_since g.D.Disk.failed_reads g.D.Disk.failed_writes shown c.if-self.true)
 
-pub returns-then-not-has_news : goal.returns-then-not-has_news
-returns-then-not-has_news g c =
+pub returns-then-not-has_news-clause-step : goal.returns-then-not-has_news-clause-step
+returns-then-not-has_news-clause-step g c =
     let shown : Shown _ = record { disk = c.self.inside.disk; table = view c.self.inside.manifest; segments = c.self.inside.segments.items; spare = c.self.inside.spare; buffer = c.self.inside.buffer; next = c.self.inside.next; reopen = c.self.inside.reopen } in
     let none : is_new shown ≡ false = news_is shown false (sym c.if-not-has_news.true ∙ c.has_news.ensures ∙ ap (λ (n : ℕ). not ((n == 0) && (c.self.inside.next == c.self.inside.manifest.next_number))) c.len-buffered.ensures) in
-    record { step = rw (sym c.self.view_is) (nothing_steps g.D.Disk.honest g.D.Disk.content g.D.Disk.is_open g.D.Disk.moment g.D.Disk.images_since g.D.Disk.failed_reads g.D.Disk.failed_writes shown c.if-self.false c.self.invariant.0 none) }
+    rw (sym c.self.view_is) (nothing_steps g.D.Disk.honest g.D.Disk.content g.D.Disk.is_open g.D.Disk.moment g.D.Disk.images_since g.D.Disk.failed_reads g.D.Disk.failed_writes shown c.if-self.false c.self.invariant.0 none)
 
-pub returns-in-Some : goal.returns-in-Some
-returns-in-Some g c =
+pub returns-in-Some-clause-step : goal.returns-in-Some-clause-step
+returns-in-Some-clause-step g c =
     let shown : Shown _ = record { disk = c.self.inside.disk; table = view c.self.inside.manifest; segments = c.self.inside.segments.items; spare = c.self.inside.spare; buffer = c.self.inside.buffer; next = c.self.inside.next; reopen = c.self.inside.reopen } in
     let new : is_new shown ≡ true = news_is shown true (sym c.if-not-has_news.false ∙ c.has_news.ensures ∙ ap (λ (n : ℕ). not ((n == 0) && (c.self.inside.next == c.self.inside.manifest.next_number))) c.len-buffered.ensures) in
-    record { step = rw (sym c.self.view_is) (due_steps g.D.Disk.honest g.D.Disk.content g.D.Disk.is_open g.D.Disk.moment g.D.Disk.images_since g.D.Disk.failed_reads g.D.Disk.failed_writes shown c.if-self.false c.self.invariant.0 c.in-Some.why new (subst (λ (n : ℕ). DueAs shown.table n (Some c.in-Some.why)) c.len-buffered.ensures c.in-Some.ensures)) }
+    rw (sym c.self.view_is) (due_steps g.D.Disk.honest g.D.Disk.content g.D.Disk.is_open g.D.Disk.moment g.D.Disk.images_since g.D.Disk.failed_reads g.D.Disk.failed_writes shown c.if-self.false c.self.invariant.0 c.in-Some.why new (subst (λ (n : ℕ). DueAs shown.table n (Some c.in-Some.why)) c.len-buffered.ensures c.in-Some.ensures))
 
 pub plan_commit-requires-clause-sound : goal.plan_commit-requires-clause-sound
 plan_commit-requires-clause-sound g c =
@@ -68,14 +68,14 @@ carry_out-requires-clause-planned g c =
     let shown : Shown _ = record { disk = c.self.inside.disk; table = view c.self.inside.manifest; segments = c.self.inside.segments.items; spare = c.self.inside.spare; buffer = c.self.inside.buffer; next = c.self.inside.next; reopen = c.self.inside.reopen } in
     subst (λ (x : Shown _). IsPlan x.table x.segments x.buffer x.next c.in-Ok.plan) c.self.view_is (rw (c.deref.ensures.value, c.documents-documents.ensures.documents) at c.in-Ok.ensures)
 
-pub returns-in-Ok : goal.returns-in-Ok
-returns-in-Ok g c =
-    record { step = c.carry_out.ensures.step }
+pub returns-in-Ok-clause-step : goal.returns-in-Ok-clause-step
+returns-in-Ok-clause-step g c =
+    c.carry_out.ensures.step
 
-pub returns-in-Err : goal.returns-in-Err
-returns-in-Err g c =
+pub returns-in-Err-clause-step : goal.returns-in-Err-clause-step
+returns-in-Err-clause-step g c =
     let shown : Shown _ = record { disk = c.self.inside.disk; table = view c.self.inside.manifest; segments = c.self.inside.segments.items; spare = c.self.inside.spare; buffer = c.self.inside.buffer; next = c.self.inside.next; reopen = c.self.inside.reopen } in
     let new : is_new shown ≡ true = news_is shown true (sym c.if-not-has_news.false ∙ c.has_news.ensures ∙ ap (λ (n : ℕ). not ((n == 0) && (c.self.inside.next == c.self.inside.manifest.next_number))) c.len-buffered.ensures) in
     let due : DueAs shown.table (length shown.buffer) None = subst (λ (n : ℕ). DueAs shown.table n None) c.len-buffered.ensures c.in_default.ensures in
     let may : MayCommit shown = record { clear = c.if-self.false; new = new; generation = due.0; id = due.1; room = due.2 } in
-    record { step = rw (sym c.self.view_is) (unplanned_steps g.D.Disk.honest g.D.Disk.content g.D.Disk.is_open g.D.Disk.moment g.D.Disk.images_since g.D.Disk.failed_reads g.D.Disk.failed_writes shown c.if-self.false c.self.invariant.0 c.in-Err.why may (subst (λ (docs : List Doc). PlansAs shown.table shown.segments docs shown.next (Err c.in-Err.why)) c.documents-documents.ensures.documents (subst (λ (ss : List Segment). PlansAs shown.table ss (docs_of c.documents-documents.result.now) shown.next (Err c.in-Err.why)) c.deref.ensures.value c.in-Err.ensures))) }
+    rw (sym c.self.view_is) (unplanned_steps g.D.Disk.honest g.D.Disk.content g.D.Disk.is_open g.D.Disk.moment g.D.Disk.images_since g.D.Disk.failed_reads g.D.Disk.failed_writes shown c.if-self.false c.self.invariant.0 c.in-Err.why may (subst (λ (docs : List Doc). PlansAs shown.table shown.segments docs shown.next (Err c.in-Err.why)) c.documents-documents.ensures.documents (subst (λ (ss : List Segment). PlansAs shown.table ss (docs_of c.documents-documents.result.now) shown.next (Err c.in-Err.why)) c.deref.ensures.value c.in-Err.ensures)))
