@@ -24,7 +24,7 @@ import unicodedata
 
 from peers import Fts5, Program, Table, size_on_disk
 
-OPENINGS = 31
+OPENINGS = 101
 SHOWS = 1_000
 FINDS = {"program": 3, "FTS5": 31}
 
