@@ -106,9 +106,11 @@ def open_program(program, path):
 def bytes_read(program, path, lines, folder):
     """The calls that read the store while the lines are answered, and the bytes that they gave."""
     log = f"{folder}/reads"
-    command = ["strace", "-f", "-e", "trace=pread64", "-o", log, program, "run", path]
+    command = ["strace", "-f", "-y", "-e", "trace=pread64", "-o", log, program, "run", path]
     subprocess.run(command, input=lines, text=True, check=True, stdout=subprocess.DEVNULL)
-    given = re.findall(r"pread64\(.*= (\d+)$", pathlib.Path(log).read_text(errors="replace"), re.M)
+    # Reads of the store alone: the system's loader has some of its own.
+    of_store = rf"pread64\(\d+<{re.escape(os.path.realpath(path))}>.*= (\d+)$"
+    given = re.findall(of_store, pathlib.Path(log).read_text(errors="replace"), re.M)
     return len(given), sum(map(int, given))
 
 
