@@ -59,3 +59,5 @@ mod finding_tests;
 mod opening_tests;
 #[cfg(test)]
 mod replacing_tests;
+#[cfg(test)]
+mod tests;
