@@ -243,7 +243,7 @@ fn left(k: u64, once: bool, pick: Option<u8>) -> usize
 // | calls | of |
 // |---|---|
 // | 1 to 4 | opening: a sync, the reads of two gates and a body |
-// | 5 to 10 | the first commit: the read of gate B, the segment, the body, a sync, the gate, a sync |
+// | 5 to 10 | the first commit: a read of gate B, segment, body, a sync, the gate, a sync |
 // | 11 to 18 | the second: the read of gate A, its close, a sync, and the last five again |
 // | 19 to 22 | the find: an entry and a text of each document |
 fn session(rt: &impl Abort, alloc: Global, k: u64, once: bool) -> Result<MemoryDisk, Fail>
