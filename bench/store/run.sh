@@ -8,18 +8,7 @@ lines=${2:-100000}
 runs=${3:-3}
 here=$(dirname "$0")
 data=$here/data
-package=dict-gcide
-mkdir -p "$data" || exit 1
-if [ ! -e "$data/source" ]; then
-    # The same text as of bench/words; nothing is installed.
-    if (cd "$data" && apt-get download "$package" && dpkg-deb -x "$package"_*.deb unpacked); then
-        gzip -dc "$data/unpacked/usr/share/dictd/gcide.dict.dz" > "$data/source"
-    else
-        echo "bench: no package $package (apt-get update may help): words drawn by chance instead" >&2
-        : > "$data/source"
-    fi
-    rm -rf "$data/unpacked" "$data/$package"_*.deb
-fi
+"$here/../english.sh" "$data" || exit 1
 if [ ! -e "$data/lines.$lines" ]; then
     # Cut at spaces into lines of at most 300 bytes.
     megabytes=$(awk "BEGIN { print $lines * 300 / 1000000 + 1 }")

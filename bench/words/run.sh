@@ -7,17 +7,6 @@ megabytes=${2:-67}
 runs=${3:-3}
 here=$(dirname "$0")
 data=$here/data
-package=dict-gcide
-mkdir -p "$data" || exit 1
-if [ ! -e "$data/source" ]; then
-    # An English dictionary with its quotations, 40 MB, from a Debian package; nothing is installed.
-    if (cd "$data" && apt-get download "$package" && dpkg-deb -x "$package"_*.deb unpacked); then
-        gzip -dc "$data/unpacked/usr/share/dictd/gcide.dict.dz" > "$data/source"
-    else
-        echo "bench: no package $package (apt-get update may help): words drawn by chance instead" >&2
-        : > "$data/source"
-    fi
-    rm -rf "$data/unpacked" "$data/$package"_*.deb
-fi
+"$here/../english.sh" "$data" || exit 1
 python3 "$here/make_text.py" "$data/source" "$megabytes" > "$data/documents" || exit 1
 exec python3 "$here/measure.py" "$program" "$data/documents" "$runs"

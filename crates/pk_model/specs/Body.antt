@@ -4,7 +4,8 @@ use Rattle.std.specs.List.{flat_map, list_any}
 use Rattle.pk_model.specs.declared.limits.TheConstants.{MAX_SEGMENT_BYTES, UNIT_BYTES, FIRST_UNIT, TIDY_RUN}
 use Rattle.pk_model.specs.Collection.{Doc, Collection, numbers_of, is_live}
 
--- what the formats on the disk fix: the kind of the segments that are written, the byte lengths of a segment and of a deletion list, and whether there are deletion lists
+-- what the formats on the disk fix: the kind of the segments that are written, the byte lengths of
+-- a segment and of a deletion list, and whether there are deletion lists
 pub record Formats : Type 0 where
   pub kind : ℕ
   pub segment_bytes : List Doc → ℕ
@@ -122,7 +123,8 @@ is_too_large f docs = list_any (nat_lt MAX_SEGMENT_BYTES) (segment_writes f docs
 abbrev pub new_part : Formats → Body → List Doc → Extent → Part
 new_part f b docs e = record { id = b.next_segment; extent = e; kind = f.kind; documents = docs; dead = []; dead_extent = None }
 
--- COMMIT. It writes the segment of the uncommitted documents, then a list for each part with pending deletions.
+-- COMMIT. It writes the segment of the uncommitted documents, then a list for each part with
+-- pending deletions.
 abbrev pub lists_to_write : Formats → Collection → List Part → List ℕ
 lists_to_write f now [] = []
 lists_to_write f now (p ∷ ps) = if is_pending now p then f.list_bytes (deleted_of now p) ∷ lists_to_write f now ps else lists_to_write f now ps
@@ -157,7 +159,8 @@ body_after_commit f b now (e ∷ extents) =
     }
     else record { generation = b.generation + 1; units = b.units; next_number = now.next; next_segment = b.next_segment; parts = parts_after now b.parts (e ∷ extents) }
 
--- MERGE. It has nothing to do where there is no segment, or just one, of the kind that is written and without a deletion list.
+-- MERGE. It has nothing to do where there is no segment, or just one, of the kind that is written
+-- and without a deletion list.
 abbrev pub is_merged : Formats → List Part → Bool
 is_merged f [] = true
 is_merged f (p ∷ []) = (p.kind == f.kind) && not (is_some p.dead_extent)

@@ -7,7 +7,8 @@ use Rattle.pk_model.specs.Collection.{Collection, is_live}
 use Rattle.pk_model.specs.Steps.{Request, Answer, add, delete, find, show, commit, merge, tidy, count, after_one, answer_to}
 use Rattle.pk_model.specs.Body.{Formats, Extent, Body, collection_of, uncommitted, has_documents, named, PlacedAs, FullAs, segment_writes, is_too_large, commit_writes, commit_has_work, body_after_commit, is_merged, IsTidyRun, run_documents, body_after_merge}
 
--- what a store means: the body in force, the collection with what is uncommitted, and whether it must be opened again
+-- what a store means: the body in force, the collection with what is uncommitted, and whether it
+-- must be opened again
 pub record State : Type 0 where
   pub body : Body
   pub now : Collection
@@ -111,7 +112,8 @@ MarksBy merge old new = marked new ≡ marked old
 MarksBy tidy old new = marked new ≡ marked old
 MarksBy count old new = marked new ≡ marked old
 
--- ACCEPTED: nothing is due, the reply and the collection are those of the step, the mark and the body move as they should
+-- ACCEPTED: nothing is due, the reply and the collection are those of the step, the mark and the
+-- body move as they should
 pub record Accepts (f : Formats) (old : State) (request : Request) (answer : Answer) (new : State) : Type 0 where
   pub clear : old.reopen ≡ false
   pub due : due f old request ≡ None

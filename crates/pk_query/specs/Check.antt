@@ -1,4 +1,5 @@
--- How the code finds the fault of a text without memory: it keeps no tree, only whether an operand has just ended, and the places of the open brackets.
+-- How the code finds the fault of a text without memory: it keeps no tree, only whether an operand
+-- has just ended, and the places of the open brackets.
 use Rattle.std.specs.Prelude.{ℕ, Bool, true, false, List, [], ◌∷◌, length, Option, Some, None, Result, Ok, Err, if◌then◌else◌}
 use Rattle.std.specs.Option.{is_some}
 use Rattle.pk_query.specs.Tokens.{Token, Open, Close, AndWord, OrWord, NotWord, Chunk, Placed, placed_tokens}
