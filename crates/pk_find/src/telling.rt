@@ -1,6 +1,7 @@
 //! Statuses, and the lines on standard error.
 
 ghost use Rattle.std.specs.Prelude.{◌≡◌, ◌≤◌};
+ghost use Rattle.pk_find.specs.Reasons.{file_words, session_words, store_words};
 
 use clap::Error;
 use clap::error::ErrorKind;
@@ -45,7 +46,9 @@ pub fn refuse<W: Write, E: Write>(output: &mut W, faults: &mut E, error: &Error)
 }
 
 /// Why a file is no disk, in words.
-pub fn file_reason(fault: FileFault) -> &'static str {
+pub fn file_reason(fault: FileFault) -> &'static str
+    ensures { result.now ≡ file_words fault }
+{
     match fault {
         FileFault::Exists => "exists",
         FileFault::Missing => "missing",
@@ -55,7 +58,9 @@ pub fn file_reason(fault: FileFault) -> &'static str {
 }
 
 /// Why a disk has no store, in words.
-pub fn store_reason(fault: OpenFault) -> &'static str {
+pub fn store_reason(fault: OpenFault) -> &'static str
+    ensures { result.now ≡ store_words fault }
+{
     match fault {
         OpenFault::TooSmall => "too small",
         OpenFault::AlreadyAStore => "already a store",
@@ -67,7 +72,9 @@ pub fn store_reason(fault: OpenFault) -> &'static str {
 }
 
 /// Why a session was broken off, in words.
-pub fn session_reason(fault: ShellFault) -> &'static str {
+pub fn session_reason(fault: ShellFault) -> &'static str
+    ensures { result.now ≡ session_words fault }
+{
     match fault {
         ShellFault::Input => "input",
         ShellFault::Output => "output",
