@@ -1,9 +1,19 @@
 //! What the command line may say, and what it asks.
 
-ghost use Rattle.std.specs.Prelude.{IfSome};
+ghost use Rattle.std.specs.Prelude.{◌≡◌, IfOk, IfSome, Some, codes, option_map};
+ghost use Rattle.clap.specs.Words.{Text, app_of, first_value, found_of, one_text, subcommand_rows_of};
+ghost use Rattle.pk_find.specs.CommandLine.{
+  Asks,
+  IsArg,
+  number_in,
+  path_rule,
+  pk_find_app,
+  units_rule,
+};
 ghost use Rattle.pk_find.specs.Endings.{HasSize, IsOfSize};
 
-use clap::{Arg, ArgMatches, Command, value_parser};
+use clap::builder::ValueParser;
+use clap::{Arg, ArgMatches, Command};
 use std::alloc::{AllocError, Global};
 
 /// The fewest units of a store.
@@ -60,22 +70,28 @@ pub enum Asked<'a> {
 }
 
 /// The path, which each command takes.
-fn path<'a>(alloc: Global) -> Arg<'a> {
+fn path<'a>(alloc: Global) -> Arg<'a>
+    ensures { IsArg path_rule result }
+{
     Arg::new(alloc, "PATH").required(true).help(PATH_HELP)
 }
 
 /// The number of units, within the range of a store's.
-fn units<'a>(alloc: Global) -> Arg<'a> {
+fn units<'a>(alloc: Global) -> Arg<'a>
+    ensures { IsArg units_rule result }
+{
     Arg::new(alloc, "units")
         .long("units")
         .value_name("N")
         .required(true)
-        .value_parser(value_parser!(u64).range(64..=2_147_483_648))
+        .value_parser(ValueParser::unsigned(LEAST_UNITS, MOST_UNITS))
         .help("Its size in units of 512 bytes")
 }
 
 /// What the command line may say.
-pub fn program<'a>(alloc: Global) -> Result<Command<'a>, AllocError> {
+pub fn program<'a>(alloc: Global) -> Result<Command<'a>, AllocError>
+    ensures { IfOk result (λ c. app_of c ≡ pk_find_app) }
+{
     let create = Command::new(alloc, "create")
         .about(CREATE_ABOUT)
         .after_help(CREATE_HELP)
@@ -95,7 +111,10 @@ pub fn program<'a>(alloc: Global) -> Result<Command<'a>, AllocError> {
 
 /// How many units `create` is to make. The range is the command line's own.
 fn units_of(matches: &ArgMatches<'_>) -> Option<u64>
-    ensures { IfSome result IsOfSize }
+    ensures size { IfSome result IsOfSize }
+    ensures read { IfSome result (λ units. (text : Text)
+        × (one_text (found_of matches.now) (codes "units") ≡ Some text)
+        × (units ≡ number_in text)) }
 {
     match matches.get_one::<u64>("units") {
         Some(units) if (LEAST_UNITS..=MOST_UNITS).contains(&units) => Some(units),
@@ -105,7 +124,8 @@ fn units_of(matches: &ArgMatches<'_>) -> Option<u64>
 
 /// What a command line asks that was not refused.
 pub fn asked_by<'a>(matches: &ArgMatches<'a>) -> Option<Asked<'a>>
-    ensures { IfSome result HasSize }
+    ensures size { IfSome result HasSize }
+    ensures asked { IfSome result (Asks (subcommand_rows_of matches.now)) }
 {
     match matches.subcommand() {
         Some(("create", given)) => Some(Asked::Create {

@@ -1,9 +1,8 @@
 //! A new store.
 
-ghost use Rattle.std.specs.Prelude.{◌≡◌, ◌⊎◌};
-ghost use Rattle.pk_find.specs.Endings.{IsFileMade, IsMade, IsOfSize};
+ghost use Rattle.pk_find.specs.Endings.{CreationAs, FileCreationAs, IsOfSize};
 
-use super::telling::{DONE, FAILED, fail, file_reason, store_reason};
+use super::telling::{DONE, fail, file_reason, store_reason};
 use pk_disk::Disk;
 use pk_filedisk::FileDisk;
 use pk_store::Store;
@@ -24,9 +23,7 @@ fn create_on<D: Disk + Drop, W: Write, E: Write>(
     output: &mut W,
     faults: &mut E,
 ) -> u8
-    ensures status { (result ≡ DONE) ⊎ (result ≡ FAILED) }
-    ensures made { result ≡ DONE → IsMade D.Disk disk units
-        (W.contents output.old) (W.contents output.new) }
+    ensures { CreationAs D.Disk disk units (W.contents output.old) (W.contents output.new) result }
 {
     match Store::create(alloc, disk, CACHE_BLOCKS) {
         Ok(_) => {}
@@ -38,7 +35,8 @@ fn create_on<D: Disk + Drop, W: Write, E: Write>(
     }
 }
 
-/// Makes a file of so many units with an empty store.
+/// Makes a file of so many units with an empty store, tells that, and answers the status: 0, or 1
+/// where there is none or it could not be told.
 pub fn create<F: FileExt + OpenFile + Drop, S: Files<File = F>, W: Write, E: Write>(
     rt: &S,
     alloc: Global,
@@ -48,9 +46,8 @@ pub fn create<F: FileExt + OpenFile + Drop, S: Files<File = F>, W: Write, E: Wri
     faults: &mut E,
 ) -> u8
     requires { IsOfSize units }
-    ensures status { (result ≡ DONE) ⊎ (result ≡ FAILED) }
-    ensures made { result ≡ DONE → IsFileMade ⟦<FileDisk<F> as Disk>⟧ units
-        (W.contents output.old) (W.contents output.new) }
+    ensures { FileCreationAs ⟦<FileDisk<F> as Disk>⟧ units
+        (W.contents output.old) (W.contents output.new) result }
 {
     match FileDisk::make(rt, path, units) {
         Ok(disk) => create_on(alloc, disk, units, output, faults),

@@ -33,10 +33,13 @@ mod creating;
 mod running;
 mod telling;
 
-ghost use Rattle.std.specs.Prelude.{◌≤◌};
+ghost use Rattle.std.specs.Prelude.{map, string_bytes};
+ghost use Rattle.pk_find.specs.Endings.{CommandAs};
 
 use command_line::{Asked, asked_by, program};
 use creating::create;
+use pk_disk::Disk;
+use pk_filedisk::FileDisk;
 use running::run;
 use std::alloc::Global;
 use std::fs::OpenFile;
@@ -47,7 +50,8 @@ use std::rt::Files;
 use telling::{fail, refuse};
 
 /// Runs one command line and answers its status: 0 where all was done, 1 where it failed, with a
-/// line on `faults`, 2 where the command line was refused. `words` begin with the program's name.
+/// line on `faults`, 2 where the command line was refused. `words` begin with the program's name, and
+/// decide which; what came of it then is `CommandAs`, in specs/.
 pub fn command<F: FileExt + OpenFile + Drop, S: Files<File = F>, R: Read, W: Write, E: Write>(
     rt: &S,
     alloc: Global,
@@ -56,7 +60,9 @@ pub fn command<F: FileExt + OpenFile + Drop, S: Files<File = F>, R: Read, W: Wri
     output: &mut W,
     faults: &mut E,
 ) -> u8
-    ensures { result ≤ 2 }
+    ensures { CommandAs ⟦<FileDisk<F> as Disk>⟧ (map string_bytes words.now)
+        (R.remaining input.old) (R.remaining input.new)
+        (W.contents output.old) (W.contents output.new) result }
 {
     let Ok(program) = program(alloc) else {
         return fail(faults, "memory");

@@ -1,10 +1,9 @@
 //! A session with a store.
 
-ghost use Rattle.std.specs.Prelude.{◌≡◌, ◌⊎◌};
-ghost use Rattle.pk_find.specs.Endings.{IsFileSession, IsSession};
+ghost use Rattle.pk_find.specs.Endings.{FileSessionAs, SessionAs};
 
 use super::creating::CACHE_BLOCKS;
-use super::telling::{DONE, FAILED, fail, file_reason, session_reason, store_reason};
+use super::telling::{DONE, fail, file_reason, session_reason, store_reason};
 use pk_disk::Disk;
 use pk_filedisk::FileDisk;
 use pk_shell::serve;
@@ -23,9 +22,8 @@ fn run_on<D: Disk + Drop, R: Read, W: Write, E: Write>(
     output: &mut W,
     faults: &mut E,
 ) -> u8
-    ensures status { (result ≡ DONE) ⊎ (result ≡ FAILED) }
-    ensures served { result ≡ DONE → IsSession D.Disk disk (R.remaining input.old)
-        (R.remaining input.new) (W.contents output.old) (W.contents output.new) }
+    ensures { SessionAs D.Disk disk (R.remaining input.old) (R.remaining input.new)
+        (W.contents output.old) (W.contents output.new) result }
 {
     let mut store = match Store::open_on(alloc, disk, CACHE_BLOCKS) {
         Ok(store) => store,
@@ -37,7 +35,8 @@ fn run_on<D: Disk + Drop, R: Read, W: Write, E: Write>(
     }
 }
 
-/// Answers the lines of the input, from the store in a file.
+/// Answers the lines of the input, from the store in a file, and then the status: 0 where they were
+/// answered to their end or a `quit`, and else 1.
 pub fn run<F: FileExt + OpenFile + Drop, S: Files<File = F>, R: Read, W: Write, E: Write>(
     rt: &S,
     alloc: Global,
@@ -46,10 +45,9 @@ pub fn run<F: FileExt + OpenFile + Drop, S: Files<File = F>, R: Read, W: Write, 
     output: &mut W,
     faults: &mut E,
 ) -> u8
-    ensures status { (result ≡ DONE) ⊎ (result ≡ FAILED) }
-    ensures served { result ≡ DONE → IsFileSession ⟦<FileDisk<F> as Disk>⟧
+    ensures { FileSessionAs ⟦<FileDisk<F> as Disk>⟧
         (R.remaining input.old) (R.remaining input.new)
-        (W.contents output.old) (W.contents output.new) }
+        (W.contents output.old) (W.contents output.new) result }
 {
     match FileDisk::on(rt, path) {
         Ok(disk) => run_on(alloc, disk, input, output, faults),

@@ -1,6 +1,8 @@
 //! Statuses, and the lines on standard error.
 
-ghost use Rattle.std.specs.Prelude.{◌≡◌, ◌≤◌};
+ghost use Rattle.std.specs.Prelude.{◌≡◌};
+ghost use Rattle.clap.specs.Words.{kind_of};
+ghost use Rattle.pk_find.specs.Endings.{RefusalAs};
 ghost use Rattle.pk_find.specs.Reasons.{file_words, session_words, store_words};
 
 use clap::Error;
@@ -30,7 +32,7 @@ pub fn fail<E: Write>(faults: &mut E, why: &str) -> u8
 
 /// Tells why the command line was refused, or the help that was asked for.
 pub fn refuse<W: Write, E: Write>(output: &mut W, faults: &mut E, error: &Error) -> u8
-    ensures { result ≤ 2 }
+    ensures { RefusalAs (kind_of error.now) (W.contents output.old) (W.contents output.new) result }
 {
     if error.kind() == ErrorKind::OutOfMemory {
         return fail(faults, "memory");

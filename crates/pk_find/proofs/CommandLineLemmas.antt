@@ -1,0 +1,62 @@
+-- From the matches of a command line to what its words ask.
+use Rattle.std.proofs.Common.{◌≡◌, ◌⊎◌, ◌∙◌, inl, inr, refl, ap, subst, true, ℕ, List, [], Option, None, Some, option_map}
+use Rattle.clap.specs.Words.{App, HasMatchesOf, IsAmong, Row, Text, fault_of, is_simple, is_simple_and_free, subcommand_of, subcommand_rows_of}
+use Rattle.clap.specs.declared.error.kind.ErrorKind.{ErrorKind}
+use Rattle.clap.specs.declared.error.kind.ErrorKind.TheVariants.{OutOfMemory}
+use Rattle.clap.specs.declared.parser.matches.ArgMatches.{ArgMatches}
+use Rattle.clap.proofs.OnLiterals.{clap_on_literals}
+use Rattle.pk_disk.specs.declared.disk.Disk.{Ghosts}
+use Rattle.pk_find.specs.CommandLine.{Asks, IsHelp, WordsAsk, pk_find_app}
+use Rattle.pk_find.specs.Endings.{CommandAs, RefusalAs, done, failed, refused}
+use Rattle.pk_find.specs.declared.command_line.Asked.{Asked}
+
+-- where the name and the rows are known, so is the pair of them
+pub named_rows : {B : Type 0} (met : Option B) (name_of : B → Text) (rows_of : B → List Row) (name : Text) (rows : List Row)
+    → Some name ≡ option_map name_of met
+    → Some rows ≡ option_map (λ (p : Text × List Row). p.1) (option_map {U = Text × List Row} (λ b. (name_of b, rows_of b)) met)
+    → option_map {U = Text × List Row} (λ b. (name_of b, rows_of b)) met ≡ Some (name, rows)
+named_rows None name_of rows_of name rows named listed = cc
+named_rows (Some b) name_of rows_of name rows named listed = cc
+
+-- the program's command line is one of which `clap` tells the matches and the faults
+has_matches : is_simple pk_find_app ≡ true
+unfolding clap_on_literals
+has_matches = refl
+
+has_faults : is_simple_and_free pk_find_app ≡ true
+unfolding clap_on_literals
+has_faults = refl
+
+-- words that were parsed ask what their matches do
+pub words_ask : (app : App) (words : List Text) (m : ArgMatches) (asked : Asked) → app ≡ pk_find_app
+    → HasMatchesOf app words m → (is_simple_and_free app ≡ true → fault_of app words ≡ [])
+    → Asks (subcommand_rows_of m) asked → WordsAsk words asked
+words_ask app words m asked same matches faults asks = (
+  subst (λ a. fault_of a words ≡ []) same (faults (ap is_simple_and_free same ∙ has_faults)),
+  subst (λ met. Asks met asked) ((matches (ap is_simple same ∙ has_matches)).1 ∙ ap (λ a. subcommand_of a words) same) asks,
+)
+
+-- an error of the parse, told or not
+told_as : {D : Type 0} (d : Ghosts D) (words : List Text) (kind : ErrorKind) (r w w' : Option (List ℕ)) (status : ℕ)
+    → IsAmong kind (fault_of pk_find_app words)
+    → (IsHelp kind × ((status ≡ done) ⊎ (status ≡ failed))) ⊎ ((IsHelp kind → ⊥) × (status ≡ refused) × (w' ≡ w))
+    → CommandAs d words r r w w' status
+told_as d words kind r w w' status among (inl help) = inr (inl ((kind, among, help.0), refl, help.1))
+told_as d words kind r w w' status among (inr fault) =
+    inr (inr (inl ((kind, among, fault.0), refl, fault.2, fault.1)))
+
+told_by : {D : Type 0} (d : Ghosts D) (words : List Text) (kind : ErrorKind) (r w w' : Option (List ℕ)) (status : ℕ)
+    → (kind ≡ OutOfMemory) ⊎ IsAmong kind (fault_of pk_find_app words) → RefusalAs kind w w' status
+    → CommandAs d words r r w w' status
+told_by d words kind r w w' status met (inl memory) = inr (inr (inr (refl, memory.2, memory.1)))
+told_by d words kind r w w' status (inl memory) (inr other) = absurd (other.0 memory)
+told_by d words kind r w w' status (inr among) (inr other) = told_as d words kind r w w' status among other.1
+
+-- words that were not parsed ask for help, are refused, or found no memory
+pub words_refused : {D : Type 0} (d : Ghosts D) (app : App) (words : List Text) (kind : ErrorKind) (r w w' : Option (List ℕ))
+    (status : ℕ) → app ≡ pk_find_app
+    → (is_simple_and_free app ≡ true → (kind ≡ OutOfMemory) ⊎ IsAmong kind (fault_of app words))
+    → RefusalAs kind w w' status → CommandAs d words r r w w' status
+words_refused d app words kind r w w' status same kinds =
+    told_by d words kind r w w' status
+    (subst (λ a. (kind ≡ OutOfMemory) ⊎ IsAmong kind (fault_of a words)) same (kinds (ap is_simple_and_free same ∙ has_faults)))

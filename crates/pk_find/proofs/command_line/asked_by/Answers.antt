@@ -1,0 +1,21 @@
+-- The subcommand's name and its matches are those of the parse.
+use Rattle.std.proofs.Common.{codes, sym, subst, ◌∙◌}
+use Rattle.clap.proofs.WalkLemmas.{first_value-rows, one_text-rows}
+use Rattle.clap.specs.Words.{found_of}
+use Rattle.pk_find.proofs.CommandLineLemmas.{named_rows}
+use Rattle.pk_find.specs.CommandLine.{Asks}
+use Rattle.pk_find.specs.declared.command_line.Asked.TheVariants.{Create, Run}
+use Rattle.pk_find.proofs.command_line.asked_by.Goals as goal
+
+pub returns-in_ok-units_of-in-Some-create-default-clause-asked :
+    goal.returns-in_ok-units_of-in-Some-create-default-clause-asked
+returns-in_ok-units_of-in-Some-create-default-clause-asked c =
+    let read = c.in_ok-units_of-in-Some-create-default.ensures.read in
+    subst (λ met. Asks met (Create c.in_ok-get_str-in-Some-create-default.field-0 c.in_ok-units_of-in-Some-create-default.field-0)) (sym (named_rows _ _ _ _ _ c.in-Some-create-default.ensures.name c.in-Some-create-default.ensures.rows))
+    (c.in-Some-create-default.is-create, sym (first_value-rows (found_of c.in-Some-create-default.given.now) (codes "PATH")) ∙ sym c.in_ok-get_str-in-Some-create-default.ensures, (read.0, sym (one_text-rows (found_of c.in-Some-create-default.given.now) (codes "units")) ∙ read.1, read.2))
+
+pub returns-in_ok-get_str-in-Some-run-default-clause-asked :
+    goal.returns-in_ok-get_str-in-Some-run-default-clause-asked
+returns-in_ok-get_str-in-Some-run-default-clause-asked c =
+    subst (λ met. Asks met (Run c.in_ok-get_str-in-Some-run-default.field-0)) (sym (named_rows _ _ _ _ _ c.in-Some-run-default.ensures.name c.in-Some-run-default.ensures.rows))
+    (c.in-Some-run-default.is-run, sym (first_value-rows (found_of c.in-Some-run-default.given.now) (codes "PATH")) ∙ sym c.in_ok-get_str-in-Some-run-default.ensures)
