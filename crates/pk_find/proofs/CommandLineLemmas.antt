@@ -1,14 +1,15 @@
 -- From the matches of a command line to what its words ask.
-use Rattle.std.proofs.Common.{◌≡◌, ◌⊎◌, ◌∙◌, inl, inr, refl, ap, subst, true, ℕ, List, [], Option, None, Some, option_map}
-use Rattle.clap.specs.Words.{App, HasMatchesOf, IsAmong, Row, Text, fault_of, is_simple, is_simple_and_free, subcommand_of, subcommand_rows_of}
+use Rattle.std.proofs.Common.{◌≡◌, ◌⊎◌, ◌∙◌, inl, inr, refl, ap, sym, subst, codes, true, ℕ, List, [], Option, None, Some, option_map}
+use Rattle.clap.specs.Words.{App, HasMatchesOf, IsAmong, Row, Text, fault_of, first_of, is_simple, is_simple_and_free, one_of, subcommand_of, subcommand_rows_of}
 use Rattle.clap.specs.declared.error.kind.ErrorKind.{ErrorKind}
 use Rattle.clap.specs.declared.error.kind.ErrorKind.TheVariants.{OutOfMemory}
 use Rattle.clap.specs.declared.parser.matches.ArgMatches.{ArgMatches}
 use Rattle.clap.proofs.OnLiterals.{clap_on_literals}
 use Rattle.pk_disk.specs.declared.disk.Disk.{Ghosts}
-use Rattle.pk_find.specs.CommandLine.{Asks, IsHelp, WordsAsk, pk_find_app}
-use Rattle.pk_find.specs.Endings.{CommandAs, RefusalAs, done, failed, refused}
+use Rattle.pk_find.specs.CommandLine.{Asks, IsCount, IsHelp, WordsAsk, pk_find_app}
+use Rattle.pk_find.specs.Endings.{CommandAs, HasSize, IsOfSize, RefusalAs, done, failed, refused}
 use Rattle.pk_find.specs.declared.command_line.Asked.{Asked}
+use Rattle.pk_find.specs.declared.command_line.Asked.TheVariants.{Create, Run}
 
 -- where the name and the rows are known, so is the pair of them
 pub named_rows : {B : Type 0} (met : Option B) (name_of : B → Text) (rows_of : B → List Row) (name : Text) (rows : List Row)
@@ -17,6 +18,22 @@ pub named_rows : {B : Type 0} (met : Option B) (name_of : B → Text) (rows_of :
     → option_map {U = Text × List Row} (λ b. (name_of b, rows_of b)) met ≡ Some (name, rows)
 named_rows None name_of rows_of name rows named listed = cc
 named_rows (Some b) name_of rows_of name rows named listed = cc
+
+-- without a path nothing is asked
+pub no_path : (asked : Asked) (name : Text) (rows : List Row) → first_of (codes "PATH") rows ≡ None
+    → Asks (Some (name, rows)) asked → ⊥
+no_path (Create path units) name rows none asks = cc
+no_path (Run path) name rows none asks = cc
+
+create_is_not_run : codes "create" ≡ codes "run" → ⊥
+create_is_not_run same = cc
+
+-- without a number of units no creation is
+pub no_units : (asked : Asked) (name : Text) (rows : List Row) → name ≡ codes "create"
+    → ((text : Text) → (units : ℕ) → one_of (codes "units") rows ≡ Some text → IsCount text units → IsOfSize units → ⊥)
+    → HasSize asked → Asks (Some (name, rows)) asked → ⊥
+no_units (Create path units) name rows named none size asks = none asks.2.0 units asks.2.1 asks.2.2 size
+no_units (Run path) name rows named none size asks = create_is_not_run (sym named ∙ asks.0)
 
 -- the program's command line is one of which `clap` tells the matches and the faults
 has_matches : is_simple pk_find_app ≡ true

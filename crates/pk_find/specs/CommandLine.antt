@@ -1,7 +1,7 @@
 -- What the words of a command line ask, over the definitions of `clap`: what its parse of a command
 -- matches, and which kinds of error it gives.
 use Rattle.std.specs.Prelude.{◌≡◌, ◌⊎◌, ◌^◌, ℕ, List, [], Option, None, Some, true, false, codes}
-use Rattle.std.specs.Str.Parse.{digits_value, without_leading_plus}
+use Rattle.std.specs.Str.Parse.{IsNumeral, digits_value, without_leading_plus}
 use Rattle.clap.specs.Words.{App, IsAmong, Row, Rule, Text, fault_of, first_of, new_app, new_rule, one_of}
 use Rattle.clap.specs.Words.{rule_of, subcommand_of, with_rule, with_subcommand}
 use Rattle.clap.specs.declared.builder.arg.Arg.{Arg}
@@ -48,12 +48,16 @@ IsArg rule a = (rule_of a ≡ rule) × (a.global ≡ false)
 abbrev pub number_in : Text → ℕ
 number_in text = digits_value 10 (without_leading_plus text)
 
+-- the text writes a number of units
+abbrev pub IsCount : Text → ℕ → Type 0
+IsCount text units = IsNumeral 10 (without_leading_plus text) × (units ≡ number_in text)
+
 -- a command and its matches ask this
 abbrev pub Asks : Option (Text × List Row) → Asked → Type 0
 Asks None asked = ⊥
 Asks (Some (name, rows)) (Create path units) = (name ≡ codes "create")
     × (first_of (codes "PATH") rows ≡ Some path.now)
-    × ((text : Text) × (one_of (codes "units") rows ≡ Some text) × (units ≡ number_in text))
+    × ((text : Text) × (one_of (codes "units") rows ≡ Some text) × IsCount text units)
 Asks (Some (name, rows)) (Run path) = (name ≡ codes "run")
     × (first_of (codes "PATH") rows ≡ Some path.now)
 

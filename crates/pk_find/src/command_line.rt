@@ -1,16 +1,17 @@
 //! What the command line may say, and what it asks.
 
-ghost use Rattle.std.specs.Prelude.{◌≡◌, IfOk, IfSome, Some, codes, option_map};
+ghost use Rattle.std.specs.Prelude.{◌≡◌, IfOk, IfSome, None, Some, codes, ℕ};
 ghost use Rattle.clap.specs.Words.{Text, app_of, first_value, found_of, one_text, subcommand_rows_of};
 ghost use Rattle.pk_find.specs.CommandLine.{
   Asks,
   IsArg,
-  number_in,
+  IsCount,
   path_rule,
   pk_find_app,
   units_rule,
 };
 ghost use Rattle.pk_find.specs.Endings.{HasSize, IsOfSize};
+ghost use Rattle.pk_find.specs.declared.command_line.Asked.{Asked};
 
 use clap::builder::ValueParser;
 use clap::{Arg, ArgMatches, Command};
@@ -113,8 +114,10 @@ pub fn program<'a>(alloc: Global) -> Result<Command<'a>, AllocError>
 fn units_of(matches: &ArgMatches<'_>) -> Option<u64>
     ensures size { IfSome result IsOfSize }
     ensures read { IfSome result (λ units. (text : Text)
-        × (one_text (found_of matches.now) (codes "units") ≡ Some text)
-        × (units ≡ number_in text)) }
+        × (one_text (found_of matches.now) (codes "units") ≡ Some text) × IsCount text units) }
+    ensures none { result ≡ None → (text : Text) → (units : ℕ)
+        → one_text (found_of matches.now) (codes "units") ≡ Some text
+        → IsCount text units → IsOfSize units → ⊥ }
 {
     match matches.get_one::<u64>("units") {
         Some(units) if (LEAST_UNITS..=MOST_UNITS).contains(&units) => Some(units),
@@ -126,6 +129,8 @@ fn units_of(matches: &ArgMatches<'_>) -> Option<u64>
 pub fn asked_by<'a>(matches: &ArgMatches<'a>) -> Option<Asked<'a>>
     ensures size { IfSome result HasSize }
     ensures asked { IfSome result (Asks (subcommand_rows_of matches.now)) }
+    ensures none { result ≡ None → (asked : Asked) → HasSize asked
+        → Asks (subcommand_rows_of matches.now) asked → ⊥ }
 {
     match matches.subcommand() {
         Some(("create", given)) => Some(Asked::Create {
