@@ -6,3 +6,4 @@ mod Joined
 pub mod Moments
 pub mod Ranges
 pub mod Reading
+pub mod FrameLemmas

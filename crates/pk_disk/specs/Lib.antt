@@ -5,3 +5,4 @@ pub mod Memory
 pub mod Crash
 pub mod Units
 pub mod Fault
+pub mod Frames
