@@ -23,6 +23,7 @@ ghost use Rattle.std.specs.Prelude.{
   Some,
   IsTrue,
   IfOk,
+  IsOk,
   OnOk,
   OnErr,
   MatchOption,
@@ -66,12 +67,12 @@ impl Model for Buffer {
         × (b.bytes ≡ text_bytes (map doc_of b.documents.items)) };
 }
 
-/// The place of the document of this number, by halving.
-fn place_of(documents: &[Document], number: DocNo) -> Option<usize>
+/// The index of the document of this number, by halving.
+fn index_of(documents: &[Document], number: DocNo) -> Option<usize>
     requires { IsStrictlyIncreasing (numbers_of (map doc_of documents.now)) }
     ensures { MatchOption result
         (is_live number.0 (map doc_of documents.now) ≡ false)
-        (λ place. slice_get (numbers_of (map doc_of documents.now)) place ≡ Some number.0) }
+        (λ index. slice_get (numbers_of (map doc_of documents.now)) index ≡ Some number.0) }
 {
     let mut low = 0;
     let mut high = documents.len();
@@ -131,11 +132,11 @@ impl Buffer {
         ensures found { IsTrue result ↔ IsTrue (is_live number.0 self.old) }
         ensures others { self.new ≡ filter (λ d. not (has_number number.0 d)) self.old }
     {
-        match place_of(&self.documents, number) {
+        match index_of(&self.documents, number) {
             None => false,
-            Some(place) => {
-                let document = self.documents.remove(place);
-                let _ = self.words.remove(place);
+            Some(index) => {
+                let document = self.documents.remove(index);
+                let _ = self.words.remove(index);
                 self.bytes -= document.text.len() as u128;
                 true
             }
@@ -144,12 +145,15 @@ impl Buffer {
 
     /// The numbers of the documents whose words satisfy the query, rising.
     pub fn find(&self, alloc: Global, query: &Query) -> Result<Vec<DocNo>, AllocError>
-        ensures { IfOk result (λ v. numbers_in v.items ≡ answer (tree_of query.now) self.now) }
+        ensures found { IfOk result
+            (λ v. numbers_in v.items ≡ answer (tree_of query.now) self.now) }
+        // An answer without a hit takes no memory.
+        ensures none { answer (tree_of query.now) self.now ≡ [] → IsOk result }
     {
         let mut found = Vec::new(alloc);
-        'documents: for place in 0..self.documents.len() {
-            if is_hit(query, &self.words[place]) {
-                found.push(self.documents[place].number)?;
+        'documents: for index in 0..self.documents.len() {
+            if is_hit(query, &self.words[index]) {
+                found.push(self.documents[index].number)?;
             }
         }
         Ok(found)
@@ -157,14 +161,16 @@ impl Buffer {
 
     /// The text of the document of this number, if there is one.
     pub fn text_of(&self, alloc: Global, number: DocNo) -> Result<Option<String>, AllocError>
-        ensures { IfOk result (λ found. MatchOption found
+        ensures text { IfOk result (λ found. MatchOption found
             (is_live number.0 self.now ≡ false)
             (λ text. (is_live number.0 self.now ≡ true)
             × (string_bytes text ≡ text_of number.0 self.now))) }
+        // That there is none takes no memory.
+        ensures missing { is_live number.0 self.now ≡ false → IsOk result }
     {
-        match place_of(&self.documents, number) {
+        match index_of(&self.documents, number) {
             None => Ok(None),
-            Some(place) => Ok(Some(self.documents[place].text.clone()?)),
+            Some(index) => Ok(Some(self.documents[index].text.clone()?)),
         }
     }
 

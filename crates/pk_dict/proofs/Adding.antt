@@ -5,22 +5,22 @@ use Rattle.std.specs.List.{AllByRecursion, flat_map}
 use Rattle.std.proofs.lemmas.List.{take-append-le, take_at, length-append}
 use Rattle.std.proofs.lemmas.Bool.{eq-eqb, ne_eqb}
 use Rattle.pk_vbyte.specs.VariableByte.{vbyte}
-use Rattle.pk_dict.specs.Dictionary.{Item, Fits, rest_of, shared, piece, pieces, groups, offsets, group_count, spelling}
+use Rattle.pk_dict.specs.Dictionary.{Item, Fits, rest_of, shared, spelled_item, spelled_items, groups, offsets, group_count, spelling}
 use Rattle.pk_dict.specs.Lists.{starts_of, last_of}
 use Rattle.pk_dict.proofs.Bounds.{pieces_append}
 
-pub groups_push : (es : List Item) (e : Item) → groups (es ++ e ∷ []) ≡ groups es ++ piece (length es) (last_of [] es) e
+pub groups_push : (es : List Item) (e : Item) → groups (es ++ e ∷ []) ≡ groups es ++ spelled_item (length es) (last_of [] es) e
 unfolding groups
 groups_push es e =
-    pieces_append 0 [] es (e ∷ []) ∙ ap (λ (k : ℕ). pieces 0 [] es ++ pieces k (last_of [] es) (e ∷ [])) (omega arith)
-    ∙ ap (λ (l : List ℕ). pieces 0 [] es ++ l) (append-nil (piece (length es) (last_of [] es) e))
+    pieces_append 0 [] es (e ∷ []) ∙ ap (λ (k : ℕ). spelled_items 0 [] es ++ spelled_items k (last_of [] es) (e ∷ [])) (omega arith)
+    ∙ ap (λ (l : List ℕ). spelled_items 0 [] es ++ l) (append-nil (spelled_item (length es) (last_of [] es) e))
 
 pub push_first : (es : List Item) (e : Item) → length es % 16 ≡ 0 → groups (es ++ e ∷ []) ≡ groups es ++ rest_of [] e
-unfolding piece
+unfolding spelled_item
 push_first es e h = groups_push es e ∙ (rw (eq-eqb (length es % 16) 0 h) refl)
 
 pub push_other : (es : List Item) (e : Item) → 0 < length es % 16 → groups (es ++ e ∷ []) ≡ groups es ++ (vbyte (shared (last_of [] es) e.term) ++ rest_of (last_of [] es) e)
-unfolding piece
+unfolding spelled_item
 push_other es e h = groups_push es e ∙ (rw (ne_eqb (length es % 16) 0 (λ (q : length es % 16 ≡ 0). omega arith)) refl)
 
 pub last_push : (b : List ℕ) (es : List Item) (e : Item) → last_of b (es ++ e ∷ []) ≡ e.term

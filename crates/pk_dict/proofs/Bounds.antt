@@ -5,7 +5,7 @@ use Rattle.std.specs.List.{AllByRecursion}
 use Rattle.std.proofs.lemmas.Nat.{from_le_bytes-to_le_bytes_4}
 use Rattle.std.proofs.lemmas.List.{drop_at, take-append-drop, length-append, length-take}
 use Rattle.std.proofs.lemmas.Bool.{cases_eq, eq-eqb, le-ltb}
-use Rattle.pk_dict.specs.Dictionary.{Item, rest_of, piece, pieces, groups, offsets, group_count, spelling, DictSpells, Fits}
+use Rattle.pk_dict.specs.Dictionary.{Item, rest_of, spelled_item, spelled_items, groups, offsets, group_count, spelling, DictSpells, Fits}
 use Rattle.pk_dict.specs.Lists.{last_of}
 use Rattle.pk_dict.specs.Reading.{offset_at, group_at, step_at, head_at}
 use Rattle.pk_posting.specs.declared.source.SourceFault.TheVariants as faults
@@ -13,14 +13,14 @@ use Rattle.pk_dict.proofs.Shared.{number_past}
 use Rattle.pk_dict.proofs.Numbers.{moved}
 use Rattle.pk_dict.proofs.Terms.{told, first_law}
 
-pub pieces_append : (i : ℕ) (b : List ℕ) (xs ys : List Item) → pieces i b (xs ++ ys) ≡ pieces i b xs ++ pieces (i + length xs) (last_of b xs) ys
-pieces_append i b [] ys = ap (λ (k : ℕ). pieces k b ys) (omega arith)
+pub pieces_append : (i : ℕ) (b : List ℕ) (xs ys : List Item) → spelled_items i b (xs ++ ys) ≡ spelled_items i b xs ++ spelled_items (i + length xs) (last_of b xs) ys
+pieces_append i b [] ys = ap (λ (k : ℕ). spelled_items k b ys) (omega arith)
 pieces_append i b (x ∷ xs) ys =
-    ap (λ (l : List ℕ). piece i b x ++ l) (pieces_append (i + 1) x.term xs ys ∙ ap (λ (k : ℕ). pieces (i + 1) x.term xs ++ pieces k (last_of x.term xs) ys) (omega arith))
-    ∙ sym (append_assoc (piece i b x) (pieces (i + 1) x.term xs) (pieces (i + length (x ∷ xs)) (last_of x.term xs) ys))
+    ap (λ (l : List ℕ). spelled_item i b x ++ l) (pieces_append (i + 1) x.term xs ys ∙ ap (λ (k : ℕ). spelled_items (i + 1) x.term xs ++ spelled_items k (last_of x.term xs) ys) (omega arith))
+    ∙ sym (append_assoc (spelled_item i b x) (spelled_items (i + 1) x.term xs) (spelled_items (i + length (x ∷ xs)) (last_of x.term xs) ys))
 
-pub piece_first : (i : ℕ) (b : List ℕ) (e : Item) → i % 16 ≡ 0 → piece i b e ≡ rest_of [] e
-unfolding piece
+pub piece_first : (i : ℕ) (b : List ℕ) (e : Item) → i % 16 ≡ 0 → spelled_item i b e ≡ rest_of [] e
+unfolding spelled_item
 piece_first i b e h = rw (eq-eqb (i % 16) 0 h) refl
 
 pub offsets_size : (es : List Item) (n : ℕ) → length (offsets es n) ≡ 4 * n
@@ -46,7 +46,7 @@ pub record Group (bytes : List ℕ) (es : List Item) (g : ℕ) (term : List ℕ)
   pub next : ℕ
   pub step : group_at bytes (4 * group_count (length es)) g term ≡ Ok (told term e.term e.entry next)
   pub place : next ≤ length bytes
-  pub stands : drop next bytes ≡ pieces (16 * g + 1) e.term rest ++ []
+  pub stands : drop next bytes ≡ spelled_items (16 * g + 1) e.term rest ++ []
 
 pub offset_is : (bytes : List ℕ) (at o : ℕ) → o < 2 ^ 32 → at + 4 ≤ length bytes → take 4 (drop at bytes) ≡ to_le_bytes w32 o → offset_at bytes at ≡ Ok o
 unfolding offset_at
@@ -66,10 +66,10 @@ group_law bytes es g term e rest d lt split =
     let o : ℕ = length (groups before) in
     let whole : es ≡ before ++ (e ∷ rest) = sym (take-append-drop (16 * g) es) ∙ ap (λ (l : List Item). before ++ l) split in
     let b : List ℕ = last_of [] before in
-    let tail : List ℕ = pieces (16 * g + 1) e.term rest in
+    let tail : List ℕ = spelled_items (16 * g + 1) e.term rest in
     let parts : groups es ≡ groups before ++ (rest_of [] e ++ tail) =
-    ap (pieces 0 []) whole ∙ pieces_append 0 [] before (e ∷ rest)
-    ∙ ap (λ (k : ℕ). groups before ++ (piece k b e ++ pieces (k + 1) e.term rest)) (omega (arith, size))
+    ap (spelled_items 0 []) whole ∙ pieces_append 0 [] before (e ∷ rest)
+    ∙ ap (λ (k : ℕ). groups before ++ (spelled_item k b e ++ spelled_items (k + 1) e.term rest)) (omega (arith, size))
     ∙ ap (λ (l : List ℕ). groups before ++ (l ++ tail)) (piece_first (16 * g) b e (omega arith)) in
     let base : ℕ = 4 * G in
     let all : bytes ≡ (offsets es G ++ groups before) ++ (rest_of [] e ++ tail) = d.same ∙ ap (λ (l : List ℕ). offsets es G ++ l) parts ∙ sym (append_assoc (offsets es G) (groups before) (rest_of [] e ++ tail)) in

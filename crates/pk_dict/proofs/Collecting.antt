@@ -10,13 +10,11 @@ use Rattle.pk_posting.specs.declared.source.SourceFault.{SourceFault}
 use Rattle.pk_posting.specs.declared.source.SourceFault.TheVariants as faults
 use Rattle.pk_vbyte.specs.VariableByte.{vbyte}
 use Rattle.pk_dict.specs.declared.entry.Entry.{Entry}
-use Rattle.pk_dict.specs.Dictionary.{Item, Fits, DictSpells, numbers, rest_of, shared, piece, pieces, items_with_prefix}
+use Rattle.pk_dict.specs.Dictionary.{Item, Fits, DictSpells, numbers, rest_of, shared, spelled_item, spelled_items, items_with_prefix}
 use Rattle.pk_dict.specs.Lists.{last_of}
 use Rattle.pk_dict.specs.Order.{less, Rising, RisingTerms}
 use Rattle.pk_dict.specs.Reading.{number_at, offset_at}
-use Rattle.pk_dict.specs.declared.entry.EntriesFault.{EntriesFault}
-use Rattle.pk_dict.specs.declared.entry.EntriesFault.TheVariants.{Damaged, Disk, Memory}
-use Rattle.pk_dict.specs.Entries.{TermGives, start_at, term_at, item_kept, IsStart}
+use Rattle.pk_dict.specs.Entries.{start_at, term_at, item_kept, IsStart}
 use Rattle.pk_dict.proofs.Adding.{last_push}
 use Rattle.pk_dict.proofs.Bounds.{piece_first}
 use Rattle.pk_dict.proofs.Ends.{some_item, rising_drop, fits_drop}
@@ -50,33 +48,33 @@ read_term bytes first before b e more at start k few same p =
     let whole : take s before ++ take n (drop p.start bytes) ≡ e.term = ap (λ (l : List ℕ). l ++ take n (drop p.start bytes)) same ∙ ap (λ (l : List ℕ). take s e.term ++ l) tail ∙ take-append-drop s e.term in
     rw k (rw (head_law bytes start b e more p) (rw (le-ltb (length before) s few) (ap (λ (l : List ℕ). Ok (l, e.entry, start + length (rest_of b e))) whole)))
 
-first_term : (bytes : List ℕ) (i at : ℕ) (b before : List ℕ) (e : Item) (more : List ℕ) → Fits e → i % 16 ≡ 0 → at ≤ length bytes → drop at bytes ≡ piece i b e ++ more
-    → term_at bytes (eqb (i % 16) 0) before at ≡ Ok (e.term, e.entry, at + length (piece i b e))
+first_term : (bytes : List ℕ) (i at : ℕ) (b before : List ℕ) (e : Item) (more : List ℕ) → Fits e → i % 16 ≡ 0 → at ≤ length bytes → drop at bytes ≡ spelled_item i b e ++ more
+    → term_at bytes (eqb (i % 16) 0) before at ≡ Ok (e.term, e.entry, at + length (spelled_item i b e))
 first_term bytes i at b before e more fits z h d =
     let stands : drop at bytes ≡ rest_of [] e ++ more = d ∙ ap (λ (l : List ℕ). l ++ more) (piece_first i b e z) in
     read_term bytes (eqb (i % 16) 0) before [] e more at at (rw (eq-eqb (i % 16) 0 z) refl) (omega arith) refl (parsed bytes at [] e more fits h stands)
     ∙ ap (λ (l : List ℕ). Ok (e.term, e.entry, at + length l)) (sym (piece_first i b e z))
 
-other_term : (bytes : List ℕ) (i at : ℕ) (b before : List ℕ) (e : Item) (more : List ℕ) → Fits e → 0 < i % 16 → before ≡ b → at ≤ length bytes → drop at bytes ≡ piece i b e ++ more
-    → term_at bytes (eqb (i % 16) 0) before at ≡ Ok (e.term, e.entry, at + length (piece i b e))
+other_term : (bytes : List ℕ) (i at : ℕ) (b before : List ℕ) (e : Item) (more : List ℕ) → Fits e → 0 < i % 16 → before ≡ b → at ≤ length bytes → drop at bytes ≡ spelled_item i b e ++ more
+    → term_at bytes (eqb (i % 16) 0) before at ≡ Ok (e.term, e.entry, at + length (spelled_item i b e))
 other_term bytes i at b before e more fits z same h d =
     let s : ℕ = shared b e.term in
     let most = shared_most b e.term in
     let start : ℕ = at + length (vbyte s) in
-    let parts : piece i b e ≡ vbyte s ++ rest_of b e = piece_not i b e z in
+    let parts : spelled_item i b e ≡ vbyte s ++ rest_of b e = piece_not i b e z in
     let d0 : drop at bytes ≡ vbyte s ++ (rest_of b e ++ more) = d ∙ ap (λ (l : List ℕ). l ++ more) parts ∙ append_assoc (vbyte s) (rest_of b e) more in
     let d1 = moved bytes at (vbyte s) (rest_of b e ++ more) d0 in
     let lens = ap (λ (l : List ℕ). length l) d0 in
     let inside : start ≤ length bytes = omega (arith, lens, length-drop at bytes, length-append (vbyte s) (rest_of b e ++ more)) in
-    let size : length (piece i b e) ≡ length (vbyte s) + length (rest_of b e) = ap (λ (l : List ℕ). length l) parts ∙ length-append (vbyte s) (rest_of b e) in
+    let size : length (spelled_item i b e) ≡ length (vbyte s) + length (rest_of b e) = ap (λ (l : List ℕ). length l) parts ∙ length-append (vbyte s) (rest_of b e) in
     read_term bytes (eqb (i % 16) 0) before b e more at start
     (rw (ne_eqb (i % 16) 0 (λ (q : i % 16 ≡ 0). omega arith)) (number_law bytes at s _ (omega (arith, most.1, fits.term)) d0))
     (omega (arith, most.0, ap (λ (l : List ℕ). length l) same)) (ap (take s) same ∙ sym (take_shared b e.term)) (parsed bytes start b e more fits inside d1)
     ∙ ap (λ (k : ℕ). Ok (e.term, e.entry, k)) (omega (arith, size))
 
 -- a term at a place, the bytes before it being known where they are kept
-term_law : (bytes : List ℕ) (i at : ℕ) (b before : List ℕ) (e : Item) (more : List ℕ) → Fits e → (0 < i % 16 → before ≡ b) → at ≤ length bytes → drop at bytes ≡ piece i b e ++ more
-    → term_at bytes (eqb (i % 16) 0) before at ≡ Ok (e.term, e.entry, at + length (piece i b e))
+term_law : (bytes : List ℕ) (i at : ℕ) (b before : List ℕ) (e : Item) (more : List ℕ) → Fits e → (0 < i % 16 → before ≡ b) → at ≤ length bytes → drop at bytes ≡ spelled_item i b e ++ more
+    → term_at bytes (eqb (i % 16) 0) before at ≡ Ok (e.term, e.entry, at + length (spelled_item i b e))
 term_law bytes i at b before e more fits same h d =
     elim (cases_eq (i % 16) 0) [
       | inl z ↦ first_term bytes i at b before e more fits z h d
@@ -87,7 +85,7 @@ term_law bytes i at b before e more fits same h d =
 pub record Collecting (bytes : List ℕ) (es : List Item) (prefix : List ℕ) (i at : ℕ) (before : List ℕ) (found : List Item) : Type 0 where
   pub within : i ≤ length es
   pub place : at ≤ length bytes
-  pub stands : drop at bytes ≡ pieces i (last_of [] (take i es)) (drop i es)
+  pub stands : drop at bytes ≡ spelled_items i (last_of [] (take i es)) (drop i es)
   pub last : 0 < i % 16 → before ≡ last_of [] (take i es)
   pub is : found ≡ items_with_prefix prefix (take i es)
 
@@ -107,20 +105,20 @@ same_made : (x y : List ℕ × Entry × ℕ) → made x ≡ made y → x ≡ y
 same_made x y e = cc
 
 -- what the next item adds
-record Next (bytes : List ℕ) (es : List Item) (i at : ℕ) (before : List ℕ) (e : Item) (rest : List Item) : Type 0 where
-  read : term_at bytes (eqb (i % 16) 0) before at ≡ Ok (e.term, e.entry, at + length (piece i (last_of [] (take i es)) e))
-  place : at + length (piece i (last_of [] (take i es)) e) ≤ length bytes
-  stands : drop (at + length (piece i (last_of [] (take i es)) e)) bytes ≡ pieces (i + 1) e.term rest
-  front : take (i + 1) es ≡ take i es ++ e ∷ []
-  back : drop (i + 1) es ≡ rest
+pub record Next (bytes : List ℕ) (es : List Item) (i at : ℕ) (before : List ℕ) (e : Item) (rest : List Item) : Type 0 where
+  pub read : term_at bytes (eqb (i % 16) 0) before at ≡ Ok (e.term, e.entry, at + length (spelled_item i (last_of [] (take i es)) e))
+  pub place : at + length (spelled_item i (last_of [] (take i es)) e) ≤ length bytes
+  pub stands : drop (at + length (spelled_item i (last_of [] (take i es)) e)) bytes ≡ spelled_items (i + 1) e.term rest
+  pub front : take (i + 1) es ≡ take i es ++ e ∷ []
+  pub back : drop (i + 1) es ≡ rest
 
-next_is : (bytes : List ℕ) (es : List Item) (prefix : List ℕ) (i at : ℕ) (before : List ℕ) (found : List Item) (e : Item) (rest : List Item) → DictSpells bytes es → Collecting bytes es prefix i at before found → drop i es ≡ e ∷ rest → Next bytes es i at before e rest
+pub next_is : (bytes : List ℕ) (es : List Item) (prefix : List ℕ) (i at : ℕ) (before : List ℕ) (found : List Item) (e : Item) (rest : List Item) → DictSpells bytes es → Collecting bytes es prefix i at before found → drop i es ≡ e ∷ rest → Next bytes es i at before e rest
 next_is bytes es prefix i at before found e rest d c split =
     let b : List ℕ = last_of [] (take i es) in
-    let x : List ℕ = piece i b e in
-    let more : List ℕ = pieces (i + 1) e.term rest in
+    let x : List ℕ = spelled_item i b e in
+    let more : List ℕ = spelled_items (i + 1) e.term rest in
     let fits = subst (λ (l : List Item). AllByRecursion Fits l) split (fits_drop i es d.fits) in
-    let stands : drop at bytes ≡ x ++ more = c.stands ∙ ap (pieces i b) split in
+    let stands : drop at bytes ≡ x ++ more = c.stands ∙ ap (spelled_items i b) split in
     record {
       read = term_law bytes i at b before e more fits.0 c.last c.place stands;
       place = omega (arith, ap (λ (l : List ℕ). length l) stands, length-drop at bytes, length-append x more, c.place);
@@ -133,14 +131,14 @@ item_found : (prefix : List ℕ) (xs : List Item) (e : Item) → items_with_pref
 item_found prefix xs e = filter-append (λ (f : Item). starts_with nat_eq f.term prefix) xs (e ∷ [])
 
 next_step : (bytes : List ℕ) (es : List Item) (prefix : List ℕ) (i at : ℕ) (before : List ℕ) (found : List Item) (t : List ℕ) (entry : Entry) (next : ℕ) (later : List Item) (e : Item) (rest : List Item)
-    → Collecting bytes es prefix i at before found → i < length es → Next bytes es i at before e rest → (e.term ≡ t) × (e.entry ≡ entry) × (at + length (piece i (last_of [] (take i es)) e) ≡ next)
+    → Collecting bytes es prefix i at before found → i < length es → Next bytes es i at before e rest → (e.term ≡ t) × (e.entry ≡ entry) × (at + length (spelled_item i (last_of [] (take i es)) e) ≡ next)
     → later ≡ found ++ item_kept prefix t entry → Collecting bytes es prefix (i + 1) next t later
 next_step bytes es prefix i at before found t entry next later e rest c lt n same add =
     let last : last_of [] (take (i + 1) es) ≡ t = ap (last_of []) n.front ∙ last_push [] (take i es) e ∙ same.0 in
     record {
       within = omega arith;
       place = omega (arith, n.place, same.2);
-      stands = ap (λ (k : ℕ). drop k bytes) (sym same.2) ∙ n.stands ∙ ap (λ (l : List ℕ). pieces (i + 1) l rest) (same.0 ∙ sym last) ∙ ap (pieces (i + 1) (last_of [] (take (i + 1) es))) (sym n.back);
+      stands = ap (λ (k : ℕ). drop k bytes) (sym same.2) ∙ n.stands ∙ ap (λ (l : List ℕ). spelled_items (i + 1) l rest) (same.0 ∙ sym last) ∙ ap (spelled_items (i + 1) (last_of [] (take (i + 1) es))) (sym n.back);
       last = λ (_ : 0 < (i + 1) % 16). sym last;
       is = add ∙ ap (λ (l : List Item). l ++ item_kept prefix t entry) c.is
           ∙ ap (λ (l : List ℕ). items_with_prefix prefix (take i es) ++ item_kept prefix l entry) (sym same.0) ∙ ap (λ (x : Entry). items_with_prefix prefix (take i es) ++ item_kept prefix e.term x) (sym same.1)
@@ -156,15 +154,6 @@ collecting_next bytes es prefix i at before found t entry next later d c lt read
     let same = same_made _ _ (sym n.read ∙ read) in
     next_step bytes es prefix i at before found t entry next later s.0 s.1.0 c lt n
     (ap (λ (x : List ℕ × Entry × ℕ). x.0) same, ap (λ (x : List ℕ × Entry × ℕ). x.1) same, ap (λ (x : List ℕ × Entry × ℕ). x.2) same) add
-
--- a dictionary's term is never found damaged
-pub never_broken : (bytes : List ℕ) (es : List Item) (prefix : List ℕ) (i at : ℕ) (before : List ℕ) (found : List Item) → DictSpells bytes es → Collecting bytes es prefix i at before found → i < length es
-    → term_at bytes (eqb (i % 16) 0) before at ≡ Err faults.Damaged → ⊥
-never_broken bytes es prefix i at before found d c lt read =
-    let s = some_item i es lt in
-    let n = next_is bytes es prefix i at before found s.0 s.1.0 d c s.1.1 in
-    let e = sym n.read ∙ read in
-    cc
 
 -- all were read
 pub collecting_all : (bytes : List ℕ) (es : List Item) (prefix : List ℕ) (i at : ℕ) (before : List ℕ) (found : List Item) → Collecting bytes es prefix i at before found → length es ≤ i → found ≡ items_with_prefix prefix es
@@ -186,9 +175,3 @@ collecting_past bytes es prefix i at before found t entry next later d c lt read
     let none : items_with_prefix prefix (drop (i + 1) es) ≡ [] = ap (items_with_prefix prefix) n.back ∙ none_beyond prefix t rest past not (subst (λ (l : List ℕ). Rising l rest) term rising) in
     after.is ∙ sym (append-nil (items_with_prefix prefix (take (i + 1) es))) ∙ ap (λ (l : List Item). items_with_prefix prefix (take (i + 1) es) ++ l) (sym none)
     ∙ sym (filter-append (λ (f : Item). starts_with nat_eq f.term prefix) (take (i + 1) es) (drop (i + 1) es)) ∙ ap (items_with_prefix prefix) (take-append-drop (i + 1) es)
-
--- Damaged is what the bytes give
-pub broken : (e : EntriesFault) (t : List ℕ) (read : Result (List ℕ × Entry × ℕ) SourceFault) → TermGives (Err e) t read → e ≡ Damaged → read ≡ Err faults.Damaged
-broken Damaged t read g h = g
-broken Disk t read g h = absurd cc
-broken Memory t read g h = absurd cc

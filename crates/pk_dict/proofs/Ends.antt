@@ -9,13 +9,11 @@ use Rattle.pk_dict.specs.declared.entry.Entry.{Entry}
 use Rattle.pk_dict.specs.declared.head.Step.{Step}
 use Rattle.pk_dict.specs.declared.head.Step.TheVariants.{Less, Found, Past}
 use Rattle.std.specs.Str.{bytes_eq}
-use Rattle.pk_dict.specs.Dictionary.{Item, pieces, group_count, DictSpells, Fits, entry_of}
+use Rattle.pk_dict.specs.Dictionary.{Item, spelled_items, group_count, DictSpells, Fits, entry_of}
 use Rattle.pk_dict.specs.Order.{less, Rising, RisingTerms}
 use Rattle.pk_posting.specs.declared.source.SourceFault.TheVariants as faults
-use Rattle.pk_dict.specs.declared.entry.DictPlace.{DictPlace}
-use Rattle.pk_dict.specs.Place.{bytes_at}
-use Rattle.pk_dict.specs.Search.{Under, Above, Known, Stands}
-use Rattle.pk_dict.specs.Reading.{group_at, scan_at, Fails, Gives}
+use Rattle.pk_dict.specs.Search.{Under, Above, Known}
+use Rattle.pk_dict.specs.Reading.{group_at, scan_at, Gives}
 use Rattle.pk_dict.proofs.Order.{less_same, less_by, less_not, same_by, same_not}
 use Rattle.pk_dict.proofs.Rising.{rises}
 use Rattle.pk_dict.proofs.Terms.{told, none_past, scan_law}
@@ -201,8 +199,8 @@ end_split bytes es term low matched next e rest k d known pos most split size =
     let fits : AllByRecursion Fits (e ∷ rest) = subst (λ (l : List Item). AllByRecursion Fits l) split (fits_drop n es d.fits) in
     let front : List Item = take k rest in
     let len : length front ≡ k = omega (arith, length-take k rest) in
-    let more : List ℕ = pieces (n + 1 + length front) (last_of e.term front) (drop k rest) in
-    let stands : drop next bytes ≡ pieces (n + 1) e.term front ++ more = u.stands ∙ append-nil (pieces (n + 1) e.term rest) ∙ ap (pieces (n + 1) e.term) (sym (take-append-drop k rest)) ∙ pieces_append (n + 1) e.term front (drop k rest) in
+    let more : List ℕ = spelled_items (n + 1 + length front) (last_of e.term front) (drop k rest) in
+    let stands : drop next bytes ≡ spelled_items (n + 1) e.term front ++ more = u.stands ∙ append-nil (spelled_items (n + 1) e.term rest) ∙ ap (spelled_items (n + 1) e.term) (sym (take-append-drop k rest)) ∙ pieces_append (n + 1) e.term front (drop k rest) in
     let value : entry_of es term ≡ entry_of front term = ap (λ (l : List Item). entry_of l term) whole ∙ skip (take n es) e rest term (subst RisingTerms whole (rises es d.rising)) (inl u.before) ∙ (rw (u.other) (ap (λ (l : List Item). entry_of l term) (sym (take-append-drop k rest)) ∙ cut front (drop k rest) term (rest_none bytes es term low matched next e rest k d known pos most split size))) in
     ap (λ (i : ℕ). scan_at i bytes term matched next) (sym len) ∙ ap (λ (i : ℕ). scan_at (length front) bytes term i next) u.shares
     ∙ scan_law (n + 1) e.term front bytes term next more (λ (z : 0 < length front). omega arith) (omega (arith, len)) (rising_take k e.term rest rising) (fits_take k rest fits.1) u.before u.place stands
@@ -214,19 +212,6 @@ end_law bytes es term low matched next k d known pos most size =
     let s = some_item (16 * (low - 1)) es (omega arith) in
     let len : suc (length s.1.0) ≡ length es - 16 * (low - 1) = sym (ap length s.1.1) ∙ length-drop (16 * (low - 1)) es in
     end_split bytes es term low matched next s.0 s.1.0 k d known pos most s.1.1 (omega (arith, len))
-
--- a group of a dictionary is never found damaged
-pub never_damaged : (bytes : List ℕ) (es : List Item) (term : List ℕ) (m : ℕ) (f : SourceFault) → DictSpells bytes es → m < group_count (length es)
-    → Fails f (group_at bytes (4 * group_count (length es)) m term) → Stands bytes es term (Err f)
-never_damaged bytes es term m faults.Damaged d lt h =
-    let s = some_item (16 * m) es (omega arith) in
-    let g = group_law bytes es m term s.0 s.1.0 d (omega arith) s.1.1 in
-    let e = sym g.step ∙ h in
-    absurd cc
-never_damaged bytes es term m faults.Disk d lt h = tt
-
-pub elsewhere : (first second : List ℕ) (place : DictPlace) (g h m : ℕ) (term : List ℕ) (P : Result Step SourceFault → Type 0) → first ≡ second → g ≡ h → P (group_at (bytes_at first place) (4 * g) m term) → P (group_at (bytes_at second place) (4 * h) m term)
-elsewhere first second place g h m term P e f p = subst (λ (k : ℕ). P (group_at (bytes_at second place) (4 * k) m term)) f (subst (λ (l : List ℕ). P (group_at (bytes_at l place) (4 * g) m term)) e p)
 
 -- what a scan returned, where the scan is known
 pub scan_gives : (r : Result (Option Entry) SourceFault) (read : Result (Option Entry) SourceFault) (x : Option Entry) → read ≡ Ok x → Gives r read → MatchResult r (λ y. y ≡ x) (λ e. e ≡ faults.Disk)

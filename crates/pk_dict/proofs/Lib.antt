@@ -1,9 +1,14 @@
 pub mod Adding
+pub mod Asks
 pub mod Bounds
 pub mod Collecting
+pub mod Collection
 pub mod Ends
+pub mod EntriesLaw
 pub mod Growing
 pub mod Halving
+pub mod LookUpLaw
+pub mod Narrowing
 pub mod Numbers
 pub mod Order
 pub mod Parts

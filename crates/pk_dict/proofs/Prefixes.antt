@@ -9,7 +9,7 @@ use Rattle.pk_dict.specs.Order.{less, Rising, RisingTerms}
 use Rattle.pk_dict.proofs.Order.{less_same, less_not}
 use Rattle.pk_dict.proofs.Ends.{AtMost, less_then, reaches}
 
-begins_same : (x y : ℕ) (t p : List ℕ) → x ≡ y → starts_with nat_eq (x ∷ t) (y ∷ p) ≡ starts_with nat_eq t p
+pub begins_same : (x y : ℕ) (t p : List ℕ) → x ≡ y → starts_with nat_eq (x ∷ t) (y ∷ p) ≡ starts_with nat_eq t p
 begins_same x y t p e = rw (eq-eqb y x (sym e)) refl
 
 begins_not : (x y : ℕ) (t p : List ℕ) → (x ≡ y → ⊥) → starts_with nat_eq (x ∷ t) (y ∷ p) ≡ false

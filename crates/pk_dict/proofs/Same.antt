@@ -6,7 +6,7 @@ use Rattle.pk_vbyte.specs.VariableByte.{vbyte}
 use Rattle.pk_vbyte.proofs.Prefix.{same_first}
 use Rattle.pk_dict.specs.declared.writer.DictWriter.{DictWriter}
 use Rattle.pk_dict.specs.declared.entry.Entry.{Entry}
-use Rattle.pk_dict.specs.Dictionary.{Item, numbers, rest_of, shared, piece, pieces, groups, offsets, group_count, spelling, DictSpells}
+use Rattle.pk_dict.specs.Dictionary.{Item, numbers, rest_of, shared, spelled_item, spelled_items, groups, offsets, group_count, spelling, DictSpells}
 use Rattle.pk_dict.specs.Lists.{starts_of}
 use Rattle.pk_dict.specs.Writer.{HasAdded}
 use Rattle.pk_dict.proofs.Shared.{shared_same, shared_apart}
@@ -69,7 +69,7 @@ same_rest b e f r s k h =
     let term : e.term ≡ f.term = sym (take-append-drop i e.term) ∙ ap (λ (l : List ℕ). l ++ x) front ∙ ap (λ (l : List ℕ). take j f.term ++ l) c.0 ∙ take-append-drop j f.term in
     (same_item e f term n.frequency n.at n.bytes, n.rest)
 
-same_piece : (i : ℕ) (b : List ℕ) (e f : Item) (r s : List ℕ) → piece i b e ++ r ≡ piece i b f ++ s → (e ≡ f) × (r ≡ s)
+same_piece : (i : ℕ) (b : List ℕ) (e f : Item) (r s : List ℕ) → spelled_item i b e ++ r ≡ spelled_item i b f ++ s → (e ≡ f) × (r ≡ s)
 same_piece i b e f r s h =
     elim (cases_eq (i % 16) 0) [
       | inl z ↦ same_rest [] e f r s refl (sym (ap (λ (l : List ℕ). l ++ r) (piece_first i b e z)) ∙ h ∙ ap (λ (l : List ℕ). l ++ s) (piece_first i b f z))
@@ -80,19 +80,19 @@ same_piece i b e f r s h =
           same_rest b e f r s v.0 v.1
     ]
 
-same_pieces : (i : ℕ) (b : List ℕ) (es fs : List Item) (r s : List ℕ) → length es ≡ length fs → pieces i b es ++ r ≡ pieces i b fs ++ s → es ≡ fs
+same_pieces : (i : ℕ) (b : List ℕ) (es fs : List Item) (r s : List ℕ) → length es ≡ length fs → spelled_items i b es ++ r ≡ spelled_items i b fs ++ s → es ≡ fs
 same_pieces i b [] [] r s len h = refl
 same_pieces i b [] (f ∷ fs) r s len h = absurd (omega arith)
 same_pieces i b (e ∷ es) [] r s len h = absurd (omega arith)
 same_pieces i b (e ∷ es) (f ∷ fs) r s len h =
-    let p = same_piece i b e f (pieces (i + 1) e.term es ++ r) (pieces (i + 1) f.term fs ++ s)
-    (sym (append_assoc (piece i b e) (pieces (i + 1) e.term es) r) ∙ h ∙ append_assoc (piece i b f) (pieces (i + 1) f.term fs) s) in
-    let q : pieces (i + 1) e.term es ++ r ≡ pieces (i + 1) e.term fs ++ s = p.1 ∙ ap (λ (x : Item). pieces (i + 1) x.term fs ++ s) (sym p.0) in
+    let p = same_piece i b e f (spelled_items (i + 1) e.term es ++ r) (spelled_items (i + 1) f.term fs ++ s)
+    (sym (append_assoc (spelled_item i b e) (spelled_items (i + 1) e.term es) r) ∙ h ∙ append_assoc (spelled_item i b f) (spelled_items (i + 1) f.term fs) s) in
+    let q : spelled_items (i + 1) e.term es ++ r ≡ spelled_items (i + 1) e.term fs ++ s = p.1 ∙ ap (λ (x : Item). spelled_items (i + 1) x.term fs ++ s) (sym p.0) in
     ap (λ (x : Item). x ∷ es) p.0 ∙ ap (λ (l : List Item). f ∷ l) (same_pieces (i + 1) e.term es fs r s (omega arith) q)
 
 pub same_groups : (es fs : List Item) → length es ≡ length fs → groups es ≡ groups fs → es ≡ fs
 unfolding groups
-same_groups es fs len h = same_pieces 0 [] es fs [] [] len (append-nil (pieces 0 [] es) ∙ h ∙ sym (append-nil (pieces 0 [] fs)))
+same_groups es fs len h = same_pieces 0 [] es fs [] [] len (append-nil (spelled_items 0 [] es) ∙ h ∙ sym (append-nil (spelled_items 0 [] fs)))
 
 -- a dictionary of so many terms is one of these alone
 pub same_items : (b : List ℕ) (es fs : List Item) → DictSpells b es → DictSpells b fs → length es ≡ length fs → es ≡ fs

@@ -1,19 +1,17 @@
 -- Where the terms that begin with a prefix may start.
-use Rattle.std.proofs.Common.{arith, refl, sym, ap, subst, ◌∙◌, ◌≡◌, ◌≤◌, ◌<◌, ◌+◌, ◌-◌, ◌*◌, ◌++◌, ◌∷◌, [], ℕ, List, length, take, drop, Ok, Err, Result, append_assoc, inl, inr}
+use Rattle.std.proofs.Common.{arith, refl, sym, ap, subst, ◌∙◌, ◌≡◌, ◌≤◌, ◌<◌, ◌+◌, ◌-◌, ◌*◌, ◌++◌, ◌∷◌, [], ℕ, List, length, take, drop, Ok, Result, append_assoc, inl, inr}
 use Rattle.std.specs.Int.{w32, to_le_bytes}
 use Rattle.std.proofs.lemmas.Bool.{cases_eq}
 use Rattle.std.proofs.lemmas.List.{drop_at, take-append-drop, length-append, length-take}
 use Rattle.pk_posting.specs.declared.source.SourceFault.{SourceFault}
-use Rattle.pk_posting.specs.declared.source.SourceFault.TheVariants as faults
 use Rattle.pk_dict.specs.declared.entry.Entry.{Entry}
 use Rattle.pk_dict.specs.declared.head.Step.TheVariants.{Found}
-use Rattle.pk_dict.specs.Dictionary.{Item, DictSpells, pieces, groups, offsets, group_count, spelling, items_with_prefix}
+use Rattle.pk_dict.specs.Dictionary.{Item, DictSpells, spelled_items, groups, offsets, group_count, spelling, items_with_prefix}
 use Rattle.pk_dict.specs.Lists.{last_of}
 use Rattle.pk_dict.specs.Order.{RisingTerms}
-use Rattle.pk_dict.specs.Reading.{Fails, group_at, offset_at}
+use Rattle.pk_dict.specs.Reading.{group_at, offset_at}
 use Rattle.pk_dict.specs.Search.{Known}
-use Rattle.pk_dict.specs.declared.entry.EntriesFault.TheVariants.{Damaged}
-use Rattle.pk_dict.specs.Entries.{entries_fault, start_at, IsStart}
+use Rattle.pk_dict.specs.Entries.{start_at}
 use Rattle.pk_dict.proofs.Bounds.{pieces_append, offsets_size, offset_there, offset_is, group_law}
 use Rattle.pk_dict.proofs.Collecting.{start_is}
 use Rattle.pk_dict.proofs.Ends.{AtMost, is_found, ok_is, some_item}
@@ -26,7 +24,7 @@ pub record Start (bytes : List ℕ) (es : List Item) (g : ℕ) : Type 0 where
   pub at : ℕ
   pub is : start_at bytes (4 * group_count (length es)) g ≡ Ok at
   pub place : at ≤ length bytes
-  pub stands : drop at bytes ≡ pieces (16 * g) (last_of [] (take (16 * g) es)) (drop (16 * g) es)
+  pub stands : drop at bytes ≡ spelled_items (16 * g) (last_of [] (take (16 * g) es)) (drop (16 * g) es)
 
 pub start_law : (bytes : List ℕ) (es : List Item) (g : ℕ) → DictSpells bytes es → 16 * g < length es → Start bytes es g
 unfolding spelling groups
@@ -38,10 +36,10 @@ start_law bytes es g d lt =
     let size : length before ≡ 16 * g = omega (arith, length-take (16 * g) es) in
     let o : ℕ = length (groups before) in
     let b : List ℕ = last_of [] before in
-    let tail : List ℕ = pieces (16 * g) b after in
+    let tail : List ℕ = spelled_items (16 * g) b after in
     let parts : groups es ≡ groups before ++ tail =
-    ap (pieces 0 []) (sym (take-append-drop (16 * g) es)) ∙ pieces_append 0 [] before after
-    ∙ ap (λ (k : ℕ). groups before ++ pieces k b after) (omega (arith, size)) in
+    ap (spelled_items 0 []) (sym (take-append-drop (16 * g) es)) ∙ pieces_append 0 [] before after
+    ∙ ap (λ (k : ℕ). groups before ++ spelled_items k b after) (omega (arith, size)) in
     let base : ℕ = 4 * G in
     let all : bytes ≡ (offsets es G ++ groups before) ++ tail = d.same ∙ ap (λ (l : List ℕ). offsets es G ++ l) parts ∙ sym (append_assoc (offsets es G) (groups before) tail) in
     let front : length (offsets es G ++ groups before) ≡ base + o = omega (arith, length-append (offsets es G) (groups before), offsets_size es G) in
@@ -88,20 +86,5 @@ after_chosen bytes es prefix low matched next d pos most known =
 abbrev placed : ℕ → Result ℕ SourceFault
 placed n = Ok n
 
-same_place : (n m : ℕ) → placed n ≡ placed m → n ≡ m
+pub same_place : (n m : ℕ) → placed n ≡ placed m → n ≡ m
 same_place n m e = cc
-
--- the place where the chosen group was found to start
-pub chosen_start : (bytes : List ℕ) (es : List Item) (prefix : List ℕ) (g base at : ℕ) → DictSpells bytes es → Chosen es prefix g → base ≡ 4 * group_count (length es) → start_at bytes base g ≡ Ok at → IsStart bytes es prefix g at
-chosen_start bytes es prefix g base at d c e h =
-    let s = start_law bytes es g d c.some in
-    let same : s.at ≡ at = same_place s.at at (sym s.is ∙ ap (λ (k : ℕ). start_at bytes k g) (sym e) ∙ h) in
-    record { some = c.some; place = omega (arith, s.place, same); stands = ap (λ (k : ℕ). drop k bytes) (sym same) ∙ s.stands; none = c.none }
-
--- a chosen group is never found damaged
-pub start_found : (bytes : List ℕ) (es : List Item) (prefix : List ℕ) (g base : ℕ) (f : SourceFault) → DictSpells bytes es → Chosen es prefix g → base ≡ 4 * group_count (length es) → Fails f (start_at bytes base g) → entries_fault f ≡ Damaged → ⊥
-start_found bytes es prefix g base faults.Damaged d c e h q =
-    let s = start_law bytes es g d c.some in
-    let k : Err faults.Damaged ≡ placed s.at = sym h ∙ ap (λ (k : ℕ). start_at bytes k g) e ∙ s.is in
-    absurd cc
-start_found bytes es prefix g base faults.Disk d c e h q = absurd cc

@@ -10,7 +10,7 @@ use Rattle.pk_dict.specs.declared.head.Step.{Step}
 use Rattle.pk_dict.specs.declared.head.Step.TheVariants.{Less, Found, Past}
 use Rattle.std.specs.Str.{bytes_eq}
 use Rattle.pk_dict.specs.declared.head.Head.{Head}
-use Rattle.pk_dict.specs.Dictionary.{numbers, Item, rest_of, shared, piece, pieces, Fits, entry_of}
+use Rattle.pk_dict.specs.Dictionary.{numbers, Item, rest_of, shared, spelled_item, spelled_items, Fits, entry_of}
 use Rattle.pk_dict.specs.Order.{less, Rising}
 use Rattle.pk_dict.specs.Reading.{◌>>=◌, number_at, entry_at, byte_at, shared_at, head_at, compared_at, apart_at, step_at, next_at, scan_at, going_on}
 use Rattle.pk_dict.proofs.Shared.{shared_value, shared_most}
@@ -185,8 +185,8 @@ none_past t (e ∷ es) g r l s =
     let p = stays_past t e.term g r.0 l s in
     rw (p.1) (none_past e.term es g r.1 p.0 p.1)
 
-pub piece_not : (i : ℕ) (b : List ℕ) (e : Item) → 0 < i % 16 → piece i b e ≡ vbyte (shared b e.term) ++ rest_of b e
-unfolding piece
+pub piece_not : (i : ℕ) (b : List ℕ) (e : Item) → 0 < i % 16 → spelled_item i b e ≡ vbyte (shared b e.term) ++ rest_of b e
+unfolding spelled_item
 piece_not i b e h = rw (ne_eqb (i % 16) 0 (λ (q : i % 16 ≡ 0). omega arith)) refl
 
 next_by : (bytes g : List ℕ) (m at : ℕ) (s : ℕ × ℕ) → number_at bytes at ≡ Ok s → next_at bytes g m at ≡ step_at bytes g s.0 m s.1
@@ -195,14 +195,14 @@ next_by bytes g m at s e = rw e refl
 
 -- the terms of a group after its first
 pub scan_law : (i : ℕ) (b : List ℕ) (es : List Item) (bytes g : List ℕ) (at : ℕ) (more : List ℕ) → (0 < length es → 0 < i % 16) → i % 16 + length es ≤ 16 → Rising b es → AllByRecursion Fits es → less b g ≡ true
-    → at ≤ length bytes → drop at bytes ≡ pieces i b es ++ more → scan_at (length es) bytes g (shared b g) at ≡ Ok (entry_of es g)
+    → at ≤ length bytes → drop at bytes ≡ spelled_items i b es ++ more → scan_at (length es) bytes g (shared b g) at ≡ Ok (entry_of es g)
 unfolding scan_at
 scan_law i b [] bytes g at more in_group few rises fits below h d = refl
 scan_law i b (e ∷ es) bytes g at more in_group few rises fits below h d =
     let s : ℕ = shared b e.term in
     let most = shared_most b e.term in
-    let after : List ℕ = pieces (i + 1) e.term es ++ more in
-    let d0 : drop at bytes ≡ vbyte s ++ (rest_of b e ++ after) = d ∙ append_assoc (piece i b e) (pieces (i + 1) e.term es) more ∙ ap (λ (l : List ℕ). l ++ after) (piece_not i b e (in_group (omega arith))) ∙ append_assoc (vbyte s) (rest_of b e) after in
+    let after : List ℕ = spelled_items (i + 1) e.term es ++ more in
+    let d0 : drop at bytes ≡ vbyte s ++ (rest_of b e ++ after) = d ∙ append_assoc (spelled_item i b e) (spelled_items (i + 1) e.term es) more ∙ ap (λ (l : List ℕ). l ++ after) (piece_not i b e (in_group (omega arith))) ∙ append_assoc (vbyte s) (rest_of b e) after in
     let d1 = moved bytes at (vbyte s) (rest_of b e ++ after) d0 in
     let start : ℕ = at + length (vbyte s) in
     let h1 : start ≤ length bytes = omega (arith, inside bytes at (vbyte s) (rest_of b e ++ after) h d0) in

@@ -52,20 +52,20 @@ rest_of before e =
     vbyte (length e.term - shared before e.term)
     ++ (drop (shared before e.term) e.term ++ numbers e.entry)
 
--- the term at place i: each sixteenth begins a group and stands whole, any other says first how
+-- the term of index i: each sixteenth begins a group and stands whole, any other says first how
 -- much it shares
-unfoldable pub piece : ℕ → List ℕ → Item → List ℕ
-piece i before e =
+unfoldable pub spelled_item : ℕ → List ℕ → Item → List ℕ
+spelled_item i before e =
     if i % 16 == 0 then rest_of [] e else vbyte (shared before e.term) ++ rest_of before e
 
--- the terms from place i on, after the term before
-abbrev pub pieces : ℕ → List ℕ → List Item → List ℕ
-pieces i before [] = []
-pieces i before (e ∷ es) = piece i before e ++ pieces (i + 1) e.term es
+-- the terms from index i on, after the term before
+abbrev pub spelled_items : ℕ → List ℕ → List Item → List ℕ
+spelled_items i before [] = []
+spelled_items i before (e ∷ es) = spelled_item i before e ++ spelled_items (i + 1) e.term es
 
 -- all groups
 unfoldable pub groups : List Item → List ℕ
-groups es = pieces 0 [] es
+groups es = spelled_items 0 [] es
 
 -- the first n offsets: each of a group, counted from the start of the first
 abbrev pub offsets : List Item → ℕ → List ℕ

@@ -2,9 +2,11 @@ pub mod Dict
 pub mod Dictionary
 pub mod Entries
 pub mod Lists
+pub mod LookUp
 pub mod Order
 pub mod Place
 pub mod Reading
 pub mod Search
 pub mod Source
+pub mod Window
 pub mod Writer

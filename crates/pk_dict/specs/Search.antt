@@ -15,17 +15,13 @@ use Rattle.std.specs.Prelude.{
   drop,
   true,
   false,
-  Result,
   Ok,
-  Err,
 }
 use Rattle.std.specs.Str.{bytes_eq}
-use Rattle.pk_posting.specs.declared.source.SourceFault.{SourceFault}
-use Rattle.pk_posting.specs.declared.source.SourceFault.TheVariants as faults
 use Rattle.pk_dict.specs.declared.head.Standing.{Standing}
 use Rattle.pk_dict.specs.declared.head.Standing.TheVariants.{First, After}
 use Rattle.pk_dict.specs.declared.head.Step.TheVariants.{Found}
-use Rattle.pk_dict.specs.Dictionary.{Item, shared, pieces, group_count}
+use Rattle.pk_dict.specs.Dictionary.{Item, shared, spelled_items, group_count}
 use Rattle.pk_dict.specs.Order.{less}
 use Rattle.pk_dict.specs.Reading.{group_at}
 
@@ -37,7 +33,7 @@ pub record Under (bytes term : List ℕ) (g matched next : ℕ) (e : Item) (rest
   pub before : less e.term term ≡ true
   pub shares : matched ≡ shared e.term term
   pub place : next ≤ length bytes
-  pub stands : drop next bytes ≡ pieces (16 * g + 1) e.term rest ++ []
+  pub stands : drop next bytes ≡ spelled_items (16 * g + 1) e.term rest ++ []
 
 -- a group's first term is greater than the wanted one
 pub record Above (term : List ℕ) (e : Item) : Type 0 where
@@ -59,12 +55,6 @@ IsStanding bytes es term (First group entry) =
     × (group_at bytes (4 * group_count (length es)) group term ≡ Ok (Found entry))
 IsStanding bytes es term (After groups matched next) =
     (groups ≤ group_count (length es)) × Known bytes es term groups groups matched next
-
--- a dictionary is never found damaged
-abbrev pub Stands : List ℕ → List Item → List ℕ → Result Standing SourceFault → Type 0
-Stands bytes es term (Ok s) = IsStanding bytes es term s
-Stands bytes es term (Err faults.Damaged) = ⊥
-Stands bytes es term (Err faults.Disk) = Unit {0}
 
 -- the groups are some of so many, and no more is matched than the term has
 abbrev pub IsAmong : ℕ → ℕ → Standing → Type 0

@@ -3,9 +3,9 @@ use Rattle.std.specs.Prelude.{◌≡◌, ◌≤◌, ◌+◌, ◌/◌, ℕ, List,
 use Rattle.pk_posting.specs.declared.source.SourceFault.{SourceFault}
 use Rattle.pk_posting.specs.Source.{CountsFaults}
 
--- in how many pieces of 4,096 bytes a term of so many bytes is read
-abbrev pub pieces_of : ℕ → ℕ
-pieces_of n = (n + 4095) / 4096
+-- in how many stretches of 4,096 bytes a term of so many bytes is read
+abbrev pub stretches_of : ℕ → ℕ
+stretches_of n = (n + 4095) / 4096
 
 -- what a call leaves of a source
 pub record IsLeft {S T : Type 0} (honest : Type 0) (content : S → List ℕ) (failures : S → ℕ)

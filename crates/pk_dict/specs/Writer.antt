@@ -15,9 +15,13 @@ pub record HasAdded (w : DictWriter) (es : List Item) : Type 0 where
   pub last : w.last.items ≡ last_of [] es
   pub count : w.in_group ≡ length es % 16
 
--- an item may be added: its term is greater than those that were, and the bytes stay below 2^32
+-- an item may follow these: its term is greater than theirs, and the bytes stay below 2^32
+pub record MayFollow (es : List Item) (e : Item) : Type 0 where
+  pub rising : IsRising (es ++ e ∷ [])
+  pub size : length (spelling (es ++ e ∷ [])) < 2 ^ 32
+
+-- an item may be added: it may follow those that were
 pub record MayAdd (w : DictWriter) (e : Item) : Type 0 where
   pub items : List Item
   pub added : HasAdded w items
-  pub rising : IsRising (items ++ e ∷ [])
-  pub size : length (spelling (items ++ e ∷ [])) < 2 ^ 32
+  pub next : MayFollow items e

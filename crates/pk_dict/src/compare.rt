@@ -5,7 +5,7 @@ ghost use Rattle.pk_dict.specs.Dictionary.{shared};
 ghost use Rattle.pk_dict.specs.Order.{less};
 ghost use Rattle.pk_dict.specs.Place.{LiesIn, bytes_at};
 ghost use Rattle.pk_dict.specs.Reading.{Gives, shared_at};
-ghost use Rattle.pk_dict.specs.Source.{IsRead, pieces_of};
+ghost use Rattle.pk_dict.specs.Source.{IsRead, stretches_of};
 
 use crate::entry::DictPlace;
 use pk_posting::{ByteSource, SourceFault};
@@ -30,8 +30,8 @@ pub(crate) fn is_less(a: &[u8], b: &[u8]) -> bool
     n < b.len() && (n == a.len() || a[n] < b[n])
 }
 
-// How many bytes a piece at a place shares with a term.
-pub(crate) fn shared_piece<S: ByteSource>(
+// How many bytes a stretch at a place shares with a term.
+pub(crate) fn shared_stretch<S: ByteSource>(
     source: &mut S,
     place: DictPlace,
     at: u32,
@@ -66,7 +66,7 @@ pub(crate) fn shared_with<S: ByteSource>(
     ensures most { IfOk result (λ c. (c ≤ n) × (c ≤ length term.now)) }
     ensures inside { IfOk result (λ _. at + n ≤ place.bytes) }
     ensures left { IsRead S.honest S.content S.asked S.failures S.keeps
-        (pieces_of (length term.now))
+        (stretches_of (length term.now))
         result source.old source.new }
 {
     if u64::from(place.bytes) < u64::from(at) + u64::from(n) {
@@ -76,7 +76,7 @@ pub(crate) fn shared_with<S: ByteSource>(
     let mut done: usize = 0;
     while done < most {
         let size = (most - done).min(4096);
-        let more = shared_piece(source, place, at + done as u32, size as u32, &term[done..])?;
+        let more = shared_stretch(source, place, at + done as u32, size as u32, &term[done..])?;
         done += more;
         if more < size {
             return Ok(done);

@@ -1,7 +1,14 @@
 //! A dictionary in memory.
 
 ghost use Rattle.std.specs.Prelude.{◌≡◌, ℕ, List, length, Ok, IfErr, MatchResult};
-ghost use Rattle.pk_dict.specs.Dict.{dict_bytes, dict_terms};
+ghost use Rattle.pk_dict.specs.Dict.{
+  Answers,
+  Lists,
+  dict_bytes,
+  dict_terms,
+  prefix_says,
+  term_says,
+};
 ghost use Rattle.pk_dict.specs.Dictionary.{DictSpells, Item, entry_of, items_with_prefix};
 ghost use Rattle.pk_dict.specs.Entries.{items_from};
 
@@ -30,6 +37,8 @@ impl<'a> Dict<'a> {
 
     /// The entry of a term, or None where the term is not in the dictionary. It takes no memory.
     pub fn look_up(&self, term: &[u8]) -> Result<Option<Entry>, DictFault>
+        ensures value { Answers result
+            (term_says (dict_bytes self.now) (dict_terms self.now) term.now) }
         ensures found { (es : List Item) → DictSpells (dict_bytes self.now) es
             → length es ≡ dict_terms self.now → result ≡ Ok (entry_of es term.now) }
         ensures fault { IfErr result (λ e. e ≡ DictFault.Damaged) }
@@ -55,6 +64,8 @@ impl<'a> Dict<'a> {
         alloc: Global,
         prefix: &[u8],
     ) -> Result<Vec<(Vec<u8>, Entry)>, DictFault>
+        ensures value { Lists result
+            (prefix_says (dict_bytes self.now) (dict_terms self.now) prefix.now) }
         ensures found { (es : List Item) → DictSpells (dict_bytes self.now) es
             → length es ≡ dict_terms self.now
             → MatchResult result (λ v. items_from v.items ≡ items_with_prefix prefix.now es)

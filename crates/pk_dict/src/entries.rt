@@ -5,6 +5,7 @@ ghost use Rattle.std.specs.Prelude.{
   ◌≤◌,
   ◌<◌,
   ◌+◌,
+  ◌-◌,
   ◌*◌,
   ◌^◌,
   ◌++◌,
@@ -14,10 +15,6 @@ ghost use Rattle.std.specs.Prelude.{
   length,
   take,
   drop,
-  true,
-  false,
-  nat_eq,
-  OnErr,
   OnOk,
   IfErr,
   IfOk,
@@ -25,7 +22,7 @@ ghost use Rattle.std.specs.Prelude.{
   IsTrue,
   MatchResult,
 };
-ghost use Rattle.std.specs.List.{starts_with};
+ghost use Rattle.std.specs.List.{AllByRecursion};
 ghost use Rattle.pk_dict.specs.Dictionary.{
   DictSpells,
   Item,
@@ -34,17 +31,21 @@ ghost use Rattle.pk_dict.specs.Dictionary.{
 };
 ghost use Rattle.pk_dict.specs.Entries.{
   IsListed,
-  IsStart,
+  ListGives,
   TermGives,
+  asks_at,
+  entries_of,
+  goes_on,
+  group_of,
   item_kept,
   items_from,
+  items_from_group,
   start_at,
   term_at,
 };
-ghost use Rattle.pk_dict.specs.Order.{less};
 ghost use Rattle.pk_dict.specs.Place.{LiesIn, bytes_at};
 ghost use Rattle.pk_dict.specs.Reading.{Gives};
-ghost use Rattle.pk_dict.specs.Source.{IsRead};
+ghost use Rattle.pk_dict.specs.Source.{IsRead, stretches_of};
 
 use crate::compare::is_less;
 use crate::entry::{DictPlace, EntriesFault, Entry};
@@ -59,14 +60,18 @@ use std::vec::Vec;
 /// The terms that begin with a prefix, each with its entry, in a dictionary that lies in a source.
 /// They rise by bytes; the empty prefix gives all terms.
 ///
-/// It reads small pieces alone, from the group where the first such term may stand up to the first
-/// term past the last.
+/// It reads short stretches alone, from the group where the first such term may stand up to the
+/// first term past the last. In a dictionary with groups up to 2^k, whose terms have at most m
+/// stretches of 4,096 bytes, it asks at most (k + 1) * (6 + the stretches of the prefix) + 1 times,
+/// and (5 + m) times for each term of the answer and for 17 others.
 pub fn entries_in<S: ByteSource>(
     alloc: Global,
     source: &mut S,
     place: DictPlace,
     prefix: &[u8],
 ) -> Result<Vec<(Vec<u8>, Entry)>, EntriesFault>
+    ensures value { S.honest → ListGives result
+        (entries_of (S.content source.old) place prefix.now) }
     ensures found { S.honest → (es : List Item)
         → place.at + place.bytes ≤ length (S.content source.old)
         → DictSpells (bytes_at (S.content source.old) place) es → length es ≡ place.terms
@@ -74,6 +79,36 @@ pub fn entries_in<S: ByteSource>(
         (λ e. e ≡ EntriesFault.Damaged → ⊥) }
     ensures inside { IsOk result → place.at + place.bytes ≤ length (S.content source.old) }
     ensures left { IsListed S.honest S.content S.failures S.keeps result source.old source.new }
+    ensures asks { S.honest → (es : List Item)
+        → DictSpells (bytes_at (S.content source.old) place) es → length es ≡ place.terms
+        → IfOk result (λ v. (k m : ℕ) → group_count place.terms ≤ 2 ^ k
+        → AllByRecursion (λ (e : Item). stretches_of (length e.term) ≤ m) es
+        → S.asked source.new ≤ S.asked source.old
+        + (k + 1) * (6 + stretches_of (length prefix.now)) + 1
+        + (length v.items + 17) * (5 + m)) }
+{
+    entries_any(alloc, source, place, prefix)
+}
+
+// The terms that begin with a prefix, as any bytes say.
+#[tactic(auto, unfolding(crate::specs::Entries::entries_of, crate::specs::Entries::entries_at))]
+fn entries_any<S: ByteSource>(
+    alloc: Global,
+    source: &mut S,
+    place: DictPlace,
+    prefix: &[u8],
+) -> Result<Vec<(Vec<u8>, Entry)>, EntriesFault>
+    ensures value { S.honest → ListGives result
+        (entries_of (S.content source.old) place prefix.now) }
+    ensures inside { IsOk result → place.at + place.bytes ≤ length (S.content source.old) }
+    ensures left { IsListed S.honest S.content S.failures S.keeps result source.old source.new }
+    ensures asks { S.honest → (es : List Item)
+        → DictSpells (bytes_at (S.content source.old) place) es → length es ≡ place.terms
+        → OnOk result ((k m : ℕ) → group_count place.terms ≤ 2 ^ k
+        → AllByRecursion (λ (e : Item). stretches_of (length e.term) ≤ m) es
+        → S.asked source.new ≤ S.asked source.old
+        + (k + 1) * (6 + stretches_of (length prefix.now)) + 1
+        + (length (items_with_prefix prefix.now es) + 17) * (5 + m)) }
 {
     if u64::from(source.len()) < u64::from(place.at) + u64::from(place.bytes) {
         return Err(EntriesFault::Damaged);
@@ -81,16 +116,24 @@ pub fn entries_in<S: ByteSource>(
     if place.terms == 0 {
         return Ok(Vec::new(alloc));
     }
-    let group = match narrow(source, place, prefix)? {
-        Standing::First(group, _) => group,
-        Standing::After(groups, _, _) => groups.saturating_sub(1),
-    };
+    let standing = narrow(source, place, prefix)?;
+    let group = first_group(standing);
     let base = 4 * groups_of(place.terms);
     let at = group_start(source, place, base, group)?;
     collect(alloc, source, place, group, at, prefix)
 }
 
-// The entries from a group on, which begins at a place: no term before it begins with the prefix.
+// The group where the first term may stand that begins with a prefix, by where the prefix stands.
+fn first_group(standing: Standing) -> u32
+    ensures { result ≡ group_of standing }
+{
+    match standing {
+        Standing::First(group, _) => group,
+        Standing::After(groups, _, _) => groups.saturating_sub(1),
+    }
+}
+
+// The entries from a group on, which begins at a place.
 fn collect<S: ByteSource>(
     alloc: Global,
     source: &mut S,
@@ -101,12 +144,12 @@ fn collect<S: ByteSource>(
 ) -> Result<Vec<(Vec<u8>, Entry)>, EntriesFault>
     requires lies { LiesIn place (length (S.content source.old)) }
     requires few { group < 2 ^ 28 }
-    ensures found { S.honest → (es : List Item)
-        → DictSpells (bytes_at (S.content source.old) place) es → length es ≡ place.terms
-        → IsStart (bytes_at (S.content source.old) place) es prefix.now group at
-        → MatchResult result (λ v. items_from v.items ≡ items_with_prefix prefix.now es)
-        (λ e. e ≡ EntriesFault.Damaged → ⊥) }
+    ensures value { S.honest → ListGives result (items_from_group
+        (bytes_at (S.content source.old) place) place.terms prefix.now group at) }
     ensures left { IsListed S.honest S.content S.failures S.keeps result source.old source.new }
+    ensures asks { S.honest → OnOk result (S.asked source.new ≤ S.asked source.old
+        + asks_at (place.terms - 16 * group) (bytes_at (S.content source.old) place)
+        prefix.now (16 * group) [] at) }
 {
     let mut found = Vec::new(alloc);
     let mut term = Vec::new(alloc);
@@ -161,18 +204,19 @@ fn append<S: ByteSource>(
         ≡ out.old.items ++ take n (drop at (bytes_at (S.content source.old) place))) }
     ensures fault { IfErr result (λ e. e ≡ EntriesFault.Damaged → ⊥) }
     ensures left { IsListed S.honest S.content S.failures S.keeps result source.old source.new }
+    ensures asks { S.asked source.new ≤ S.asked source.old + stretches_of n }
 {
     let mut done: u32 = 0;
     while done < n {
         let size = (n - done).min(4096);
-        append_piece(source, place, at + done, size, out)?;
+        append_stretch(source, place, at + done, size, out)?;
         done += size;
     }
     Ok(())
 }
 
-// Puts a piece at the end.
-fn append_piece<S: ByteSource>(
+// Puts a stretch at the end.
+fn append_stretch<S: ByteSource>(
     source: &mut S,
     place: DictPlace,
     at: u32,
@@ -186,6 +230,7 @@ fn append_piece<S: ByteSource>(
         ≡ out.old.items ++ take size (drop at (bytes_at (S.content source.old) place))) }
     ensures fault { IfErr result (λ e. e ≡ EntriesFault.Damaged → ⊥) }
     ensures left { IsListed S.honest S.content S.failures S.keeps result source.old source.new }
+    ensures asks { S.asked source.new ≤ S.asked source.old + 1 }
 {
     let piece = source.bytes(place.at + at, size)?;
     out.extend_from_slice(piece)?;
@@ -205,6 +250,8 @@ fn next_term<S: ByteSource>(
     ensures value { S.honest → TermGives result term.new.items
         (term_at (bytes_at (S.content source.old) place) first term.old.items at) }
     ensures left { IsListed S.honest S.content S.failures S.keeps result source.old source.new }
+    ensures asks { S.honest → OnOk result (S.asked source.new
+        ≤ S.asked source.old + 5 + stretches_of (length term.new.items)) }
 {
     let (kept, start) = if first {
         (0, at)
@@ -230,8 +277,7 @@ fn keep(
 ) -> Result<bool, AllocError>
     ensures items { OnOk result (items_from found.new.items
         ≡ items_from found.old.items ++ item_kept prefix.now term.now entry) }
-    ensures past { IfOk result (λ more. more ≡ false
-        → (less prefix.now term.now ≡ true) × (starts_with nat_eq term.now prefix.now ≡ false)) }
+    ensures more { IfOk result (λ more. more ≡ goes_on prefix.now term.now) }
 {
     if term.starts_with(prefix) {
         let copy = Vec::from_slice(alloc, term)?;

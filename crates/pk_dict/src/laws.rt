@@ -1,7 +1,9 @@
 //! Laws of dictionaries, as functions without a body whose contract is the law.
 
-ghost use Rattle.std.specs.Prelude.{◌≡◌, ℕ, List, length};
-ghost use Rattle.pk_dict.specs.Dictionary.{DictSpells, Item};
+ghost use Rattle.std.specs.Prelude.{◌≡◌, ℕ, List, length, Ok};
+ghost use Rattle.pk_dict.specs.Dictionary.{DictSpells, Item, entry_of, items_with_prefix};
+ghost use Rattle.pk_dict.specs.Entries.{entries_at};
+ghost use Rattle.pk_dict.specs.LookUp.{look_up_at};
 
 /// A dictionary's bytes have one list of entries: bytes of so many terms are a dictionary of one
 /// list.
@@ -15,4 +17,19 @@ pub fn bytes_have_one_list()
 #[tactic(auto, using(crate::proofs::Same::same_spelling))]
 pub fn a_list_has_one_spelling()
     ensures { (b c : List ℕ) (es : List Item) → DictSpells b es → DictSpells c es → b ≡ c }
+{}
+
+/// What a look-up answers for any bytes is, where they are a dictionary, the term's entry.
+#[tactic(auto, using(crate::proofs::LookUpLaw::look_up_law))]
+pub fn a_dictionary_says_its_entries()
+    ensures { (b : List ℕ) (es : List Item) (terms : ℕ) (term : List ℕ) → DictSpells b es
+        → length es ≡ terms → look_up_at b terms term ≡ Ok (entry_of es term) }
+{}
+
+/// What a prefix search answers for any bytes is, where they are a dictionary, its items that begin
+/// with the prefix.
+#[tactic(auto, using(crate::proofs::EntriesLaw::entries_law))]
+pub fn a_dictionary_says_its_items()
+    ensures { (b : List ℕ) (es : List Item) (terms : ℕ) (prefix : List ℕ) → DictSpells b es
+        → length es ≡ terms → entries_at b terms prefix ≡ Ok (items_with_prefix prefix es) }
 {}

@@ -25,19 +25,22 @@
 //!
 //! - [`DictWriter`] takes the terms one by one and gives the bytes.
 //! - [`Dict`] reads a dictionary in memory; [`look_up_in`] and [`entries_in`] read one that lies
-//!   in a source, by small pieces. Both go by the same steps: a slice is a source that lends
+//!   in a source, by short stretches. Both go by the same steps: a slice is a source that lends
 //!   itself.
 //! - [`Window`] is a source over a source that reads 4,096 bytes at once, so that few of the
-//!   pieces of a look-up reach what lies below.
+//!   stretches of a look-up reach what lies below.
 //!
 //! Bytes that are no dictionary of that many terms are refused as Damaged wherever a reader sees
 //! it: a number that ends too early or is too large, a part past the end, a term that keeps more
 //! than the one before has, or that shares less than the order allows. Not each such byte is
-//! seen, since a look-up reads only what it needs; every call returns. A refusal leaves nothing
-//! changed, and any call may follow.
+//! seen, since a look-up reads only what it needs; every call returns. What is answered is a
+//! function of the bytes, whatever they are (`look_up_at`, `entries_at`): Ok exactly where it says
+//! so, Damaged exactly where it meets damage. A refusal leaves nothing changed, and any call may
+//! follow.
 //!
 //! The words of the contracts are in `specs`: `Dictionary` has the format, `Writer` what was
-//! added, `Entries` the lists of a prefix, `Place` and `Source` what a source has to do with it,
+//! added, `LookUp` and `Entries` what any bytes say of a term and of a prefix, `Dict` the same of a
+//! slice, `Window` what a window holds, `Place` and `Source` what a source has to do with it,
 //! `Reading` and `Search` what each private step finds.
 #![tactic(auto)]
 
@@ -59,6 +62,3 @@ pub use entry::{DictFault, DictPlace, EntriesFault, Entry};
 pub use look_up::look_up_in;
 pub use window::Window;
 pub use writer::DictWriter;
-
-#[cfg(test)]
-mod tests;

@@ -15,9 +15,11 @@ ghost use Rattle.std.specs.Prelude.{
   MatchResult,
 };
 ghost use Rattle.pk_dict.specs.Dictionary.{DictSpells, Item, entry_of, group_count};
+ghost use Rattle.pk_dict.specs.LookUp.{look_up_of, standing_at};
 ghost use Rattle.pk_dict.specs.Place.{LiesIn, bytes_at};
-ghost use Rattle.pk_dict.specs.Search.{IsAmong, Stands};
-ghost use Rattle.pk_dict.specs.Source.{IsLeft, pieces_of};
+ghost use Rattle.pk_dict.specs.Reading.{Gives};
+ghost use Rattle.pk_dict.specs.Search.{IsAmong};
+ghost use Rattle.pk_dict.specs.Source.{IsLeft, stretches_of};
 
 use crate::entry::{DictPlace, Entry};
 use crate::head::{Standing, Step};
@@ -26,13 +28,15 @@ use pk_posting::{ByteSource, SourceFault};
 
 /// The entry of a term in a dictionary that lies in a source, or None where the term is not in it.
 ///
-/// It reads small pieces alone and takes no memory: with groups up to 2^k it asks at most
-/// (k + 16) * (6 + the pieces of 4,096 bytes of the term) times.
+/// It reads short stretches alone and takes no memory: with groups up to 2^k it asks at most
+/// (k + 16) * (6 + the stretches of 4,096 bytes of the term) times.
 pub fn look_up_in<S: ByteSource>(
     source: &mut S,
     place: DictPlace,
     term: &[u8],
 ) -> Result<Option<Entry>, SourceFault>
+    ensures value { S.honest → Gives result
+        (look_up_of (S.content source.old) place term.now) }
     ensures found { S.honest → (es : List Item)
         → place.at + place.bytes ≤ length (S.content source.old)
         → DictSpells (bytes_at (S.content source.old) place) es → length es ≡ place.terms
@@ -41,7 +45,24 @@ pub fn look_up_in<S: ByteSource>(
 
     ensures left { IsLeft S.honest S.content S.failures S.keeps result source.old source.new }
     ensures asks { (k : ℕ) → group_count place.terms ≤ 2 ^ k → S.asked source.new
-        ≤ S.asked source.old + (k + 16) * (6 + pieces_of (length term.now)) }
+        ≤ S.asked source.old + (k + 16) * (6 + stretches_of (length term.now)) }
+{
+    look_up_any(source, place, term)
+}
+
+// The entry of a term, as any bytes say.
+#[tactic(auto, unfolding(crate::specs::LookUp::look_up_of, crate::specs::LookUp::look_up_at))]
+fn look_up_any<S: ByteSource>(
+    source: &mut S,
+    place: DictPlace,
+    term: &[u8],
+) -> Result<Option<Entry>, SourceFault>
+    ensures value { S.honest → Gives result
+        (look_up_of (S.content source.old) place term.now) }
+    ensures inside { IsOk result → place.at + place.bytes ≤ length (S.content source.old) }
+    ensures left { IsLeft S.honest S.content S.failures S.keeps result source.old source.new }
+    ensures asks { (k : ℕ) → group_count place.terms ≤ 2 ^ k → S.asked source.new
+        ≤ S.asked source.old + (k + 16) * (6 + stretches_of (length term.now)) }
 {
     if u64::from(source.len()) < u64::from(place.at) + u64::from(place.bytes) {
         return Err(SourceFault::Damaged);
@@ -73,13 +94,12 @@ pub(crate) fn narrow<S: ByteSource>(
     term: &[u8],
 ) -> Result<Standing, SourceFault>
     requires { LiesIn place (length (S.content source.old)) }
-    ensures stands { S.honest → (es : List Item)
-        → DictSpells (bytes_at (S.content source.old) place) es → length es ≡ place.terms
-        → Stands (bytes_at (S.content source.old) place) es term.now result }
+    ensures value { S.honest → Gives result
+        (standing_at (bytes_at (S.content source.old) place) place.terms term.now) }
     ensures among { IfOk result (IsAmong (group_count place.terms) (length term.now)) }
     ensures left { IsLeft S.honest S.content S.failures S.keeps result source.old source.new }
     ensures asks { (k : ℕ) → group_count place.terms ≤ 2 ^ k → S.asked source.new
-        ≤ S.asked source.old + (k + 1) * (6 + pieces_of (length term.now)) }
+        ≤ S.asked source.old + (k + 1) * (6 + stretches_of (length term.now)) }
 {
     let groups = groups_of(place.terms);
     let base = 4 * groups;

@@ -13,7 +13,7 @@ ghost use Rattle.pk_dict.specs.Reading.{
   scan_at,
   step_at,
 };
-ghost use Rattle.pk_dict.specs.Source.{IsRead, pieces_of};
+ghost use Rattle.pk_dict.specs.Source.{IsRead, stretches_of};
 
 use crate::compare::shared_with;
 use crate::entry::{DictPlace, Entry};
@@ -63,7 +63,7 @@ fn compared<S: ByteSource>(
         (compared_at (bytes_at (S.content source.old) place) head term.now matched) }
     ensures matched { IfOk result (IsWithin (length term.now)) }
     ensures left { IsRead S.honest S.content S.asked S.failures S.keeps
-        (1 + pieces_of (length term.now)) result source.old source.new }
+        (1 + stretches_of (length term.now)) result source.old source.new }
 {
     let more = shared_with(source, place, head.rest, head.size, &term[matched..])?;
     let matched = matched + more;
@@ -124,7 +124,7 @@ pub(crate) fn step<S: ByteSource>(
         (step_at (bytes_at (S.content source.old) place) term.now kept matched at) }
     ensures matched { IfOk result (IsWithin (length term.now)) }
     ensures left { IsRead S.honest S.content S.asked S.failures S.keeps
-        (5 + pieces_of (length term.now)) result source.old source.new }
+        (5 + stretches_of (length term.now)) result source.old source.new }
 {
     let head = head(source, place, at)?;
     if matched < kept {
@@ -151,7 +151,7 @@ fn next_step<S: ByteSource>(
         (next_at (bytes_at (S.content source.old) place) term.now matched at) }
     ensures matched { IfOk result (IsWithin (length term.now)) }
     ensures left { IsRead S.honest S.content S.asked S.failures S.keeps
-        (6 + pieces_of (length term.now)) result source.old source.new }
+        (6 + stretches_of (length term.now)) result source.old source.new }
 {
     let (kept, start) = number(source, place, at)?;
     step(source, place, term, kept as usize, matched, start)
@@ -172,7 +172,7 @@ pub(crate) fn scan<S: ByteSource>(
     ensures value { S.honest → Gives result
         (scan_at count (bytes_at (S.content source.old) place) term.now matched at) }
     ensures left { IsRead S.honest S.content S.asked S.failures S.keeps
-        (count * (6 + pieces_of (length term.now))) result source.old source.new }
+        (count * (6 + stretches_of (length term.now))) result source.old source.new }
 {
     let mut matched = matched;
     let mut at = at;
@@ -204,7 +204,7 @@ pub(crate) fn group_step<S: ByteSource>(
         (group_at (bytes_at (S.content source.old) place) base group term.now) }
     ensures matched { IfOk result (IsWithin (length term.now)) }
     ensures left { IsRead S.honest S.content S.asked S.failures S.keeps
-        (6 + pieces_of (length term.now)) result source.old source.new }
+        (6 + stretches_of (length term.now)) result source.old source.new }
 {
     let offset = offset(source, place, 4 * group)?;
     match base.checked_add(offset) {

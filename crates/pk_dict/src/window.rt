@@ -1,4 +1,4 @@
-//! A source over a source, with a buffer: pieces that lie close together ask below once.
+//! A source over a source, with a buffer: stretches that lie close together ask below once.
 
 ghost use Rattle.std.specs.Prelude.{
   ◌≡◌,
@@ -22,14 +22,15 @@ ghost use Rattle.std.specs.Prelude.{
 };
 ghost use Rattle.std.proofs.Common.{◌∙◌, refl};
 ghost use Rattle.pk_posting.specs.Source.{CountsFaults, full_count};
+ghost use Rattle.pk_dict.specs.Window.{IsAskedBelow};
 
 use pk_posting::{ByteSource, SourceFault};
 
 /// How many bytes a window reads at once.
 const WINDOW: usize = 4096;
 
-/// A source over another: it has the same bytes, reads 4,096 of them at once, and lends pieces of
-/// what it read last. So pieces that lie close together ask the source below once.
+/// A source over another: it has the same bytes, reads 4,096 of them at once, and lends stretches
+/// of what it read last. So stretches that lie close together ask the source below once.
 #[derive(Drop)]
 pub struct Window<'a, S: ByteSource> {
     source: &'a mut S,
@@ -42,11 +43,18 @@ pub struct Window<'a, S: ByteSource> {
     asked: u64,
     ghost few: { held ≤ 4096 },
     ghost inside: { at + held ≤ length (S.content source.now) },
-    ghost calm: { 0 < held → S.failures source.now < full_count },
+    ghost not_full: { 0 < held → S.failures source.now < full_count },
     ghost value: { S.honest → take held buffer ≡ take held (drop at (S.content source.now)) },
 }
 
 impl<'a, S: ByteSource> Window<'a, S> {
+    ghost use Rattle.std.specs.Prelude.{[]};
+    ghost use mir.Syntax.{named};
+    ghost use Rattle.std.specs.Borrow.{sem};
+    ghost use Rattle.std.specs.Io.BufRead.{Rests};
+    ghost use Rattle.pk_posting.specs.Source.{IsAskedOnce};
+    ghost use Rattle.pk_dict.specs.contracts.window.Window.{the_row};
+
     /// A window over a source. It holds nothing yet, and was not asked yet.
     pub fn on(source: &'a mut S) -> Window<'a, S>
         ensures source { result.source.now ≡ source.old }
@@ -62,6 +70,33 @@ impl<'a, S: ByteSource> Window<'a, S> {
         }
     }
 
+    /// Lends the `n` bytes from the place `at` on, as `bytes` does. What it holds it lends without
+    /// asking below, and keeps. For anything else it asks below once, and from then on holds the
+    /// 4,096 bytes that it read, or all up to the end.
+    pub fn lend(&mut self, at: u32, n: u32) -> Result<&[u8], SourceFault>
+        requires { n ≤ 4096 }
+        ensures value { S.honest → IfOk result (λ s.
+            s.now ≡ take n (drop at (S.content self.old.source.now))) }
+        ensures lent { IfOk result (λ s. length s.now ≡ n) }
+        ensures inside { IsOk result → at + n ≤ length (S.content self.old.source.now) }
+        ensures damaged { IsErrOf result SourceFault.Damaged
+            ↔ (length (S.content self.old.source.now) < at + n) }
+        ensures* after { sem 𝓛 (Rests
+            (the_row (record { mir = named 1; lft = [] }) S.row S.ByteSource) self.entry (λ new.
+            IsAskedOnce S.honest (λ w. S.content w.source.now) (λ w. w.asked)
+            (λ w. S.failures w.source.now)
+            (λ a b. (b.source.ghost_name ≡ a.source.ghost_name)
+            × S.keeps a.source.now b.source.now)
+            result self.old new
+            × IsAskedBelow at n (length (S.content self.old.source.now))
+            self.old.at self.old.held (S.asked self.old.source.now) result
+            new.at new.held (S.asked new.source.now))) }
+    {
+        let start = self.hold(at, n)?;
+        let window = &*self;
+        Ok(&window.buffer[start..start + n as usize])
+    }
+
     // Makes the window hold n bytes from a place on, and says where they stand in the buffer.
     fn hold(&mut self, at: u32, n: u32) -> Result<usize, SourceFault>
         requires { n ≤ 4096 }
@@ -72,13 +107,12 @@ impl<'a, S: ByteSource> Window<'a, S> {
         ensures keeps { S.keeps self.old.source.now self.new.source.now }
         ensures counts { CountsFaults (S.failures self.old.source.now)
             (S.failures self.new.source.now) result }
-        ensures calm { OnOk result (S.failures self.new.source.now < full_count) }
+        ensures not_full { OnOk result (S.failures self.new.source.now < full_count) }
         ensures asked { self.new.asked ≡ min (self.old.asked + 1) (2 ^ 64 - 1) }
 
-        // What is held is not read again, and anything else at most once.
-        ensures once { S.asked self.new.source.now ≤ S.asked self.old.source.now + 1 }
-        ensures held { self.old.at ≤ at → at + n ≤ self.old.at + self.old.held → 0 < self.old.held
-            → S.asked self.new.source.now ≡ S.asked self.old.source.now }
+        ensures below { IsAskedBelow at n (length (S.content self.old.source.now))
+            self.old.at self.old.held (S.asked self.old.source.now) result
+            self.new.at self.new.held (S.asked self.new.source.now) }
 
         ensures room { IfOk result (λ start. start + n ≤ 4096) }
         ensures value { S.honest → IfOk result (λ start. take n (drop start self.new.buffer)
@@ -131,9 +165,7 @@ impl<'a, S: ByteSource> ByteSource for Window<'a, S> {
     }
 
     fn bytes(&mut self, at: u32, n: u32) -> Result<&[u8], SourceFault> {
-        let start = self.hold(at, n)?;
-        let window = &*self;
-        Ok(&window.buffer[start..start + n as usize])
+        self.lend(at, n)
     }
 
     fn asked(&self) -> u64 {
@@ -158,7 +190,7 @@ fn read_front<S: ByteSource>(
     ensures asked { S.asked source.new ≤ S.asked source.old + 1 }
     ensures keeps { S.keeps source.old source.new }
     ensures counts { CountsFaults (S.failures source.old) (S.failures source.new) result }
-    ensures calm { OnOk result (S.failures source.new < full_count) }
+    ensures not_full { OnOk result (S.failures source.new < full_count) }
     ensures fault { IfErr result (λ e. e ≡ SourceFault.Disk) }
 {
     let piece = source.bytes(at, n)?;

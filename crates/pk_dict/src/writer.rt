@@ -2,8 +2,11 @@
 
 ghost use Rattle.std.specs.Prelude.{
   ◌≡◌,
+  ◌≤◌,
   ◌<◌,
+  ◌+◌,
   ◌^◌,
+  ◌↔◌,
   ◌++◌,
   ◌∷◌,
   [],
@@ -16,8 +19,7 @@ ghost use Rattle.std.specs.Prelude.{
   IsTrue,
 };
 ghost use Rattle.pk_dict.specs.Dictionary.{DictSpells, Item, item_of, numbers, rest_of, spelling};
-ghost use Rattle.pk_dict.specs.Writer.{HasAdded, MayAdd};
-ghost use Rattle.pk_posting.specs.declared.fields.ListPlace.{ListPlace as Place};
+ghost use Rattle.pk_dict.specs.Writer.{HasAdded, MayAdd, MayFollow};
 ghost use Rattle.pk_vbyte.specs.VariableByte.{vbyte};
 
 use crate::compare::{is_less, shared_front};
@@ -30,8 +32,11 @@ use std::vec::Vec;
 /// How many terms a group has.
 const GROUP: u32 = 16;
 
-/// The most bytes that a term takes beside its own: an offset and five numbers.
-const MOST_ADDED: usize = 29;
+/// How many bytes a group's offset has.
+const OFFSET: usize = 4;
+
+/// So many bytes are too many for a dictionary.
+const TOO_LARGE: usize = 1 << 32;
 
 /// Writes a dictionary, term by term.
 #[derive(Drop)]
@@ -106,17 +111,36 @@ impl DictWriter {
             .saturating_add(self.body.len())
     }
 
-    /// Whether a term may be added, with any frequency and place: it is greater than those before,
-    /// and with all that it can take the bytes stay below 2^32.
-    pub fn may_add(&self, term: &[u8]) -> bool
-        ensures { IsTrue result → (es : List Item) → HasAdded self.now es
-            → (frequency : ℕ) (place : Place) → frequency < 2 ^ 32 → place.at < 2 ^ 32
-            → place.bytes < 2 ^ 32 → MayAdd self.now (item_of term.now frequency place) }
+    /// Whether a term may be added with this frequency and place: it is greater than those before,
+    /// and the bytes of `finish` stay below 2^32.
+    pub fn may_add(&self, term: &[u8], frequency: u32, place: ListPlace) -> bool
+        ensures exactly { (es : List Item) → HasAdded self.now es
+            → IsTrue result ↔ MayFollow es (item_of term.now frequency place) }
+        ensures may { IsTrue result → (es : List Item) → HasAdded self.now es
+            → MayAdd self.now (item_of term.now frequency place) }
     {
         if !self.starts.is_empty() && !is_less(&self.last, term) {
             return false;
         }
-        self.size().saturating_add(term.len()) < u32::MAX as usize - MOST_ADDED
+        if term.len() > u32::MAX as usize {
+            return false;
+        }
+        let more = self.growth(term, Entry { frequency, place });
+        self.size().saturating_add(more) < TOO_LARGE
+    }
+
+    // How many bytes a term adds to those of `finish`.
+    fn growth(&self, term: &[u8], entry: Entry) -> usize
+        requires { length term.now < 2 ^ 32 }
+        ensures { (es : List Item) → HasAdded self.now es
+            → length (spelling (es ++ record { term = term.now; entry = entry } ∷ []))
+            ≡ length (spelling es) + result }
+    {
+        if self.in_group == 0 {
+            return OFFSET + rest_size(term.len() as u32, entry);
+        }
+        let kept = shared_front(&self.last, term);
+        number_size(kept as u32) + rest_size((term.len() - kept) as u32, entry)
     }
 
     /// The dictionary of all that was added.
@@ -164,4 +188,24 @@ fn put_rest(out: &mut Vec<u8>, before: &[u8], term: &[u8], entry: Entry) -> Resu
     put_number(out, (term.len() - kept) as u32)?;
     out.extend_from_slice(&term[kept..])?;
     put_entry(out, entry)
+}
+
+// How many bytes a number takes.
+fn number_size(n: u32) -> usize
+    ensures value { result ≡ length (vbyte n) }
+    ensures most { result ≤ 5 }
+{
+    put(n, &mut [0u8; 5])
+}
+
+// How many bytes the rest of a term takes with its length before it and its numbers after it.
+#[tactic(auto, unfolding(crate::specs::Dictionary::numbers))]
+fn rest_size(rest: u32, entry: Entry) -> usize
+    ensures value { result ≡ length (vbyte rest) + rest + length (numbers entry) }
+    ensures most { result ≤ rest + 20 }
+{
+    let numbers = number_size(entry.frequency)
+        + number_size(entry.place.at)
+        + number_size(entry.place.bytes);
+    number_size(rest) + rest as usize + numbers
 }

@@ -1,5 +1,5 @@
 -- What calls leave of a disk as it was, in one word each.
-use Rattle.std.specs.Prelude.{◌≡◌, List, ℕ, length}
+use Rattle.std.specs.Prelude.{◌≡◌, length}
 use Rattle.pk_disk.specs.declared.disk.Disk.{Ghosts}
 use Rattle.pk_disk.specs.Since.{IsOnlyRead}
 

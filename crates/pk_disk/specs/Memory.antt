@@ -1,5 +1,5 @@
 -- The images of a disk in memory, by its record of calls, the newest first.
-use Rattle.std.specs.Prelude.{◌≡◌, ◌⊎◌, ◌-◌, Bool, false, ℕ, zero, suc, List, [], ◌∷◌, length}
+use Rattle.std.specs.Prelude.{◌⊎◌, ◌-◌, Bool, false, ℕ, zero, suc, List, [], ◌∷◌, length}
 use mathlib.Core.Logic.{inl}
 use Rattle.std.proofs.Common.{subst}
 use Rattle.std.proofs.Math.Nat.{sub_self}

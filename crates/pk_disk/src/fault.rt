@@ -1,6 +1,8 @@
 //! A disk whose calls fail as planned.
-ghost use Rattle.std.specs.Prelude.{◌≡◌, ◌≤◌, ◌+◌, ◌-◌, ℕ, List, length, slice_range, OnOk, OnErr};
-ghost use Rattle.pk_disk.specs.Disk.{IsImage, IsCounted, IsPartWritten, nowhere, opened, written};
+ghost use Rattle.std.specs.Prelude.{◌≡◌, ◌≤◌, ◌<◌, ◌+◌, ◌-◌, ℕ, List, length, slice_range, true};
+ghost use Rattle.std.specs.Prelude.{OnOk, OnErr};
+ghost use Rattle.pk_disk.specs.Disk.{IsImage, IsCounted, IsPartWritten, full_count, nowhere};
+ghost use Rattle.pk_disk.specs.Disk.{opened, written};
 ghost use Rattle.pk_disk.specs.Since.{OnlyNew, NoneNew, StayKnown};
 
 use crate::plan::Plan;
@@ -9,7 +11,7 @@ use crate::{Disk, DiskFault};
 /// A disk that passes its calls on to another, but for those that fail as planned.
 ///
 /// A failing read or sync does nothing. A failing write passes on the first half of its bytes,
-/// rounded up. Over an honest disk it is honest. It counts failures of its own.
+/// rounded up. Over an honest disk it is honest. It counts failures of its own, from none.
 #[derive(Drop)]
 pub struct FaultDisk<D: Disk> {
     inner: D,
@@ -26,6 +28,8 @@ impl<D: Disk> FaultDisk<D> {
         ensures inner { result.inner ≡ inner }
         ensures plan { result.plan ≡ Plan.From k }
         ensures bytes_read { result.bytes_read ≡ 0 }
+        ensures reads { result.failed_reads ≡ 0 }
+        ensures writes { result.failed_writes ≡ 0 }
     {
         FaultDisk::planned(inner, Plan::From(k))
     }
@@ -36,6 +40,8 @@ impl<D: Disk> FaultDisk<D> {
         ensures inner { result.inner ≡ inner }
         ensures plan { result.plan ≡ Plan.Once k }
         ensures bytes_read { result.bytes_read ≡ 0 }
+        ensures reads { result.failed_reads ≡ 0 }
+        ensures writes { result.failed_writes ≡ 0 }
     {
         FaultDisk::planned(inner, Plan::Once(k))
     }
@@ -60,6 +66,8 @@ impl<D: Disk> FaultDisk<D> {
         ensures inner { result.inner ≡ inner }
         ensures plan { result.plan ≡ plan }
         ensures bytes_read { result.bytes_read ≡ 0 }
+        ensures reads { result.failed_reads ≡ 0 }
+        ensures writes { result.failed_writes ≡ 0 }
     {
         FaultDisk {
             inner,
@@ -72,7 +80,14 @@ impl<D: Disk> FaultDisk<D> {
 }
 
 impl<D: Disk> Disk for FaultDisk<D> {
-    ghost use Rattle.pk_disk.specs.Fault.{FollowsPlan, bytes_after};
+    ghost use Rattle.pk_disk.specs.Fault.{
+      FollowsPlan,
+      IsGiven,
+      IsHeld,
+      bytes_after,
+      fails_at,
+      first_half,
+    };
 
     ghost content = { λ f. D.content f.inner };
 
@@ -102,6 +117,8 @@ impl<D: Disk> Disk for FaultDisk<D> {
             (D.failed_reads self.old.inner) (D.failed_reads self.new.inner) result }
         ensures bytes_read { self.new.bytes_read
             ≡ bytes_after self.old.bytes_read (length out.old) result }
+        ensures held { IsHeld self.old.plan self.old.failed_reads
+            → self.new.inner ≡ self.old.inner }
 
         // The clauses of the trait.
         ensures given { D.honest → OnOk result
@@ -131,6 +148,10 @@ impl<D: Disk> Disk for FaultDisk<D> {
         ensures plan { FollowsPlan self.old.plan self.new.plan self.old.failed_writes
             (D.failed_writes self.old.inner) (D.failed_writes self.new.inner) result }
         ensures bytes_read { self.new.bytes_read ≡ self.old.bytes_read }
+        ensures half { D.honest → fails_at self.old.plan 1 ≡ true
+            → self.old.failed_writes < full_count
+            → IsGiven D.Disk at (first_half bytes.now) self.old.inner self.new.inner }
+        ensures full { self.old.failed_writes ≡ full_count → self.new.inner ≡ self.old.inner }
 
         // The clauses of the trait.
         ensures bytes { D.honest → OnOk result
@@ -169,6 +190,8 @@ impl<D: Disk> Disk for FaultDisk<D> {
         ensures plan { FollowsPlan self.old.plan self.new.plan self.old.failed_writes
             (D.failed_writes self.old.inner) (D.failed_writes self.new.inner) result }
         ensures bytes_read { self.new.bytes_read ≡ self.old.bytes_read }
+        ensures held { IsHeld self.old.plan self.old.failed_writes
+            → self.new.inner ≡ self.old.inner }
 
         // The clauses of the trait.
         ensures closed { D.honest → OnOk result (D.is_open self.new.inner ≡ nowhere) }

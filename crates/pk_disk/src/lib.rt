@@ -55,8 +55,6 @@ mod lossy;
 mod memory;
 mod plan;
 mod record;
-#[cfg(test)]
-mod tests;
 mod units;
 
 pub use disk::{Disk, DiskFault};

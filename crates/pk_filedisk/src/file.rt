@@ -5,6 +5,7 @@ ghost use Rattle.pk_disk.specs.Disk.{nowhere};
 ghost use Rattle.pk_filedisk.specs.File.{IsDiskLength, IsOfMake, IsOfOpening, some_bytes};
 
 use crate::fault::FileFault;
+use crate::lock::LockFile;
 use pk_disk::{Disk, DiskFault, MAX_UNITS, UNIT};
 use std::fs::{File, OpenFile};
 use std::io;
@@ -15,17 +16,19 @@ use std::rt::Files;
 /// The fewest units of a disk in a file.
 const LEAST_UNITS: u64 = 64;
 
-/// A file as a disk. Its length is read once, as it is made or opened.
+/// A file as a disk. Its length is read once, as it is made or opened. The file is locked until the
+/// disk is dropped.
 #[derive(Drop)]
-pub struct FileDisk<F: FileExt + OpenFile + Drop> {
+pub struct FileDisk<F: FileExt + OpenFile + LockFile + Drop> {
     file: F,
     len: u64,
     failed_reads: u64,
     failed_writes: u64,
 }
 
-impl<F: FileExt + OpenFile + Drop> FileDisk<F> {
-    /// Makes a file of `units` units of zero bytes, and syncs its length and its folder's entry.
+impl<F: FileExt + OpenFile + LockFile + Drop> FileDisk<F> {
+    /// Makes a file of `units` units of zero bytes, locks it, and syncs its length and its folder's
+    /// entry.
     ///
     /// `Exists` where there is something at the path, or `Disk`.
     pub fn make<R: Files<File = F>>(
@@ -48,6 +51,9 @@ impl<F: FileExt + OpenFile + Drop> FileDisk<F> {
             }
             Err(_) => return Err(FileFault::Disk),
         };
+        if file.try_lock().is_err() {
+            return Err(FileFault::Disk);
+        }
         let len = units * UNIT;
         if file.set_len(len).is_err() || file.sync_all().is_err() || !folder_is_synced(rt, path) {
             return Err(FileFault::Disk);
@@ -55,10 +61,10 @@ impl<F: FileExt + OpenFile + Drop> FileDisk<F> {
         Ok(FileDisk::of_file(file, len))
     }
 
-    /// Opens a file.
+    /// Opens a file and locks it.
     ///
     /// `Missing` where there is nothing at the path, `BadLength` where the file is not 64 to 2^31
-    /// whole units long, or `Disk`.
+    /// whole units long, or `Disk`, also where another opening of the file holds a lock.
     pub fn on<R: Files<File = F>>(rt: &R, path: &str) -> Result<FileDisk<F>, FileFault>
         ensures size { IfOk result
             (λ d. IsDiskLength (length (⟦<FileDisk<F> as Disk>⟧.content d))) }
@@ -73,6 +79,9 @@ impl<F: FileExt + OpenFile + Drop> FileDisk<F> {
             }
             Err(_) => return Err(FileFault::Disk),
         };
+        if file.try_lock().is_err() {
+            return Err(FileFault::Disk);
+        }
         let len = match file.metadata() {
             Ok(metadata) => metadata.len(),
             Err(_) => return Err(FileFault::Disk),
@@ -110,7 +119,7 @@ fn folder_is_synced<R: Files>(rt: &R, path: &str) -> bool {
     }
 }
 
-impl<F: FileExt + OpenFile + Drop> Disk for FileDisk<F> {
+impl<F: FileExt + OpenFile + LockFile + Drop> Disk for FileDisk<F> {
     ghost content = { λ d. some_bytes d.len };
 
     ghost is_open = { λ _. nowhere };

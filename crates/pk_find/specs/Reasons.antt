@@ -1,31 +1,46 @@
--- The words that a failure is told in.
+-- The lines that a failure is told in.
 use Rattle.std.specs.Prelude.{ℕ, List, codes}
 use Rattle.pk_filedisk.specs.declared.fault.FileFault.{FileFault}
 use Rattle.pk_filedisk.specs.declared.fault.FileFault.TheVariants as file
+use Rattle.pk_store.specs.declared.refused.CreateFault.{CreateFault}
+use Rattle.pk_store.specs.declared.refused.CreateFault.TheVariants as creating
 use Rattle.pk_store.specs.declared.refused.OpenFault.{OpenFault}
-use Rattle.pk_store.specs.declared.refused.OpenFault.TheVariants as store
+use Rattle.pk_store.specs.declared.refused.OpenFault.TheVariants as opening
 use Rattle.pk_shell.specs.declared.ending.ShellFault.{ShellFault}
 use Rattle.pk_shell.specs.declared.ending.ShellFault.TheVariants as session
 
 -- of a file that is no disk
 abbrev pub file_words : FileFault → List ℕ
-file_words file.Exists = codes "exists"
-file_words file.Missing = codes "missing"
-file_words file.BadLength = codes "bad length"
-file_words file.Disk = codes "disk"
+file_words file.Exists = codes "pk_find: exists\n"
+file_words file.Missing = codes "pk_find: missing\n"
+file_words file.BadLength = codes "pk_find: bad length\n"
+file_words file.Disk = codes "pk_find: disk\n"
 
--- of a disk without a store
-abbrev pub store_words : OpenFault → List ℕ
-store_words store.TooSmall = codes "too small"
-store_words store.AlreadyAStore = codes "already a store"
-store_words store.NotAStore = codes "not a store"
-store_words store.Damaged = codes "damaged"
-store_words store.Disk = codes "disk"
-store_words store.Memory = codes "memory"
+-- of a disk on which no store was made
+abbrev pub creating_words : CreateFault → List ℕ
+creating_words creating.TooSmall = codes "pk_find: too small\n"
+creating_words creating.AlreadyAStore = codes "pk_find: already a store\n"
+creating_words creating.Disk = codes "pk_find: disk\n"
+creating_words creating.Memory = codes "pk_find: memory\n"
+
+-- of a disk on which none was opened
+abbrev pub opening_words : OpenFault → List ℕ
+opening_words opening.TooSmall = codes "pk_find: too small\n"
+opening_words opening.NotAStore = codes "pk_find: not a store\n"
+opening_words opening.Damaged = codes "pk_find: damaged\n"
+opening_words opening.Disk = codes "pk_find: disk\n"
+opening_words opening.Memory = codes "pk_find: memory\n"
 
 -- of a session that is broken off
 abbrev pub session_words : ShellFault → List ℕ
-session_words session.Input = codes "input"
-session_words session.Output = codes "output"
-session_words session.TooManyReads = codes "too many reads"
-session_words session.Memory = codes "memory"
+session_words session.Input = codes "pk_find: input\n"
+session_words session.Output = codes "pk_find: output\n"
+session_words session.TooManyReads = codes "pk_find: too many reads\n"
+session_words session.Memory = codes "pk_find: memory\n"
+
+-- of want of memory, and of an output that could not be written
+abbrev pub memory_words : List ℕ
+memory_words = codes "pk_find: memory\n"
+
+abbrev pub output_words : List ℕ
+output_words = codes "pk_find: output\n"

@@ -1,19 +1,16 @@
 //! A new store.
 
-ghost use Rattle.pk_find.specs.Endings.{CreationAs, FileCreationAs, IsOfSize};
+ghost use Rattle.pk_find.specs.Endings.{CreationOutcome, FileCreationOutcome, IsOfSize};
 
-use super::telling::{DONE, fail, file_reason, store_reason};
+use super::reporting::{DONE, OUTPUT, creating_reason, fail, file_reason};
 use pk_disk::Disk;
-use pk_filedisk::FileDisk;
+use pk_filedisk::{FileDisk, LockFile};
 use pk_store::Store;
 use std::alloc::Global;
 use std::fs::OpenFile;
 use std::io::Write;
 use std::os::unix::fs::FileExt;
 use std::rt::Files;
-
-/// The most decoded blocks that a store keeps.
-pub const CACHE_BLOCKS: u32 = 256;
 
 /// Makes an empty store on a disk of so many units, and tells that.
 fn create_on<D: Disk + Drop, W: Write, E: Write>(
@@ -23,21 +20,22 @@ fn create_on<D: Disk + Drop, W: Write, E: Write>(
     output: &mut W,
     faults: &mut E,
 ) -> u8
-    ensures { CreationAs D.Disk disk units (W.contents output.old) (W.contents output.new) result }
+    ensures { CreationOutcome D.Disk disk units (W.contents output.old) (W.contents output.new)
+        (E.contents faults.old) (E.contents faults.new) result }
 {
-    match Store::create(alloc, disk, CACHE_BLOCKS) {
+    match Store::create(alloc, disk, 0) {
         Ok(_) => {}
-        Err(refused) => return fail(faults, store_reason(refused.why)),
+        Err(refused) => return fail(faults, creating_reason(refused.why)),
     }
     match writeln!(output, "created {units} units") {
         Ok(()) => DONE,
-        Err(_) => fail(faults, "output"),
+        Err(_) => fail(faults, OUTPUT),
     }
 }
 
 /// Makes a file of so many units with an empty store, tells that, and answers the status: 0, or 1
 /// where there is none or it could not be told.
-pub fn create<F: FileExt + OpenFile + Drop, S: Files<File = F>, W: Write, E: Write>(
+pub fn create<F: FileExt + OpenFile + LockFile + Drop, S: Files<File = F>, W: Write, E: Write>(
     rt: &S,
     alloc: Global,
     path: &str,
@@ -46,8 +44,9 @@ pub fn create<F: FileExt + OpenFile + Drop, S: Files<File = F>, W: Write, E: Wri
     faults: &mut E,
 ) -> u8
     requires { IsOfSize units }
-    ensures { FileCreationAs ⟦<FileDisk<F> as Disk>⟧ units
-        (W.contents output.old) (W.contents output.new) result }
+    ensures { FileCreationOutcome ⟦<FileDisk<F> as Disk>⟧ units
+        (W.contents output.old) (W.contents output.new)
+        (E.contents faults.old) (E.contents faults.new) result }
 {
     match FileDisk::make(rt, path, units) {
         Ok(disk) => create_on(alloc, disk, units, output, faults),

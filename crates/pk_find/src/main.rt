@@ -30,16 +30,17 @@
 
 mod command_line;
 mod creating;
+mod reporting;
 mod running;
-mod telling;
 
 ghost use Rattle.std.specs.Prelude.{map, string_bytes};
-ghost use Rattle.pk_find.specs.Endings.{CommandAs};
+ghost use Rattle.pk_find.specs.Endings.{CommandOutcome};
 
 use command_line::{Asked, asked_by, program};
 use creating::create;
 use pk_disk::Disk;
-use pk_filedisk::FileDisk;
+use pk_filedisk::{FileDisk, LockFile};
+use reporting::{MEMORY, fail, refuse};
 use running::run;
 use std::alloc::Global;
 use std::fs::OpenFile;
@@ -47,25 +48,24 @@ use std::io::{Read, Write};
 use std::os::unix::fs::FileExt;
 use std::process::ExitCode;
 use std::rt::Files;
-use telling::{fail, refuse};
 
 /// Runs one command line and answers its status: 0 where all was done, 1 where it failed, with a
-/// line on `faults`, 2 where the command line was refused. `words` begin with the program's name, and
-/// decide which; what came of it then is `CommandAs`, in specs/.
-pub fn command<F: FileExt + OpenFile + Drop, S: Files<File = F>, R: Read, W: Write, E: Write>(
-    rt: &S,
-    alloc: Global,
-    words: &[String],
-    input: &mut R,
-    output: &mut W,
-    faults: &mut E,
-) -> u8
-    ensures { CommandAs ⟦<FileDisk<F> as Disk>⟧ (map string_bytes words.now)
+/// line on `faults`, 2 where the command line was refused. `words` begin with the program's name,
+/// and decide which; what came of it then is `CommandOutcome`, in specs/.
+pub fn command<
+    F: FileExt + OpenFile + LockFile + Drop,
+    S: Files<File = F>,
+    R: Read,
+    W: Write,
+    E: Write,
+>(rt: &S, alloc: Global, words: &[String], input: &mut R, output: &mut W, faults: &mut E) -> u8
+    ensures { CommandOutcome ⟦<FileDisk<F> as Disk>⟧ (map string_bytes words.now)
         (R.remaining input.old) (R.remaining input.new)
-        (W.contents output.old) (W.contents output.new) result }
+        (W.contents output.old) (W.contents output.new)
+        (E.contents faults.old) (E.contents faults.new) result }
 {
     let Ok(program) = program(alloc) else {
-        return fail(faults, "memory");
+        return fail(faults, MEMORY);
     };
     let matches = match program.try_get_matches_from(words) {
         Ok(matches) => matches,
@@ -74,7 +74,7 @@ pub fn command<F: FileExt + OpenFile + Drop, S: Files<File = F>, R: Read, W: Wri
     match asked_by(&matches) {
         Some(Asked::Create { path, units }) => create(rt, alloc, path, units, output, faults),
         Some(Asked::Run { path }) => run(rt, alloc, path, input, output, faults),
-        None => fail(faults, "memory"),
+        None => fail(faults, MEMORY),
     }
 }
 

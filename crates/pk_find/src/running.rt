@@ -1,11 +1,10 @@
 //! A session with a store.
 
-ghost use Rattle.pk_find.specs.Endings.{FileSessionAs, SessionAs};
+ghost use Rattle.pk_find.specs.Endings.{FileSessionOutcome, SessionOutcome};
 
-use super::creating::CACHE_BLOCKS;
-use super::telling::{DONE, fail, file_reason, session_reason, store_reason};
+use super::reporting::{DONE, fail, file_reason, opening_reason, session_reason};
 use pk_disk::Disk;
-use pk_filedisk::FileDisk;
+use pk_filedisk::{FileDisk, LockFile};
 use pk_shell::serve;
 use pk_store::Store;
 use std::alloc::Global;
@@ -13,6 +12,9 @@ use std::fs::OpenFile;
 use std::io::{Read, Write};
 use std::os::unix::fs::FileExt;
 use std::rt::Files;
+
+/// The most decoded blocks that the store of a session keeps. The other commands keep none.
+const CACHE_BLOCKS: u32 = 256;
 
 /// Answers the lines of the input, from the store on a disk.
 fn run_on<D: Disk + Drop, R: Read, W: Write, E: Write>(
@@ -22,12 +24,13 @@ fn run_on<D: Disk + Drop, R: Read, W: Write, E: Write>(
     output: &mut W,
     faults: &mut E,
 ) -> u8
-    ensures { SessionAs D.Disk disk (R.remaining input.old) (R.remaining input.new)
-        (W.contents output.old) (W.contents output.new) result }
+    ensures { SessionOutcome D.Disk disk (R.remaining input.old) (R.remaining input.new)
+        (W.contents output.old) (W.contents output.new)
+        (E.contents faults.old) (E.contents faults.new) result }
 {
     let mut store = match Store::open_on(alloc, disk, CACHE_BLOCKS) {
         Ok(store) => store,
-        Err(refused) => return fail(faults, store_reason(refused.why)),
+        Err(refused) => return fail(faults, opening_reason(refused.why)),
     };
     match serve(alloc, input, output, &mut store) {
         Ok(_) => DONE,
@@ -37,17 +40,17 @@ fn run_on<D: Disk + Drop, R: Read, W: Write, E: Write>(
 
 /// Answers the lines of the input, from the store in a file, and then the status: 0 where they were
 /// answered to their end or a `quit`, and else 1.
-pub fn run<F: FileExt + OpenFile + Drop, S: Files<File = F>, R: Read, W: Write, E: Write>(
-    rt: &S,
-    alloc: Global,
-    path: &str,
-    input: &mut R,
-    output: &mut W,
-    faults: &mut E,
-) -> u8
-    ensures { FileSessionAs ⟦<FileDisk<F> as Disk>⟧
+pub fn run<
+    F: FileExt + OpenFile + LockFile + Drop,
+    S: Files<File = F>,
+    R: Read,
+    W: Write,
+    E: Write,
+>(rt: &S, alloc: Global, path: &str, input: &mut R, output: &mut W, faults: &mut E) -> u8
+    ensures { FileSessionOutcome ⟦<FileDisk<F> as Disk>⟧
         (R.remaining input.old) (R.remaining input.new)
-        (W.contents output.old) (W.contents output.new) result }
+        (W.contents output.old) (W.contents output.new)
+        (E.contents faults.old) (E.contents faults.new) result }
 {
     match FileDisk::on(rt, path) {
         Ok(disk) => run_on(alloc, disk, input, output, faults),

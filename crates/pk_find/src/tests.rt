@@ -2,6 +2,7 @@
 //! Each test removes its files.
 
 use crate::command;
+use pk_filedisk::LockFile;
 use std::alloc::{AllocError, Global};
 use std::fs::OpenFile;
 use std::io::{ErrorKind, Read, Write};
@@ -37,7 +38,7 @@ fn words_of(alloc: Global, line: &str) -> Result<Vec<String>, AllocError> {
 }
 
 /// Runs the words of a line on the input.
-fn run_line<F: FileExt + OpenFile + Drop, S: Files<File = F>>(
+fn run_line<F: FileExt + OpenFile + LockFile + Drop, S: Files<File = F>>(
     rt: &S,
     alloc: Global,
     line: &str,
@@ -197,7 +198,7 @@ impl Read for Broken {
 }
 
 /// Runs the words of a line on an input that fails, or with an output that takes nothing.
-fn run_broken<F: FileExt + OpenFile + Drop, S: Files<File = F>>(
+fn run_broken<F: FileExt + OpenFile + LockFile + Drop, S: Files<File = F>>(
     rt: &S,
     alloc: Global,
     line: &str,

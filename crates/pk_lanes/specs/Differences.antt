@@ -1,7 +1,7 @@
--- Differences of numbers four places apart, and the order of a block.
+-- Differences of each number to the fourth before it, and the order of a block.
 use Rattle.std.specs.Prelude.{◌≡◌, ℕ, ◌+◌, ◌%◌, ◌^◌, ◌<◌, List, ◌++◌, slice_index}
 
--- each of the 128 numbers xs is the difference at its place added to the number four places before,
+-- each of the 128 numbers xs is the difference at its index added to the fourth number before it,
 -- modulo 2^32; the seed is the four numbers before the first
 pub record Restores (seed ds xs : List ℕ) : Type 0 where
   pub step : (i : ℕ) → i < 128

@@ -1,11 +1,11 @@
-//! Differences of numbers four places apart, and the numbers again from them.
+//! Differences of each number to the fourth before it, and the numbers again from them.
 
 ghost use Rattle.std.specs.Prelude.{length};
 ghost use Rattle.pk_lanes.specs.Differences.{Restores};
 
 use crate::vectors::{add, start, subtract, vector};
 
-/// Writes into `ds` the difference of each number of `xs` to the number four places before it.
+/// Writes into `ds` the difference of each number of `xs` to the fourth number before it.
 ///
 /// The seed is the four numbers before the first. A difference is taken modulo 2^32, so `restore`
 /// undoes it for any numbers.

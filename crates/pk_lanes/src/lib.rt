@@ -14,9 +14,10 @@
 //! those of a packed block if and only if there are 16·b of them: every bit belongs to a number.
 //! Numbers have one packed form at a width, and a packed form is of one list of numbers (`laws`).
 //!
-//! The numbers of a rising list are packed as differences of numbers four places apart, which a
-//! vector subtracts and adds in one step; a seed gives the four numbers before the first. Both are
-//! taken modulo 2^32, so a caller that reads foreign bytes asks `ascending` for the order.
+//! The numbers of a rising list are packed as the differences of each number to the fourth before
+//! it, which a vector subtracts and adds in one step; a seed gives the four numbers before the
+//! first. Both are taken modulo 2^32, so a caller that reads foreign bytes asks `ascending` for the
+//! order.
 //!
 //! Contracts see a block, a seed and the bytes as lists. Nothing is refused: each call takes what
 //! its conditions allow and always succeeds, and none takes memory. The words of the contracts are
@@ -37,6 +38,3 @@ pub use packing::pack;
 pub use questions::{ascending, width};
 pub use sums::unpack_sums;
 pub use unpacking::unpack;
-
-#[cfg(test)]
-mod tests;

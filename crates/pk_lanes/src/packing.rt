@@ -51,7 +51,7 @@ fn store(words: u32x4, w: usize, out: &mut [u8])
 fn take(xs: &[u32; 128], b: usize, k: usize, word: u32x4, out: &mut [u8]) -> u32x4
     requires low { 0 < b }
     requires high { b ≤ 32 }
-    requires place { k < 32 }
+    requires index { k < 32 }
     requires room { length out.old ≡ 16 * b }
     requires small { FitIn xs.now b }
     requires front { Filling xs.now b k out.old word }
@@ -73,7 +73,7 @@ fn take(xs: &[u32; 128], b: usize, k: usize, word: u32x4, out: &mut [u8]) -> u32
 fn take_eight(xs: &[u32; 128], b: usize, k: usize, word: u32x4, out: &mut [u8]) -> u32x4
     requires low { 0 < b }
     requires high { b ≤ 32 }
-    requires place { k + 8 ≤ 32 }
+    requires index { k + 8 ≤ 32 }
     requires room { length out.old ≡ 16 * b }
     requires small { FitIn xs.now b }
     requires front { Filling xs.now b k out.old word }

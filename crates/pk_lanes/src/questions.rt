@@ -40,7 +40,7 @@ fn rises(before: u32x4, here: u32x4) -> bool
     before.simd_lt(here).all()
 }
 
-// The four numbers that stand one place before those of vector k.
+// The four numbers that stand one index before those of vector k.
 #[inline(always)]
 fn before(seed: &[u32; 4], xs: &[u32; 128], k: usize) -> u32x4
     requires { k < 32 }

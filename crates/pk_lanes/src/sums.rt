@@ -16,7 +16,7 @@ use std::simd::prelude::*;
 fn put_sums(bytes: &[u8], b: usize, k: usize, last: u32x4, xs: &mut [u32; 128]) -> u32x4
     requires low { 0 < b }
     requires high { b ≤ 32 }
-    requires place { k < 32 }
+    requires index { k < 32 }
     requires room { length bytes.now ≡ 16 * b }
     ensures { (seed : List ℕ) → length seed ≡ 4 → Summed bytes.now b k seed xs.old last
         → Summed bytes.now b (k + 1) seed xs.new result }
@@ -31,7 +31,7 @@ fn put_sums(bytes: &[u8], b: usize, k: usize, last: u32x4, xs: &mut [u32; 128]) 
 fn put_eight_sums(bytes: &[u8], b: usize, k: usize, last: u32x4, xs: &mut [u32; 128]) -> u32x4
     requires low { 0 < b }
     requires high { b ≤ 32 }
-    requires place { k + 8 ≤ 32 }
+    requires index { k + 8 ≤ 32 }
     requires room { length bytes.now ≡ 16 * b }
     ensures { (seed : List ℕ) → length seed ≡ 4 → Summed bytes.now b k seed xs.old last
         → Summed bytes.now b (k + 8) seed xs.new result }

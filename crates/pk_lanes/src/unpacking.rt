@@ -51,7 +51,7 @@ fn join(low: u32x4, high: u32x4, s: u32, b: u32) -> u32x4
 pub fn numbers(bytes: &[u8], b: usize, k: usize) -> u32x4
     requires low { 0 < b }
     requires high { b ≤ 32 }
-    requires place { k < 32 }
+    requires index { k < 32 }
     requires room { length bytes.now ≡ 16 * b }
     ensures lanes { length result ≡ 4 }
     ensures below { (c : ℕ) → c < 4 → slice_index result c < 2 ^ b }
@@ -73,7 +73,7 @@ pub fn numbers(bytes: &[u8], b: usize, k: usize) -> u32x4
 fn put(bytes: &[u8], b: usize, k: usize, xs: &mut [u32; 128])
     requires low { 0 < b }
     requires high { b ≤ 32 }
-    requires place { k < 32 }
+    requires index { k < 32 }
     requires room { length bytes.now ≡ 16 * b }
     requires front { Unpacked bytes.now b k xs.old }
     ensures { Unpacked bytes.now b (k + 1) xs.new }
@@ -86,7 +86,7 @@ fn put(bytes: &[u8], b: usize, k: usize, xs: &mut [u32; 128])
 fn put_eight(bytes: &[u8], b: usize, k: usize, xs: &mut [u32; 128])
     requires low { 0 < b }
     requires high { b ≤ 32 }
-    requires place { k + 8 ≤ 32 }
+    requires index { k + 8 ≤ 32 }
     requires room { length bytes.now ≡ 16 * b }
     requires front { Unpacked bytes.now b k xs.old }
     ensures { Unpacked bytes.now b (k + 8) xs.new }

@@ -1,10 +1,9 @@
 -- The first body on a disk with both gates closed: no image has another one in force.
-use Rattle.std.proofs.Common.{◌≡◌, ◌⊎◌, inl, inr, ℕ, ◌+◌, ◌-◌, ◌≤◌, ◌==◌, Bool, true, false, List, [], ◌∷◌, length, get_or, take, drop, None, Some, nat_lt, if◌then◌else◌, refl, sym, ◌∙◌, ap, subst, arith}
+use Rattle.std.proofs.Common.{◌≡◌, ◌⊎◌, inl, inr, ℕ, ◌+◌, ◌≤◌, ◌==◌, Bool, true, false, List, [], ◌∷◌, length, get_or, take, drop, None, Some, nat_lt, if◌then◌else◌, refl, sym, ◌∙◌, ap, arith}
 use Rattle.std.proofs.lemmas.Bool.{cases_Bool}
 use Rattle.pk_disk.specs.Disk.{IsImage, in_range, opened, nowhere, written}
 use Rattle.pk_disk.proofs.Ranges.{or_left, or_right, opened_false, length-written, written_in, written_other, middle_written, outside_range, image_of_written}
 use Rattle.pk_disk.proofs.Images.{same_part}
-use Rattle.pk_manifest.specs.declared.half.Half.{Half}
 use Rattle.pk_manifest.specs.declared.half.Half.TheVariants.{A, B}
 use Rattle.pk_manifest.specs.Bodies.{body_of, bodies_end, generation_of, half_in_force, half_of, has_open_gate, IsCurrent}
 use Rattle.pk_manifest.specs.Firm.{half_places}

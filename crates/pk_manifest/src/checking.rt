@@ -84,7 +84,7 @@ fn are_distinct(parts: &[Part]) -> bool
 
 impl Manifest {
     /// Whether it may stand on a disk of so many units.
-    pub fn is_sound(&self, alloc: Global, units: u32) -> Result<bool, AllocError>
+    pub(crate) fn is_sound(&self, alloc: Global, units: u32) -> Result<bool, AllocError>
         ensures { IfOk result (λ is. is ≡ is_sound units (view self.now)) }
     {
         let extents = self.extents(alloc)?;

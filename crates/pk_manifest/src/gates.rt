@@ -3,6 +3,7 @@ ghost use Rattle.std.specs.Prelude.{◌≡◌, ◌⊎◌, ◌≤◌, ◌<◌, �
 ghost use Rattle.std.specs.Prelude.{IfOk, OnOk};
 ghost use Rattle.pk_disk.specs.Disk.{IsChangedOnly, IsCounted, IsImage, IsImageBut, in_range};
 ghost use Rattle.pk_disk.specs.Disk.{nowhere, opened, written};
+ghost use Rattle.pk_disk.specs.Frames.{KeepsReads};
 ghost use Rattle.pk_disk.specs.Since.{IsOnlyRead, OnlyNew};
 ghost use Rattle.pk_manifest.specs.Bodies.{IsCurrent, bodies_end, body_of, body_place, body_size};
 ghost use Rattle.pk_manifest.specs.Bodies.{gate_place, generation_of, has_open_gate, open_mark};
@@ -16,7 +17,6 @@ use pk_disk::{Disk, DiskFault};
 pub const OPEN: u8 = 0xA7;
 
 // The byte that closes a gate.
-
 const CLOSED: u8 = 0x00;
 
 /// Whether a gate is open. One read.
@@ -44,9 +44,8 @@ pub fn write_synced<D: Disk>(disk: &mut D, at: u64, bytes: &[u8]) -> Result<(), 
     ensures is_open { D.honest → OnOk result (D.is_open disk.new ≡ nowhere) }
     ensures images { D.honest → OnlyNew D.moment D.images_since disk.old disk.new
         (IsImage (D.content disk.old) (opened (D.is_open disk.old) at (length bytes.now))) }
-    ensures size { length (D.content disk.new) ≡ length (D.content disk.old) }
+    ensures keeps { KeepsReads D.Disk disk.old disk.new }
     ensures writes { IsCounted (D.failed_writes disk.old) (D.failed_writes disk.new) result }
-    ensures reads { D.failed_reads disk.new ≡ D.failed_reads disk.old }
 {
     disk.write(at, bytes)?;
     disk.sync()

@@ -73,13 +73,11 @@ mod manifest;
 mod reading;
 mod spelling;
 mod steps;
-#[cfg(test)]
-mod tests;
 
 pub use creating::establish;
 pub use fault::ManifestFault;
 pub use gates::{close_spare, gate_open, open_spare, write_body};
 pub use half::Half;
-pub use manifest::{MAX_ENTRIES, Manifest, Part};
+pub use manifest::{Manifest, Part};
 pub use reading::read_current;
 pub use steps::{finish, install, shut_spare};

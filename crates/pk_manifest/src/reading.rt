@@ -1,6 +1,7 @@
 //! The body in force, read from a disk.
 ghost use Rattle.std.specs.Prelude.{◌≡◌, ◌≤◌, ◌+◌, ℕ, length, IfOk, OnOk};
 ghost use Rattle.pk_disk.specs.Disk.{IsCounted};
+ghost use Rattle.pk_disk.specs.Frames.{KeepsDisk};
 ghost use Rattle.pk_disk.specs.Since.{IsOnlyRead};
 ghost use Rattle.pk_manifest.specs.Bodies.{bodies_end, body_of, body_size, generation_of};
 ghost use Rattle.pk_manifest.specs.Bodies.{half_in_force};
@@ -21,11 +22,8 @@ fn generation<D: Disk>(disk: &mut D, half: Half) -> Result<u64, DiskFault>
     requires { bodies_end ≤ length (D.content disk.old) }
     ensures given { D.honest → IfOk result
         (λ n. n ≡ generation_of (body_of (D.content disk.old) half)) }
-    ensures read { D.honest
-        → IsOnlyRead D.content D.is_open D.moment D.images_since disk.old disk.new }
-    ensures size { length (D.content disk.new) ≡ length (D.content disk.old) }
+    ensures keeps { KeepsDisk D.Disk disk.old disk.new }
     ensures reads { IsCounted (D.failed_reads disk.old) (D.failed_reads disk.new) result }
-    ensures writes { D.failed_writes disk.new ≡ D.failed_writes disk.old }
 {
     let mut field = [0u8; 8];
     disk.read(half.body() + 8, &mut field)?;
@@ -36,11 +34,8 @@ fn generation<D: Disk>(disk: &mut D, half: Half) -> Result<u64, DiskFault>
 fn half_in_force<D: Disk>(disk: &mut D) -> Result<Option<Half>, DiskFault>
     requires { bodies_end ≤ length (D.content disk.old) }
     ensures given { D.honest → IfOk result (λ half. half ≡ half_in_force (D.content disk.old)) }
-    ensures read { D.honest
-        → IsOnlyRead D.content D.is_open D.moment D.images_since disk.old disk.new }
-    ensures size { length (D.content disk.new) ≡ length (D.content disk.old) }
+    ensures keeps { KeepsDisk D.Disk disk.old disk.new }
     ensures reads { IsCounted (D.failed_reads disk.old) (D.failed_reads disk.new) result }
-    ensures writes { D.failed_writes disk.new ≡ D.failed_writes disk.old }
 {
     let a = gate_open(disk, Half::A)?;
     let b = gate_open(disk, Half::B)?;
@@ -66,11 +61,8 @@ fn body<D: Disk>(disk: &mut D, half: Half, out: &mut [u8]) -> Result<(), DiskFau
     requires size { bodies_end ≤ length (D.content disk.old) }
     requires room { length out.old ≡ body_size }
     ensures given { D.honest → OnOk result (out.new ≡ body_of (D.content disk.old) half) }
-    ensures read { D.honest
-        → IsOnlyRead D.content D.is_open D.moment D.images_since disk.old disk.new }
-    ensures size { length (D.content disk.new) ≡ length (D.content disk.old) }
+    ensures keeps { KeepsDisk D.Disk disk.old disk.new }
     ensures reads { IsCounted (D.failed_reads disk.old) (D.failed_reads disk.new) result }
-    ensures writes { D.failed_writes disk.new ≡ D.failed_writes disk.old }
 {
     disk.read(half.body(), out)
 }

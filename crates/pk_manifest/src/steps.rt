@@ -16,12 +16,13 @@ use crate::manifest::Manifest;
 use pk_disk::{Disk, DiskFault};
 use std::alloc::Global;
 
-/// Closes the spare gate where it reads as open, which `gate_open` has told. A closed gate isn't
-/// written: then it makes no device call.
+/// Closes the spare gate where it reads as open, which `gate_open` has told. Over a closed gate it
+/// makes no device call, and the disk is what it was.
 pub fn shut_spare<D: Disk>(disk: &mut D, spare: Half, is_open: bool) -> Result<(), DiskFault>
     requires size { bodies_end ≤ length (D.content disk.old) }
     requires firm { D.honest → IsFirm (D.content disk.old) (D.is_open disk.old) spare }
     requires told { D.honest → has_open_gate (D.content disk.old) spare ≡ is_open }
+    ensures untouched { is_open ≡ false → disk.new ≡ disk.old }
 
     // Each image since the start has the body in force; only the spare half is written.
     ensures current { D.honest → OnlyNew D.moment D.images_since disk.old disk.new

@@ -1,4 +1,3 @@
+-- The lemma pages.
 pub mod CollectionLemmas
 pub mod TreeLemmas
-pub mod PlaceLemmas
-pub mod SessionLemmas

@@ -2,7 +2,5 @@ pub mod Words
 pub mod Tree
 pub mod Collection
 pub mod Steps
-pub mod Body
-pub mod Legal
-pub mod Session
 pub mod Views
+pub mod Limits

@@ -2,6 +2,7 @@
 
 use super::documents::DocNo;
 use super::queries::Query;
+use std::alloc::AllocError;
 
 /// What a store is asked to do.
 #[derive(Debug, Drop)]
@@ -60,6 +61,17 @@ pub enum Refusal {
     Damaged,
     /// The device failed in this call.
     Disk,
+}
+
+impl From<AllocError> for Refusal {
+    ghost use Rattle.std.specs.Prelude.{◌≡◌};
+    ghost use Rattle.pk_model.specs.declared.commands.Refusal.TheVariants.{Memory};
+
+    ghost from_gives = { λ _ why. why ≡ Memory };
+
+    fn from(_: AllocError) -> Refusal {
+        Refusal::Memory
+    }
 }
 
 /// What a command is answered with.

@@ -1,15 +1,19 @@
 //! Laws of the definitions: what makes them believable. Each is a function with an empty body whose
 //! contract is the law.
 
-ghost use Rattle.std.specs.Prelude.{◌≡◌, ◌↔◌, ◌⊎◌, ℕ, List, Contains, Result, true};
+ghost use Rattle.std.specs.Prelude.{◌≡◌, ◌↔◌, ◌⊎◌, ℕ, List, Contains, true};
 ghost use Rattle.std.specs.List.Sorted.{IsStrictlyIncreasing};
 ghost use Rattle.pk_model.specs.Tree.{Tree, Term, And, Or, Not, satisfies};
 ghost use Rattle.pk_model.specs.Collection.{Doc, Collection, IsCollection, answer, is_hit};
-ghost use Rattle.pk_model.specs.Steps.{Request, Answer, after_one};
-ghost use Rattle.pk_model.specs.Body.{Formats, Extent, PlacedAs, FullAs};
-ghost use Rattle.pk_model.specs.Legal.{State, LegalStep};
-ghost use Rattle.pk_model.specs.Session.{Session, Tells, next_session};
-ghost use Rattle.pk_model.specs.declared.commands.Refusal.{Refusal as Why};
+ghost use Rattle.pk_model.specs.Limits.{max_text_bytes, max_buffered_documents, max_buffered_bytes};
+ghost use Rattle.pk_model.specs.Limits.{end_of_numbers, max_segments, max_segment_bytes};
+ghost use Rattle.pk_model.specs.Limits.{end_of_ids, tidy_run};
+ghost use Rattle.pk_model.specs.Steps.{Request, after_one};
+
+use crate::limits::{
+    END_OF_IDS, END_OF_NUMBERS, MAX_BUFFERED_BYTES, MAX_BUFFERED_DOCUMENTS, MAX_SEGMENT_BYTES,
+    MAX_SEGMENTS, MAX_TEXT_BYTES, TIDY_RUN,
+};
 
 /// A step keeps a collection: the numbers rise still, from 1 on and below the next number.
 pub fn a_step_keeps_a_collection()
@@ -38,17 +42,14 @@ pub fn an_answer_rises()
         ↔ ((d : Doc) × Contains docs d × (is_hit query d ≡ true) × (d.number ≡ n)) }
 {}
 
-/// The places of what a command writes are determined, and none of it is full where all is placed.
-pub fn places_are_determined()
-    ensures one { (units : ℕ) (taken : List Extent) (writes : List ℕ) (places others : List Extent)
-        → PlacedAs units taken writes places → PlacedAs units taken writes others → places ≡ others }
-    ensures full { (units : ℕ) (taken : List Extent) (writes : List ℕ) (places : List Extent)
-        (need largest : ℕ) → PlacedAs units taken writes places → FullAs units taken writes need largest → ⊥ }
-{}
-
-/// A legal step goes over to the sessions that give what the store means: the log gains what was
-/// accepted, an accepted commit moves the mark to its end, and nothing else changes.
-pub fn a_legal_step_is_told()
-    ensures { (f : Formats) (s : Session) (old new : State) (request : Request) (reply : Result Answer Why)
-        → Tells s old → LegalStep f old request reply new → Tells (next_session s request reply) new }
+/// The limits of the code are the numbers that the definitions have.
+pub fn limits_are()
+    ensures text { MAX_TEXT_BYTES ≡ max_text_bytes }
+    ensures documents { MAX_BUFFERED_DOCUMENTS ≡ max_buffered_documents }
+    ensures bytes { MAX_BUFFERED_BYTES ≡ max_buffered_bytes }
+    ensures numbers { END_OF_NUMBERS ≡ end_of_numbers }
+    ensures segments { MAX_SEGMENTS ≡ max_segments }
+    ensures segment { MAX_SEGMENT_BYTES ≡ max_segment_bytes }
+    ensures ids { END_OF_IDS ≡ end_of_ids }
+    ensures run { TIDY_RUN ≡ tidy_run }
 {}

@@ -11,9 +11,7 @@
 //! | `Tree` | queries as trees, and which words satisfy them |
 //! | `Collection` | the collection, and what a query answers |
 //! | `Steps` | what each command does to the collection, and its reply |
-//! | `Body` | the body in force, the extents by first fit, what a commit or a merge makes |
-//! | `Legal` | the refusals in their order, the legal step, the legal run |
-//! | `Session` | start, log and mark, and what they say of a store |
+//! | `Limits` | the limits that a store keeps, as numbers |
 //! | `Views` | from the types of the code to these definitions |
 //!
 //! The module `laws` has the laws that make the definitions believable.

@@ -1,4 +1,4 @@
-//! The limits that a store keeps, and the geometry of its disk.
+//! The limits that a store keeps.
 
 /// The longest text of a document, in bytes.
 pub const MAX_TEXT_BYTES: usize = 1_048_576;
@@ -20,12 +20,6 @@ pub const MAX_SEGMENT_BYTES: u32 = 1_073_741_824;
 
 /// The generation or segment id that none follows.
 pub const END_OF_IDS: u64 = 18_446_744_073_709_551_615;
-
-/// The bytes of a unit of the disk.
-pub const UNIT_BYTES: u32 = 512;
-
-/// The first unit that an extent may have: those before it hold the gates and the two bodies.
-pub const FIRST_UNIT: u32 = 34;
 
 /// The neighbouring segments that one `tidy` merges.
 pub const TIDY_RUN: usize = 8;

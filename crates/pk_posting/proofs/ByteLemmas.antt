@@ -6,7 +6,7 @@ use Rattle.std.proofs.lemmas.List.{get_or_past}
 use Rattle.pk_vbyte.specs.VariableByte.{vbyte}
 use Rattle.pk_vbyte.proofs.CallerLemmas.{byte_vbyte}
 use Rattle.pk_posting.specs.Posting.{IsPosting, Spells, tail_bytes}
-use Rattle.pk_posting.specs.Spelling.{AreBytes, width_at, differences_of, offset_of, packed_bytes, entry, width_byte, width_row, piece, joined, head_of, body_of, tail_of, spelling}
+use Rattle.pk_posting.specs.Spelling.{AreBytes, width_at, differences_of, offset_of, packed_bytes, entry, width_byte, width_row, block_bytes, joined, head_of, body_of, tail_of, spelling}
 use Rattle.pk_posting.proofs.PackedLemmas.{packed_below}
 use Rattle.pk_posting.proofs.SpellingLemmas.{length_row, row_at, width_most, small_at, spelling_spells, piece_first, piece_later}
 use Rattle.pk_posting.proofs.OneSpellingLemmas.{one_spelling}
@@ -53,7 +53,7 @@ bytes_row xs k p j = elim (cases_lt j 16) [
   | inr r ↦ (let e = get_or_past (width_row xs k) j 0 (omega (arith, length_row xs k)) in omega (arith, e))
 ]
 
-bytes_piece : (xs : List ℕ) (k : ℕ) → IsPosting xs → AreBytes (piece xs k)
+bytes_piece : (xs : List ℕ) (k : ℕ) → IsPosting xs → AreBytes (block_bytes xs k)
 bytes_piece xs k p =
     let packed = packed_bytes (width_at k xs) (differences_of k xs) in
     let f : AreBytes packed = packed_below (width_at k xs) (differences_of k xs) in
@@ -73,7 +73,7 @@ unfolding spelling head_of body_of tail_of
 bytes_spelling xs p =
     bytes_append (head_of xs) (body_of xs ++ tail_of xs)
     (bytes_append (to_le_bytes w32 (length xs)) (joined (entry xs) (length xs / 128)) (bytes_word (length xs)) (bytes_joined (entry xs) (length xs / 128) (λ k h. bytes_entry xs k)))
-    (bytes_append (body_of xs) (tail_of xs) (bytes_joined (piece xs) (length xs / 128) (λ k h. bytes_piece xs k p))
+    (bytes_append (body_of xs) (tail_of xs) (bytes_joined (block_bytes xs) (length xs / 128) (λ k h. bytes_piece xs k p))
     (bytes_tail (slice_index (0 ∷ xs) (128 * (length xs / 128))) (drop (128 * (length xs / 128)) xs)))
 
 -- what spells a list is its spelling

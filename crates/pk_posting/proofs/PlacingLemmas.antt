@@ -4,7 +4,7 @@ use Rattle.std.proofs.lemmas.Bool.{cases_lt, cond-true, cond-false, eq-eqb, ne_e
 use Rattle.std.specs.Int.{w32, to_le_bytes}
 use Rattle.std.proofs.lemmas.List.{append_assoc, append-nil, take_all}
 use Rattle.pk_posting.specs.Posting.{IsPosting, tail_bytes}
-use Rattle.pk_posting.specs.Spelling.{width_at, widths_of, offset_of, differences_of, packed_bytes, entry, width_row, piece, joined, head_of, body_of, tail_of, spelling}
+use Rattle.pk_posting.specs.Spelling.{width_at, widths_of, offset_of, differences_of, packed_bytes, entry, width_row, block_bytes, joined, head_of, body_of, tail_of, spelling}
 use Rattle.pk_posting.specs.Writing.{BlocksPut}
 use Rattle.pk_posting.proofs.SpellingLemmas.{joined_more, length_pieces, length_head, length_body, widths_grow, widths_next, widths_most, small_at}
 
@@ -20,10 +20,10 @@ pad_is k = elim (cases_lt 0 (k % 16)) [
 
 pub blocks_start : (xs head body : List ℕ) → BlocksPut xs 0 0 head head body
 unfolding joined
-blocks_start xs head body = record { entries = sym (append-nil (take 4 head)); place = refl; pieces = refl }
+blocks_start xs head body = record { entries = sym (append-nil (take 4 head)); offset = refl; blocks = refl }
 
 pub place_of : (xs : List ℕ) (k at : ℕ) (old head body : List ℕ) → BlocksPut xs k at old head body → at + pad k ≡ offset_of k xs
-place_of xs k at old head body b = let p = b.place in omega (arith, p, length_pieces xs k, pad_is k)
+place_of xs k at old head body b = let p = b.offset in omega (arith, p, length_pieces xs k, pad_is k)
 
 pub room_of : (xs : List ℕ) (k : ℕ) → k < length xs / 128 → offset_of k xs + 16 * width_at k xs ≤ length (body_of xs)
 room_of xs k h =
@@ -46,7 +46,7 @@ pub blocks_more : (xs : List ℕ) (k at here w : ℕ) (old head head' body body'
     → take (here + 16 * w) body'' ≡ take here body' ++ packed_bytes w ds
     → ds ≡ differences_of k xs → w ≡ width_at k xs
     → BlocksPut xs (k + 1) (here + 16 * w) old head' body''
-unfolding piece
+unfolding block_bytes
 blocks_more xs k at here w old head head' body body' body'' ds b e row put packed d v =
     let row_k = if nat_eq (k % 16) 0 then width_row xs k else [] in
     let next : 4 + 20 * (k + 1) ≡ 24 + 20 * k = omega arith in
@@ -56,18 +56,18 @@ blocks_more xs k at here w old head head' body body' body'' ds b e row put packe
     record {
       entries = ap (λ n. take n head') next ∙ put ∙ ap (λ ys. ys ++ entry xs k) b.entries ∙ append_assoc (take 4 old) (joined (entry xs) k) (entry xs k)
           ∙ ap (λ ys. take 4 old ++ ys) (sym (joined_more (entry xs) k));
-      place = omega (arith, e, place, v, one, length_pieces xs (k + 1));
-      pieces = packed ∙ ap₂ (λ ys zs. ys ++ zs) (row ∙ ap (λ ys. ys ++ row_k) b.pieces) (ap₂ packed_bytes v d)
-          ∙ append_assoc (joined (piece xs) k) row_k (packed_bytes (width_at k xs) (differences_of k xs))
-          ∙ sym (joined_more (piece xs) k);
+      offset = omega (arith, e, place, v, one, length_pieces xs (k + 1));
+      blocks = packed ∙ ap₂ (λ ys zs. ys ++ zs) (row ∙ ap (λ ys. ys ++ row_k) b.blocks) (ap₂ packed_bytes v d)
+          ∙ append_assoc (joined (block_bytes xs) k) row_k (packed_bytes (width_at k xs) (differences_of k xs))
+          ∙ sym (joined_more (block_bytes xs) k);
     }
 
 pub blocks_all : (xs : List ℕ) (k at : ℕ) (old head body : List ℕ) → k ≡ length xs / 128 → BlocksPut xs k at old head body
     → (at ≡ length (body_of xs)) × (take at body ≡ body_of xs)
 unfolding body_of
 blocks_all xs k at old head body e b =
-    let all = ap (joined (piece xs)) e in
-    (b.place ∙ ap length all, b.pieces ∙ all)
+    let all = ap (joined (block_bytes xs)) e in
+    (b.offset ∙ ap length all, b.blocks ∙ all)
 
 pub length_parts : (xs : List ℕ) → length (spelling xs) ≡ length (head_of xs) + length (body_of xs) + length (tail_of xs)
 unfolding spelling

@@ -6,7 +6,7 @@ use Rattle.std.proofs.lemmas.List.{append_assoc, append-nil, ext_get_or, get_or_
 use Rattle.std.proofs.lemmas.List.FromFn.{length-map-range_with_len, get_or-map-range_with_len}
 use Rattle.pk_lanes.specs.Packed.{Packed}
 use Rattle.pk_posting.specs.Posting.{word, part, BlockOf, Spells, IsPosting, base, offset, width, total, seed, block, tail_place, tail_bytes}
-use Rattle.pk_posting.specs.Spelling.{width_at, differences_of, widths_of, offset_of, spelled_length, packed_bytes, entry, width_byte, width_row, piece, joined, head_of, body_of, tail_of, spelling}
+use Rattle.pk_posting.specs.Spelling.{width_at, differences_of, widths_of, offset_of, spelled_length, packed_bytes, entry, width_byte, width_row, block_bytes, joined, head_of, body_of, tail_of, spelling}
 use Rattle.pk_posting.proofs.DifferenceLemmas.{length_differences, difference}
 use Rattle.pk_posting.proofs.BlockLemmas.{length_part, get_part}
 use Rattle.pk_posting.proofs.PackedLemmas.{length_packed, packs}
@@ -109,15 +109,15 @@ unfolding width_row
 length_row xs k = length-map-range_with_len (λ j. width_byte xs (k + j)) 0 16
 
 -- a piece with the widths of its metablock, and one without
-pub piece_first : (xs : List ℕ) (k : ℕ) → k % 16 ≡ 0 → piece xs k ≡ width_row xs k ++ packed_bytes (width_at k xs) (differences_of k xs)
-unfolding piece
+pub piece_first : (xs : List ℕ) (k : ℕ) → k % 16 ≡ 0 → block_bytes xs k ≡ width_row xs k ++ packed_bytes (width_at k xs) (differences_of k xs)
+unfolding block_bytes
 piece_first xs k h = ap (λ ys. ys ++ packed_bytes (width_at k xs) (differences_of k xs)) (cond-true (nat_eq (k % 16) 0) (width_row xs k) [] (eq-eqb _ _ h))
 
-pub piece_later : (xs : List ℕ) (k : ℕ) → 0 < k % 16 → piece xs k ≡ packed_bytes (width_at k xs) (differences_of k xs)
-unfolding piece
+pub piece_later : (xs : List ℕ) (k : ℕ) → 0 < k % 16 → block_bytes xs k ≡ packed_bytes (width_at k xs) (differences_of k xs)
+unfolding block_bytes
 piece_later xs k h = ap (λ ys. ys ++ packed_bytes (width_at k xs) (differences_of k xs)) (cond-false (nat_eq (k % 16) 0) (width_row xs k) [] (ne_eqb _ _ (λ e. omega arith)))
 
-length_piece : (xs : List ℕ) (k : ℕ) → length (piece xs k) ≡ 16 * ((k + 16) / 16) - 16 * ((k + 15) / 16) + 16 * width_at k xs
+length_piece : (xs : List ℕ) (k : ℕ) → length (block_bytes xs k) ≡ 16 * ((k + 16) / 16) - 16 * ((k + 15) / 16) + 16 * width_at k xs
 length_piece xs k = elim (cases_lt 0 (k % 16)) [
   | inl l ↦ omega (arith, ap length (piece_later xs k l), length_packed (width_at k xs) (differences_of k xs))
   | inr r ↦ omega (arith, ap length (piece_first xs k (omega arith)), length-append (width_row xs k) (packed_bytes (width_at k xs) (differences_of k xs)), length_row xs k, length_packed (width_at k xs) (differences_of k xs))
@@ -127,10 +127,10 @@ pub widths_next : (k : ℕ) (xs : List ℕ) → widths_of (suc k) xs ≡ widths_
 unfolding widths_of
 widths_next k xs = refl
 
-pub length_pieces : (xs : List ℕ) (n : ℕ) → length (joined (piece xs) n) ≡ 16 * ((n + 15) / 16) + 16 * widths_of n xs
+pub length_pieces : (xs : List ℕ) (n : ℕ) → length (joined (block_bytes xs) n) ≡ 16 * ((n + 15) / 16) + 16 * widths_of n xs
 unfolding joined widths_of
 length_pieces xs zero = refl
-length_pieces xs (suc n) = omega (arith, length-append (joined (piece xs) n) (piece xs n), length_pieces xs n, length_piece xs n)
+length_pieces xs (suc n) = omega (arith, length-append (joined (block_bytes xs) n) (block_bytes xs n), length_pieces xs n, length_piece xs n)
 
 pub row_at : (xs : List ℕ) (k j : ℕ) → j < 16 → slice_index (width_row xs k) j ≡ width_byte xs (k + j)
 unfolding width_row
@@ -196,12 +196,12 @@ body_at xs i h =
     ap (slice_index (head_of xs ++ (body_of xs ++ tail_of xs))) e ∙ get_or-append-add (head_of xs) (body_of xs ++ tail_of xs) i 0
     ∙ get_or_append_left (body_of xs) (tail_of xs) 0 i h
 
-piece_at : (xs : List ℕ) (k i : ℕ) → k < length xs / 128 → i < length (piece xs k)
-    → slice_index (spelling xs) (4 + 20 * (length xs / 128) + (length (joined (piece xs) k) + i)) ≡ slice_index (piece xs k) i
+piece_at : (xs : List ℕ) (k i : ℕ) → k < length xs / 128 → i < length (block_bytes xs k)
+    → slice_index (spelling xs) (4 + 20 * (length xs / 128) + (length (joined (block_bytes xs) k) + i)) ≡ slice_index (block_bytes xs k) i
 unfolding body_of
 piece_at xs k i h l =
-    let a = at_joined (piece xs) (length xs / 128) k i h l in
-    body_at xs (length (joined (piece xs) k) + i) a.0 ∙ a.1
+    let a = at_joined (block_bytes xs) (length xs / 128) k i h l in
+    body_at xs (length (joined (block_bytes xs) k) + i) a.0 ∙ a.1
 
 -- the width byte of block k, also where there is no block
 pub spelled_width : (xs : List ℕ) (k : ℕ) → IsPosting xs → ((i : ℕ) → slice_index xs i < 2 ^ 32) → 16 * (k / 16) < length xs / 128
@@ -211,7 +211,7 @@ spelled_width xs k p f h =
     let o = spelled_offset xs m p f h in
     let first : m % 16 ≡ 0 = omega arith in
     let long = ap length (piece_first xs m first) ∙ length-append (width_row xs m) (packed_bytes (width_at m xs) (differences_of m xs)) in
-    let place : base (length xs / 128) + (offset (spelling xs) m - 16) + k % 16 ≡ 4 + 20 * (length xs / 128) + (length (joined (piece xs) m) + k % 16) =
+    let place : base (length xs / 128) + (offset (spelling xs) m - 16) + k % 16 ≡ 4 + 20 * (length xs / 128) + (length (joined (block_bytes xs) m) + k % 16) =
     omega (arith, o, length_pieces xs m) in
     let back : m + k % 16 ≡ k = omega arith in
     ap (slice_index (spelling xs)) place ∙ piece_at xs m (k % 16) h (omega (arith, long, length_row xs m))
@@ -238,12 +238,12 @@ packed_part xs k i h l =
     let before = length_pieces xs k in
     elim (cases_lt 0 (k % 16)) [
       | inl m ↦ (
-          let e : 4 + 20 * (length xs / 128) + offset_of k xs + i ≡ 4 + 20 * (length xs / 128) + (length (joined (piece xs) k) + i) = omega arith in
+          let e : 4 + 20 * (length xs / 128) + offset_of k xs + i ≡ 4 + 20 * (length xs / 128) + (length (joined (block_bytes xs) k) + i) = omega arith in
           ap (slice_index (spelling xs)) e ∙ piece_at xs k i h (omega (arith, ap length (piece_later xs k m))) ∙ ap (λ ys. slice_index ys i) (piece_later xs k m))
       | inr m ↦ (
           let z : k % 16 ≡ 0 = omega arith in
           let row = length_row xs k in
-          let e : 4 + 20 * (length xs / 128) + offset_of k xs + i ≡ 4 + 20 * (length xs / 128) + (length (joined (piece xs) k) + (length (width_row xs k) + i)) = omega arith in
+          let e : 4 + 20 * (length xs / 128) + offset_of k xs + i ≡ 4 + 20 * (length xs / 128) + (length (joined (block_bytes xs) k) + (length (width_row xs k) + i)) = omega arith in
           ap (slice_index (spelling xs)) e
           ∙ piece_at xs k (length (width_row xs k) + i) h (omega (arith, ap length (piece_first xs k z), length-append (width_row xs k) packed))
           ∙ ap (λ ys. slice_index ys (length (width_row xs k) + i)) (piece_first xs k z)

@@ -5,7 +5,7 @@ use Rattle.std.specs.Simd.Lanes.{zip2}
 use Rattle.pk_lanes.specs.Packed.{Packed}
 use Rattle.pk_vbyte.specs.VariableByte.{vbyte}
 
--- n items from a place on
+-- n items from an index on
 abbrev pub part : ℕ → ℕ → List ℕ → List ℕ
 part at n xs = take n (drop at xs)
 
@@ -14,7 +14,7 @@ unfoldable pub word : List ℕ → ℕ → ℕ
 word bytes at = slice_index bytes at + 256 * slice_index bytes (at + 1)
     + 65536 * slice_index bytes (at + 2) + 16777216 * slice_index bytes (at + 3)
 
--- each number less the one four places before it; the four before the first are the seed
+-- each number less the fourth before it; the four before the first are the seed
 unfoldable pub differences : List ℕ → List ℕ → List ℕ
 differences seed xs = zip2 (λ x y. x - y) xs (seed ++ xs)
 

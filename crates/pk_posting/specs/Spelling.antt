@@ -76,8 +76,8 @@ unfoldable pub width_row : List ℕ → ℕ → List ℕ
 width_row xs k = map (λ j. width_byte xs (k + j)) (range_with_len 0 16)
 
 -- block k, after its metablock's widths where it is the first there
-unfoldable pub piece : List ℕ → ℕ → List ℕ
-piece xs k = (if nat_eq (k % 16) 0 then width_row xs k else [])
+unfoldable pub block_bytes : List ℕ → ℕ → List ℕ
+block_bytes xs k = (if nat_eq (k % 16) 0 then width_row xs k else [])
     ++ packed_bytes (width_at k xs) (differences_of k xs)
 
 -- n parts, one after another
@@ -90,7 +90,7 @@ unfoldable pub head_of : List ℕ → List ℕ
 head_of xs = to_le_bytes w32 (length xs) ++ joined (entry xs) (length xs / 128)
 
 unfoldable pub body_of : List ℕ → List ℕ
-body_of xs = joined (piece xs) (length xs / 128)
+body_of xs = joined (block_bytes xs) (length xs / 128)
 
 unfoldable pub tail_of : List ℕ → List ℕ
 tail_of xs = tail_bytes (slice_index (0 ∷ xs) (128 * (length xs / 128)))

@@ -2,13 +2,13 @@
 use Rattle.std.specs.Prelude.{◌≡◌, ℕ, ◌+◌, ◌*◌, List, ◌++◌, length, take}
 use Rattle.pk_posting.specs.Posting.{tail_bytes}
 use Rattle.pk_posting.specs.Tails.{Climbs}
-use Rattle.pk_posting.specs.Spelling.{entry, piece, joined}
+use Rattle.pk_posting.specs.Spelling.{entry, block_bytes, joined}
 
 -- the skip entries and the pieces of the first k blocks are written
 pub record BlocksPut (xs : List ℕ) (k at : ℕ) (old_head head body : List ℕ) : Type 0 where
   pub entries : take (4 + 20 * k) head ≡ take 4 old_head ++ joined (entry xs) k
-  pub place : at ≡ length (joined (piece xs) k)
-  pub pieces : take at body ≡ joined (piece xs) k
+  pub offset : at ≡ length (joined (block_bytes xs) k)
+  pub blocks : take at body ≡ joined (block_bytes xs) k
 
 -- what is left of the tail comes after what was written
 pub record TailPut (start before at here : ℕ) (xs left old out : List ℕ) : Type 0 where

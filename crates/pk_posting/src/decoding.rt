@@ -2,9 +2,11 @@
 
 ghost use Rattle.std.specs.Prelude.{◌≡◌, ◌+◌, ◌*◌, ◌/◌, ◌%◌, ◌<◌, ◌≤◌, ◌∷◌, ◌++◌, ◌↔◌};
 ghost use Rattle.std.specs.Prelude.{ℕ, List, [], length, IfOk, IfErr, OnOk, IsTrue, MatchResult};
-ghost use Rattle.std.specs.Prelude.{true, slice_index, MatchOption};
-ghost use Rattle.pk_posting.specs.Posting.{word, differences, IsRightBlock, NeedsBits, Spells, base};
-ghost use Rattle.pk_posting.specs.Reading.{Begun, Breaks, Gives, IsRestored, IsTaken, ReadTo, NotSpelled};
+ghost use Rattle.std.specs.Prelude.{true, slice_index, MatchOption, vec_capacity, vec_len};
+ghost use Rattle.pk_posting.specs.Posting.{word, differences, IsRightBlock, NeedsBits, Spells};
+ghost use Rattle.pk_posting.specs.Posting.{base};
+ghost use Rattle.pk_posting.specs.Reading.{Begun, Breaks, Gives, IsRestored, IsTaken, ReadTo};
+ghost use Rattle.pk_posting.specs.Reading.{NotSpelled};
 ghost use Rattle.pk_posting.specs.Tails.{TailRead, NoTail, NoList};
 ghost use Rattle.pk_posting.specs.declared.decoding.DecodeFault.TheVariants.{Memory};
 
@@ -38,9 +40,11 @@ impl<T: Drop> From<AllocFailed<T>> for DecodeFault {
     }
 }
 
-/// The list that the bytes spell. Its memory is taken once, before the first block is read.
+/// The list that the bytes spell. Its memory is taken once, before the first block is read, and is
+/// just what its numbers need.
 pub fn decode(alloc: Global, bytes: &[u8]) -> Result<Vec<u32>, DecodeFault>
     ensures list { IfOk result (λ v. Spells bytes.now v.items) }
+    ensures memory { IfOk result (λ v. vec_capacity v ≡ length v.items) }
     ensures damaged { IfErr result (NoList bytes.now) }
     ensures spelled { (xs : List ℕ) → Spells bytes.now xs
         → MatchResult result (λ v. v.items ≡ xs) (λ fault. fault ≡ Memory) }
@@ -64,7 +68,7 @@ pub fn decode(alloc: Global, bytes: &[u8]) -> Result<Vec<u32>, DecodeFault>
 }
 
 // How many bytes a list of so many blocks, and so many numbers in its tail, takes at least. A width
-// is at least 3, since numbers that rise differ by at least 4 over four places.
+// is at least 3, since numbers that rise differ by at least 4 over four numbers.
 fn least_length(blocks: usize, left: usize) -> usize
     requires blocks { blocks ≤ 1048576 }
     requires left { left < 128 }
@@ -78,6 +82,8 @@ fn read_blocks(bytes: &[u8], blocks: usize, out: &mut Vec<u32>) -> Result<usize,
     requires most { blocks ≤ 1048576 }
     requires head { base blocks ≤ length bytes.now }
     requires none { out.old.items ≡ [] }
+    requires memory { 128 * blocks ≤ vec_capacity out.old }
+    ensures memory { vec_capacity out.new ≡ vec_capacity out.old }
     ensures read { IfOk result (λ at. (before : List ℕ) × (widths : ℕ)
         × ReadTo bytes.now blocks blocks out.new.items before at widths) }
     ensures damaged { IfErr result (NotSpelled bytes.now blocks) }
@@ -93,7 +99,7 @@ fn read_blocks(bytes: &[u8], blocks: usize, out: &mut Vec<u32>) -> Result<usize,
         if !block_of(bytes, blocks, k, begin_at, begin_widths, &seed, &mut xs) {
             return Err(DecodeFault::Damaged);
         }
-        out.extend_from_slice(&xs)?;
+        put_numbers(&xs, out);
         if !is_right(bytes, blocks, k, begin_at, begin_widths, &seed, &xs) {
             return Err(DecodeFault::Damaged);
         }
@@ -102,6 +108,18 @@ fn read_blocks(bytes: &[u8], blocks: usize, out: &mut Vec<u32>) -> Result<usize,
         at = begin_at + 16 * bytes[widths + k % 16] as usize;
     }
     Ok(at)
+}
+
+// Puts the numbers of a block after those in `out`, within the memory that it has.
+#[inline(always)]
+fn put_numbers(xs: &[u32; 128], out: &mut Vec<u32>)
+    requires memory { vec_len out.old + 128 ≤ vec_capacity out.old }
+    ensures numbers { out.new.items ≡ out.old.items ++ xs.now }
+    ensures memory { vec_capacity out.new ≡ vec_capacity out.old }
+{
+    for x in xs {
+        out.push_reserved(*x);
+    }
 }
 
 // Whether the numbers that a block's packed bytes restore make it right: they rise, and no fewer
@@ -139,7 +157,7 @@ fn needs_bits(seed: &[u32; 4], xs: &[u32; 128], width: u32) -> bool
     false
 }
 
-// The number four places before, in the seed for the first four.
+// The fourth number before, in the seed for the first four.
 #[inline(always)]
 fn before(seed: &[u32; 4], xs: &[u32; 128], i: usize) -> u32
     requires { i < 128 }
@@ -155,7 +173,7 @@ fn before(seed: &[u32; 4], xs: &[u32; 128], i: usize) -> u32
 fn begin(bytes: &[u8], blocks: usize, k: usize, at: usize, widths: usize) -> Option<(usize, usize)>
     requires one { k < blocks }
     requires most { blocks ≤ 1048576 }
-    requires place { at ≤ length bytes.now }
+    requires offset { at ≤ length bytes.now }
     requires room { 0 < k % 16 → widths + 16 ≤ length bytes.now }
     ensures { MatchOption result (Breaks bytes.now blocks k at)
         (λ r. Begun bytes.now blocks k at widths r.0 r.1) }
@@ -201,7 +219,7 @@ fn block_of(
     requires one { k < blocks }
     requires most { blocks ≤ 1048576 }
     requires head { base blocks ≤ length bytes.now }
-    requires place { at ≤ length bytes.now }
+    requires offset { at ≤ length bytes.now }
     requires room { widths + 16 ≤ length bytes.now }
     ensures taken { IsTrue result → IsTaken bytes.now blocks k at widths seed.now xs.new }
     ensures only { (ys : List ℕ) → Gives bytes.now blocks k at widths seed.now ys → result ≡ true }
@@ -251,7 +269,9 @@ fn read_tail(
     count: usize,
     out: &mut Vec<u32>,
 ) -> Result<(), DecodeFault>
-    requires { start ≤ length bytes.now }
+    requires offset { start ≤ length bytes.now }
+    requires memory { length out.old.items + count ≤ vec_capacity out.old }
+    ensures memory { vec_capacity out.new ≡ vec_capacity out.old }
     ensures read { OnOk result (TailRead bytes.now start before count out.old.items out.new.items) }
     ensures damaged { IfErr result (NoTail bytes.now start before count) }
 {
@@ -265,7 +285,7 @@ fn read_tail(
             return Err(DecodeFault::Damaged);
         }
         here += gap;
-        out.push(here)?;
+        out.push_reserved(here);
         at += used;
     }
     if at != bytes.len() {

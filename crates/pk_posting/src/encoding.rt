@@ -7,7 +7,7 @@ ghost use Rattle.pk_lanes.specs.Packed.{FitIn};
 ghost use Rattle.pk_posting.specs.Posting.{IsPosting, Spells, tail_bytes, seed, block};
 ghost use Rattle.pk_posting.specs.Spelling.{spelling, widths_of, width_at, differences_of};
 ghost use Rattle.pk_posting.specs.Spelling.{offset_of, packed_bytes, entry, width_byte, width_row};
-ghost use Rattle.pk_posting.specs.Spelling.{piece, joined, body_of};
+ghost use Rattle.pk_posting.specs.Spelling.{block_bytes, joined, body_of};
 ghost use Rattle.pk_posting.specs.Tails.{Climbs};
 
 use crate::fields::last_number;
@@ -152,7 +152,7 @@ fn put_packed(differences: &[u32; 128], width: u32, at: usize, out: &mut [u8])
 // packed blocks go on.
 fn put_widths(xs: &[u32], k: usize, at: usize, out: &mut [u8]) -> usize
     requires posting { IsPosting xs.now }
-    requires place { k < length xs.now / 128 }
+    requires index { k < length xs.now / 128 }
     requires room { at + (if nat_eq (k % 16) 0 then 16 else 0) ≤ length out.old }
     ensures end { result ≡ at + (if nat_eq (k % 16) 0 then 16 else 0) }
     ensures written { take result out.new
@@ -168,7 +168,7 @@ fn put_widths(xs: &[u32], k: usize, at: usize, out: &mut [u8]) -> usize
 // The width bytes of sixteen blocks, 00 where there is no block.
 fn widths_from(xs: &[u32], k: usize) -> [u8; 16]
     requires posting { IsPosting xs.now }
-    requires place { k < length xs.now / 128 }
+    requires index { k < length xs.now / 128 }
     ensures { result ≡ width_row xs.now k }
 {
     let mut widths = [0u8; 16];

@@ -13,18 +13,19 @@
 //! | tail | 1 to 5 a number | the n mod 128 numbers left |
 //!
 //! A number of four bytes has its lowest byte first. An offset counts from the start of the first
-//! metablock. A block packs the differences of its 128 numbers to the number four places before, at
+//! metablock. A block packs the differences of its 128 numbers to the fourth number before it, at
 //! one width: the bit length of the greatest difference. Four zeros stand before the first number,
 //! and the chain runs on from block to block. A width byte is 00 where there is no block. The tail
 //! has the variable bytes of the differences to the number just before, 0 before the first. Nothing
 //! follows it.
 //!
 //! So a list has one spelling, and a spelling is of one list: these laws are in `laws`. `encode`
-//! gives the spelling. `decode` gives the list exactly where the bytes spell one; it refuses other
-//! bytes as Damaged, and takes no memory for more numbers than the bytes could spell. `Shape::of`
-//! and `skip_of` read fields alone, and take no memory.
+//! gives the spelling. `decode` gives the list exactly where the bytes spell one, in just the
+//! memory that its numbers need; it refuses other bytes as Damaged, and takes no memory for more
+//! numbers than the bytes could spell. `Shape::of` and `skip_of` read fields alone, and take no
+//! memory.
 //!
-//! A `ByteSource` lends pieces of some bytes: of a slice, or of a part of a disk. What its calls
+//! A `ByteSource` lends stretches of some bytes: of a slice, or of a part of a disk. What its calls
 //! leave is in `specs/Source.antt`.
 //!
 //! In contracts, `Spells` (`specs/Posting.antt`) says field by field that bytes spell a list, and
@@ -42,6 +43,3 @@ pub use decoding::{DecodeFault, decode};
 pub use encoding::{encode, encode_into, length_of};
 pub use fields::{ListPlace, Shape, Skip, skip_of};
 pub use source::{ByteSource, SliceSource, SourceFault};
-
-#[cfg(test)]
-mod tests;

@@ -1,4 +1,4 @@
-//! Bytes that are lent, a piece at a time.
+//! Bytes that are lent, a stretch at a time.
 
 ghost use Rattle.std.specs.Prelude.{◌≡◌, ◌≤◌, ◌<◌, ◌+◌, ◌^◌, ◌↔◌};
 ghost use Rattle.std.specs.Prelude.{ℕ, List, length, take, drop, IfOk, IsOk, IsErrOf};
@@ -10,13 +10,13 @@ ghost use Rattle.pk_posting.specs.Source.{IsAskedOnce};
 /// Why a source lends no bytes.
 #[derive(Clone, Copy, Debug, PartialEq, Eq, Drop)]
 pub enum SourceFault {
-    /// The piece goes past the source's end. Nothing below was read.
+    /// The stretch asked for goes past the source's end. Nothing below was read.
     Damaged,
     /// What lies below failed, and the source's count of failures rose.
     Disk,
 }
 
-/// Bytes that are lent, a piece at a time. After a refusal the source is as before, but for its
+/// Bytes that are lent, a stretch at a time. After a refusal the source is as before, but for its
 /// counts, and may be asked again.
 pub trait ByteSource {
     /// All its bytes. Their number never changes.

@@ -13,23 +13,23 @@ use Rattle.pk_query.specs.BuildView.{finished}
 use Rattle.pk_query.specs.Refusals.{IsQuery, IsFaultOf, Refuses}
 use Rattle.pk_query.proofs.Faults.{start, accepts_read, one_reading}
 use Rattle.pk_query.proofs.Sound.{sound}
-use Rattle.pk_query.proofs.Verdict.{Tells, verdict_tells, verdict_reads}
+use Rattle.pk_query.proofs.Verdict.{IsVerdictOf, verdict_holds, verdict_reads}
 use Rattle.pk_query.proofs.Once.{one_refusal}
 use Rattle.pk_query.proofs.Light.{faulty, fault_is}
 
-none_told : (text : List ℕ) (r : Result Tree QueryFault) → faulty r ≡ None → Tells text r → (q : Tree) × Reads text q
-none_told text (Ok q) e t = (q, t)
-none_told text (Err f) e t = cc
+none_found : (text : List ℕ) (r : Result Tree QueryFault) → faulty r ≡ None → IsVerdictOf text r → (q : Tree) × Reads text q
+none_found text (Ok q) e t = (q, t)
+none_found text (Err f) e t = cc
 
 pub no_fault : (text : List ℕ) → IsUtf8 text → first_fault text ≡ None → (q : Tree) × Reads text q
-no_fault text u e = none_told text (verdict text) (sym (fault_is text) ∙ e) (verdict_tells text u)
+no_fault text u e = none_found text (verdict text) (sym (fault_is text) ∙ e) (verdict_holds text u)
 
-some_told : (text : List ℕ) (r : Result Tree QueryFault) (f : QueryFault) → faulty r ≡ Some f → Tells text r → Tells text (Err f)
-some_told text (Ok q) f e t = cc
-some_told text (Err g) f e t = let h : g ≡ f = cc in let P : QueryFault → Type 0 = λ x. Tells text (Err x) in subst P h t
+some_found : (text : List ℕ) (r : Result Tree QueryFault) (f : QueryFault) → faulty r ≡ Some f → IsVerdictOf text r → IsVerdictOf text (Err f)
+some_found text (Ok q) f e t = cc
+some_found text (Err g) f e t = let h : g ≡ f = cc in let P : QueryFault → Type 0 = λ x. IsVerdictOf text (Err x) in subst P h t
 
-pub some_fault : (text : List ℕ) (f : QueryFault) → IsUtf8 text → first_fault text ≡ Some f → Tells text (Err f)
-some_fault text f u e = some_told text (verdict text) f (sym (fault_is text) ∙ e) (verdict_tells text u)
+pub some_fault : (text : List ℕ) (f : QueryFault) → IsUtf8 text → first_fault text ≡ Some f → IsVerdictOf text (Err f)
+some_fault text f u e = some_found text (verdict text) f (sym (fault_is text) ∙ e) (verdict_holds text u)
 
 -- a text that has a fault reads as no query
 pub fault_reads : (text : List ℕ) (f : QueryFault) (q : Tree) → first_fault text ≡ Some f → Reads text q → ⊥
@@ -44,7 +44,7 @@ finished_reads text q d =
 pub built : (text : List ℕ) (q t : Tree) → Reads text q → finished (run start (tokens text)) ≡ Some t → t ≡ q
 built text q t d e = let h : Some t ≡ Some q = sym e ∙ finished_reads text q d in cc
 
-pub gets : (text : List ℕ) (f : QueryFault) → IsWithinLimits text → Tells text (Err f) → IsFaultOf text f
+pub gets : (text : List ℕ) (f : QueryFault) → IsWithinLimits text → IsVerdictOf text (Err f) → IsFaultOf text f
 gets text TooLong w t = absurd t
 gets text TooDeep w t = absurd t
 gets text Memory w t = absurd t

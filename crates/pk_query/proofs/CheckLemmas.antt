@@ -20,7 +20,7 @@ first_word left s t (Some w) h = sym (ap (λ ws. is_some (words_tree (map folded
 pub last_place : (arr : List ℕ) (d : ℕ) → d < length arr → reverse (take (d + 1) arr) ≡ get_or arr d 0 ∷ reverse (take d arr)
 last_place arr d l = ap reverse (take_more arr d 0 l) ∙ reverse-append (take d arr) (get_or arr d 0 ∷ [])
 
-pub close_step : (has : Bool) (arr : List ℕ) (d place : ℕ) → has ≡ true → 0 < d → d ≤ length arr → check_step (record { has = has; places = reverse (take d arr) }) Close place ≡ Ok (record { has = true; places = reverse (take (d - 1) arr) })
+pub close_step : (has : Bool) (arr : List ℕ) (d place : ℕ) → has ≡ true → 0 < d → d ≤ length arr → check_step (record { after_operand = has; places = reverse (take d arr) }) Close place ≡ Ok (record { after_operand = true; places = reverse (take (d - 1) arr) })
 close_step has arr d place e some within =
     let places : reverse (take d arr) ≡ get_or arr (d - 1) 0 ∷ reverse (take (d - 1) arr) =
     (let n : d ≡ (d - 1) + 1 = omega arith in ap (λ k. reverse (take k arr)) n) ∙ last_place arr (d - 1) (omega arith) in
@@ -80,7 +80,7 @@ nests_next OrWord ts d d' e g = same_depth ts d d' g (right_false (ltb 64 d) (ne
 nests_next NotWord ts d d' e g = same_depth ts d d' g (right_false (ltb 64 d) (nests_too_deep d 0 ts) e)
 nests_next (Chunk b) ts d d' e g = same_depth ts d d' g (right_false (ltb 64 d) (nests_too_deep d 0 ts) e)
 
-pub end_open : (has : Bool) (arr : List ℕ) (d end : ℕ) → has ≡ true → 0 < d → d ≤ length arr → check_end (record { has = has; places = reverse (take d arr) }) end ≡ Some (Unclosed (get_or arr (d - 1) 0))
+pub end_open : (has : Bool) (arr : List ℕ) (d end : ℕ) → has ≡ true → 0 < d → d ≤ length arr → check_end (record { after_operand = has; places = reverse (take d arr) }) end ≡ Some (Unclosed (get_or arr (d - 1) 0))
 end_open has arr d end e some within =
     let places : reverse (take d arr) ≡ get_or arr (d - 1) 0 ∷ reverse (take (d - 1) arr) =
     (let n : d ≡ (d - 1) + 1 = omega arith in ap (λ k. reverse (take k arr)) n) ∙ last_place arr (d - 1) (omega arith) in

@@ -3,22 +3,22 @@ use Rattle.std.proofs.Common.{◌≡◌, suc, List, [], ◌∷◌, ◌++◌, Opt
 use Rattle.pk_model.specs.Tree.{Tree}
 use Rattle.pk_query.specs.Tokens.{Token, Open, Close, AndWord, OrWord, NotWord, Chunk}
 use Rattle.pk_query.specs.Grammar.{Row, OrRow, AndRow, NotRow, OperandRow, Derives, one_and, or_more, one_not, and_more, and_next, one_operand, not_more, operand, bracketed, operand_of}
-use Rattle.pk_query.specs.Machine.{Frame, fresh, Wants, Has, joined_or, completed, with_operand, onward, run}
+use Rattle.pk_query.specs.Machine.{Bracket, fresh, WantsOperand, HasOperand, joined_or, completed, with_operand, onward, run}
 
-abbrev frame_of : Option Tree → Option Tree → Frame
-frame_of ors ands = record { ors = ors; ands = ands; nots = 0 }
+abbrev bracket_of : Option Tree → Option Tree → Bracket
+bracket_of ors ands = record { ors = ors; ands = ands; nots = 0 }
 
 -- what the machine does on the tokens of a row, whatever is open and whatever follows
 abbrev Follows : Row → List Token → Tree → Type 0
-Follows OperandRow ts q = (f : Frame) (below : List Frame) (rest : List Token) → run (Wants f below) (ts ++ rest) ≡ run (completed q f below) rest
-Follows NotRow ts q = (f : Frame) (below : List Frame) (rest : List Token) → run (Wants f below) (ts ++ rest) ≡ run (completed q f below) rest
-Follows AndRow ts q = (ors : Option Tree) (below : List Frame) (rest : List Token) → run (Wants (frame_of ors None) below) (ts ++ rest) ≡ run (Has ors q below) rest
-Follows OrRow ts q = (below : List Frame) → (ors : Option Tree) × (ands : Tree) × (joined_or ors ands ≡ q) × ((rest : List Token) → run (Wants fresh below) (ts ++ rest) ≡ run (Has ors ands below) rest)
+Follows OperandRow ts q = (f : Bracket) (below : List Bracket) (rest : List Token) → run (WantsOperand f below) (ts ++ rest) ≡ run (completed q f below) rest
+Follows NotRow ts q = (f : Bracket) (below : List Bracket) (rest : List Token) → run (WantsOperand f below) (ts ++ rest) ≡ run (completed q f below) rest
+Follows AndRow ts q = (ors : Option Tree) (below : List Bracket) (rest : List Token) → run (WantsOperand (bracket_of ors None) below) (ts ++ rest) ≡ run (HasOperand ors q below) rest
+Follows OrRow ts q = (below : List Bracket) → (ors : Option Tree) × (ands : Tree) × (joined_or ors ands ≡ q) × ((rest : List Token) → run (WantsOperand fresh below) (ts ++ rest) ≡ run (HasOperand ors ands below) rest)
 
 -- a row that may follow an operand begins with a token that says so
 abbrev Begins : Row → List Token → Type 0
-Begins NotRow ts = (ors : Option Tree) (ands : Tree) (below : List Frame) (rest : List Token) → run (Has ors ands below) (ts ++ rest) ≡ run (Wants (frame_of ors (Some ands)) below) (ts ++ rest)
-Begins OperandRow ts = (ors : Option Tree) (ands : Tree) (below : List Frame) (rest : List Token) → run (Has ors ands below) (ts ++ rest) ≡ run (Wants (frame_of ors (Some ands)) below) (ts ++ rest)
+Begins NotRow ts = (ors : Option Tree) (ands : Tree) (below : List Bracket) (rest : List Token) → run (HasOperand ors ands below) (ts ++ rest) ≡ run (WantsOperand (bracket_of ors (Some ands)) below) (ts ++ rest)
+Begins OperandRow ts = (ors : Option Tree) (ands : Tree) (below : List Bracket) (rest : List Token) → run (HasOperand ors ands below) (ts ++ rest) ≡ run (WantsOperand (bracket_of ors (Some ands)) below) (ts ++ rest)
 Begins AndRow ts = Unit {0}
 Begins OrRow ts = Unit {0}
 
@@ -53,15 +53,15 @@ pub follows : {r : Row} {ts : List Token} {q : Tree} → Derives r ts q → Foll
 follows (one_and {ts} {q} d) = λ below. (None, q, refl, follows d None below)
 follows (or_more {ts} {us} {p} {q} d e) = λ below.
     let w = follows d below in
-    (Some p, q, refl, λ rest. rw append_assoc (w.3 _ ∙ ap (λ x. run (Wants (frame_of (Some x) None) below) (us ++ rest)) w.2 ∙ follows e (Some p) below rest))
-follows (one_not d) = λ ors below rest. follows d (frame_of ors None) below rest
+    (Some p, q, refl, λ rest. rw append_assoc (w.3 _ ∙ ap (λ x. run (WantsOperand (bracket_of (Some x) None) below) (us ++ rest)) w.2 ∙ follows e (Some p) below rest))
+follows (one_not d) = λ ors below rest. follows d (bracket_of ors None) below rest
 follows (and_more {ts} {us} {p} {q} d e) = λ ors below rest.
-    rw append_assoc (follows d ors below _ ∙ follows e (frame_of ors (Some p)) below rest)
+    rw append_assoc (follows d ors below _ ∙ follows e (bracket_of ors (Some p)) below rest)
 follows (and_next {ts} {us} {p} {q} d e) = λ ors below rest.
-    rw append_assoc (follows d ors below _ ∙ begins e ors p below rest ∙ follows e (frame_of ors (Some p)) below rest)
+    rw append_assoc (follows d ors below _ ∙ begins e ors p below rest ∙ follows e (bracket_of ors (Some p)) below rest)
 follows (one_operand d) = follows d
 follows (not_more d) = λ f below rest. follows d (record f { nots = suc f.nots }) below rest
 follows (operand {t} {q} e) = follows_operand t q e
 follows (bracketed {ts} {q} d) = λ f below rest.
     let w = follows d (f ∷ below) in
-    ap (run (Wants fresh (f ∷ below))) (append_assoc ts (Close ∷ []) rest) ∙ w.3 _ ∙ ap (λ x. run (completed x f below) rest) w.2
+    ap (run (WantsOperand fresh (f ∷ below))) (append_assoc ts (Close ∷ []) rest) ∙ w.3 _ ∙ ap (λ x. run (completed x f below) rest) w.2

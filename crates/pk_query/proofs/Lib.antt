@@ -1,5 +1,5 @@
 -- The lemmas of the crate.
-pub mod PieceLemmas
+pub mod LexemeLemmas
 pub mod Complete
 pub mod Sound
 pub mod Faults

@@ -8,7 +8,7 @@ use Rattle.std.proofs.Common.{◌≤◌, cond, arith}
 use Rattle.pk_query.specs.Grammar.{GoesOn, Reads, is_operand}
 use Rattle.pk_query.specs.Depth.{IsTooLong, IsTooDeep, IsWithinLimits}
 use Rattle.pk_query.specs.Refusals.{StopsAt, EndsEarly, EndsOpen, Refuses}
-use Rattle.pk_query.specs.declared.limits.TheConstants.{MAX_BYTES}
+use Rattle.pk_query.specs.Limits.{max_bytes}
 use Rattle.pk_query.specs.declared.fault.QueryFault.{QueryFault}
 use Rattle.pk_query.specs.declared.fault.QueryFault.TheVariants.{TooLong, TooDeep, NoWord, Unexpected, Unclosed, Memory}
 use Rattle.pk_query.proofs.BalanceLemmas.{complete_read, closed_read, unclosed_once}
@@ -94,7 +94,7 @@ early_at text n e = record { goes_on = e.goes_on; lacks = e.lacks; here = refl }
 -- a refusal is one of three kinds
 data Kind (text : List ℕ) (f : QueryFault) : Type 0 where
   long : IsTooLong text → f ≡ TooLong → Kind text f
-  deep : length text ≤ MAX_BYTES → IsTooDeep text → f ≡ TooDeep → Kind text f
+  deep : length text ≤ max_bytes → IsTooDeep text → f ≡ TooDeep → Kind text f
   within : IsWithinLimits text → (w : Way text) → f ≡ fault_by text w → Kind text f
 
 kind_of : (text : List ℕ) (f : QueryFault) → Refuses text f → Kind text f

@@ -3,7 +3,7 @@ use Rattle.std.proofs.Common.{◌≡◌, ◌⊎◌, ℕ, suc, zero, List, [], �
 use Rattle.pk_model.specs.Tree.{Tree}
 use Rattle.pk_query.specs.Tokens.{Token, Open, Close, AndWord, OrWord, NotWord, Chunk}
 use Rattle.pk_query.specs.Grammar.{Row, OrRow, AndRow, NotRow, OperandRow, Derives, one_and, or_more, one_not, and_more, and_next, one_operand, not_more, operand, bracketed, operand_of}
-use Rattle.pk_query.specs.Machine.{Frame, fresh, State, Wants, Has, joined_or, joined_and, negated, completed, closed, with_operand, step, step_wants, onward, run, Complaint}
+use Rattle.pk_query.specs.Machine.{Bracket, fresh, State, WantsOperand, HasOperand, joined_or, joined_and, negated, completed, closed, with_operand, step, step_wants, onward, run, Complaint}
 
 -- n NOTs and then these tokens
 abbrev nots_then : ℕ → List Token → List Token
@@ -20,21 +20,21 @@ abbrev BeforeOperand : Option Tree → List Token → Type 0
 BeforeOperand None ts = ts ≡ []
 BeforeOperand (Some p) ts = (us : List Token) × ((ts ≡ us ++ AndWord ∷ []) ⊎ (ts ≡ us)) × Derives AndRow us p
 
-record ShowsFrame (f : Frame) (ts : List Token) : Type 0 where
+record ShowsBracket (f : Bracket) (ts : List Token) : Type 0 where
   os : List Token
   as' : List Token
   split : ts ≡ os ++ (as' ++ nots_then f.nots [])
   ors : BeforeOr f.ors os
   ands : BeforeOperand f.ands as'
 
-abbrev ShowsBelow : List Frame → List Token → Type 0
+abbrev ShowsBelow : List Bracket → List Token → Type 0
 ShowsBelow [] ts = ts ≡ []
-ShowsBelow (f ∷ below) ts = (us : List Token) × (vs : List Token) × (ts ≡ us ++ (vs ++ Open ∷ [])) × ShowsBelow below us × ShowsFrame f vs
+ShowsBelow (f ∷ below) ts = (us : List Token) × (vs : List Token) × (ts ≡ us ++ (vs ++ Open ∷ [])) × ShowsBelow below us × ShowsBracket f vs
 
 -- the tokens so far are what the state says
 abbrev Shows : State → List Token → Type 0
-Shows (Wants f below) ts = (us : List Token) × (vs : List Token) × (ts ≡ us ++ vs) × ShowsBelow below us × ShowsFrame f vs
-Shows (Has o a below) ts = (us : List Token) × (os : List Token) × (as' : List Token) × (ts ≡ us ++ (os ++ as')) × ShowsBelow below us × BeforeOr o os × Derives AndRow as' a
+Shows (WantsOperand f below) ts = (us : List Token) × (vs : List Token) × (ts ≡ us ++ vs) × ShowsBelow below us × ShowsBracket f vs
+Shows (HasOperand o a below) ts = (us : List Token) × (os : List Token) × (as' : List Token) × (ts ≡ us ++ (os ++ as')) × ShowsBelow below us × BeforeOr o os × Derives AndRow as' a
 
 abbrev Good : Result State Complaint → List Token → Type 0
 Good (Err e) ts = Unit {0}
@@ -63,21 +63,21 @@ nots_then-append zero xs ys = refl
 nots_then-append (suc n) xs ys = nots_then-append n (NotWord ∷ xs) ys
 
 -- an operand completes what was wanted
-completes : (q : Tree) (f : Frame) (below : List Frame) (us vs ws ts : List Token) → ShowsBelow below us → ShowsFrame f vs → Derives NotRow ws q → ts ≡ us ++ (vs ++ ws) → Shows (completed q f below) ts
+completes : (q : Tree) (f : Bracket) (below : List Bracket) (us vs ws ts : List Token) → ShowsBelow below us → ShowsBracket f vs → Derives NotRow ws q → ts ≡ us ++ (vs ++ ws) → Shows (completed q f below) ts
 completes q f below us vs ws ts b s d e =
     let p : vs ++ ws ≡ s.os ++ (s.as' ++ nots_then f.nots ws) =
     ap (λ xs. xs ++ ws) s.split ∙ append_assoc s.os (s.as' ++ nots_then f.nots []) ws ∙ ap (λ xs. s.os ++ xs) (append_assoc s.as' (nots_then f.nots []) ws ∙ ap (λ xs. s.as' ++ xs) (nots_then-append f.nots [] ws)) in
     (us, s.os, s.as' ++ nots_then f.nots ws, e ∙ ap (λ xs. us ++ xs) p, b, s.ors, and_done f.ands s.as' s.ands (not_done f.nots d))
 
-fresh_shown : ShowsFrame fresh []
+fresh_shown : ShowsBracket fresh []
 fresh_shown = record { os = []; as' = []; split = refl; ors = refl; ands = refl }
 
-with_operand_shown : (o : Option Tree) (t : Token) (f : Frame) (below : List Frame) (us vs ts : List Token) → operand_of t ≡ o → ShowsBelow below us → ShowsFrame f vs → ts ≡ us ++ vs → Good (with_operand o f below) (ts ++ t ∷ [])
+with_operand_shown : (o : Option Tree) (t : Token) (f : Bracket) (below : List Bracket) (us vs ts : List Token) → operand_of t ≡ o → ShowsBelow below us → ShowsBracket f vs → ts ≡ us ++ vs → Good (with_operand o f below) (ts ++ t ∷ [])
 with_operand_shown None t f below us vs ts e b s h = tt
 with_operand_shown (Some q) t f below us vs ts e b s h =
     completes q f below us vs (t ∷ []) _ b s (one_operand (operand e)) (ap (λ xs. xs ++ t ∷ []) h ∙ append_assoc us vs (t ∷ []))
 
-wants_step : (f : Frame) (below : List Frame) (t : Token) (us vs ts : List Token) → ShowsBelow below us → ShowsFrame f vs → ts ≡ us ++ vs → Good (step_wants f below t) (ts ++ t ∷ [])
+wants_step : (f : Bracket) (below : List Bracket) (t : Token) (us vs ts : List Token) → ShowsBelow below us → ShowsBracket f vs → ts ≡ us ++ vs → Good (step_wants f below t) (ts ++ t ∷ [])
 wants_step f below Open us vs ts b s e =
     (ts ++ Open ∷ [], [], sym (append-nil _), (us, vs, ap (λ xs. xs ++ Open ∷ []) e ∙ append_assoc us vs (Open ∷ []), b, s), fresh_shown)
 wants_step f below NotWord us vs ts b s e = (
@@ -92,7 +92,7 @@ wants_step f below Close us vs ts b s e = tt
 wants_step f below AndWord us vs ts b s e = tt
 wants_step f below OrWord us vs ts b s e = tt
 
-closed_shown : (o : Option Tree) (a : Tree) (below : List Frame) (ts us os as' : List Token) → ts ≡ us ++ (os ++ as') → ShowsBelow below us → BeforeOr o os → Derives AndRow as' a → Good (closed (joined_or o a) below) (ts ++ Close ∷ [])
+closed_shown : (o : Option Tree) (a : Tree) (below : List Bracket) (ts us os as' : List Token) → ts ≡ us ++ (os ++ as') → ShowsBelow below us → BeforeOr o os → Derives AndRow as' a → Good (closed (joined_or o a) below) (ts ++ Close ∷ [])
 closed_shown o a [] ts us os as' e b s d = tt
 closed_shown o a (f ∷ below) ts us os as' e b s d =
     let inner = or_done o os s d in
@@ -101,30 +101,30 @@ closed_shown o a (f ∷ below) ts us os as' e b s d =
     ap (λ xs. xs ++ Close ∷ []) (e ∙ ap (λ xs. xs ++ (os ++ as')) b.2) ∙ simp append_assoc in
     completes (joined_or o a) f below b.0 b.1 _ _ b.3 b.4 (one_operand operand) whole
 
--- the frame after an operand that another follows
-has_frame : (o : Option Tree) (a : Tree) (os as' : List Token) → BeforeOr o os → Derives AndRow as' a → ShowsFrame (record { ors = o; ands = Some a; nots = 0 }) (os ++ as')
+-- the bracket after an operand that another follows
+has_frame : (o : Option Tree) (a : Tree) (os as' : List Token) → BeforeOr o os → Derives AndRow as' a → ShowsBracket (record { ors = o; ands = Some a; nots = 0 }) (os ++ as')
 has_frame o a os as' s d = record { os = os; as' = as'; split = ap (λ xs. os ++ xs) (sym (append-nil as')); ors = s; ands = (as', inr refl, d) }
 
 shows_step : (s : State) (t : Token) (ts : List Token) → Shows s ts → Good (step s t) (ts ++ t ∷ [])
-shows_step (Wants f below) t ts h = wants_step f below t h.0 h.1 ts h.3 h.4 h.2
-shows_step (Has o a below) AndWord ts h = (
+shows_step (WantsOperand f below) t ts h = wants_step f below t h.0 h.1 ts h.3 h.4 h.2
+shows_step (HasOperand o a below) AndWord ts h = (
   h.0,
   h.1 ++ (h.2 ++ AndWord ∷ []),
   ap (λ xs. xs ++ AndWord ∷ []) h.3 ∙ simp append_assoc,
   h.4,
   record { os = h.1; as' = h.2 ++ AndWord ∷ []; split = ap (λ xs. h.1 ++ xs) (sym (append-nil _)); ors = h.5; ands = (h.2, inl refl, h.6) },
 )
-shows_step (Has o a below) OrWord ts h = (
+shows_step (HasOperand o a below) OrWord ts h = (
   h.0,
   (h.1 ++ h.2) ++ OrWord ∷ [],
   ap (λ xs. xs ++ OrWord ∷ []) h.3 ∙ simp append_assoc,
   h.4,
   record { os = (h.1 ++ h.2) ++ OrWord ∷ []; as' = []; split = sym (append-nil _); ors = (h.1 ++ h.2, refl, or_done o h.1 h.5 h.6); ands = refl },
 )
-shows_step (Has o a below) Close ts h = closed_shown o a below ts h.0 h.1 h.2 h.3 h.4 h.5 h.6
-shows_step (Has o a below) Open ts h = wants_step _ below Open h.0 (h.1 ++ h.2) ts h.4 (has_frame o a h.1 h.2 h.5 h.6) h.3
-shows_step (Has o a below) NotWord ts h = wants_step _ below NotWord h.0 (h.1 ++ h.2) ts h.4 (has_frame o a h.1 h.2 h.5 h.6) h.3
-shows_step (Has o a below) (Chunk bytes) ts h = wants_step _ below (Chunk bytes) h.0 (h.1 ++ h.2) ts h.4 (has_frame o a h.1 h.2 h.5 h.6) h.3
+shows_step (HasOperand o a below) Close ts h = closed_shown o a below ts h.0 h.1 h.2 h.3 h.4 h.5 h.6
+shows_step (HasOperand o a below) Open ts h = wants_step _ below Open h.0 (h.1 ++ h.2) ts h.4 (has_frame o a h.1 h.2 h.5 h.6) h.3
+shows_step (HasOperand o a below) NotWord ts h = wants_step _ below NotWord h.0 (h.1 ++ h.2) ts h.4 (has_frame o a h.1 h.2 h.5 h.6) h.3
+shows_step (HasOperand o a below) (Chunk bytes) ts h = wants_step _ below (Chunk bytes) h.0 (h.1 ++ h.2) ts h.4 (has_frame o a h.1 h.2 h.5 h.6) h.3
 
 shows_on : (r : Result State Complaint) (ts us vs : List Token) → ((s : State) → Shows s ts → Good (run s us) vs) → Good r ts → Good (onward r (λ next. run next us)) vs
 shows_on (Err e) ts us vs next h = tt
@@ -134,12 +134,12 @@ shows_run : (s : State) (ts us : List Token) → Shows s ts → Good (run s us) 
 shows_run s ts [] h = rw append-nil h
 shows_run s ts (t ∷ us) h = shows_on (step s t) (ts ++ t ∷ []) us _ (λ s' g. rw (← append_assoc ts (t ∷ []) us) (shows_run s' (ts ++ t ∷ []) us g)) (shows_step s t ts h)
 
-start_shown : Shows (Wants fresh []) []
+start_shown : Shows (WantsOperand fresh []) []
 start_shown = ([], [], refl, refl, fresh_shown)
 
-pub sound : (ts : List Token) (o : Option Tree) (a : Tree) → run (Wants fresh []) ts ≡ Ok (Has o a []) → Derives OrRow ts (joined_or o a)
+pub sound : (ts : List Token) (o : Option Tree) (a : Tree) → run (WantsOperand fresh []) ts ≡ Ok (HasOperand o a []) → Derives OrRow ts (joined_or o a)
 sound ts o a e =
-    let h = shows_run (Wants fresh []) [] ts start_shown in
+    let h = shows_run (WantsOperand fresh []) [] ts start_shown in
     let P : Result State Complaint → Type 0 = λ r. Good r ts in
-    let g : Shows (Has o a []) ts = subst P e h in
+    let g : Shows (HasOperand o a []) ts = subst P e h in
     at _ _ (g.3 ∙ ap (λ xs. xs ++ (g.1 ++ g.2)) g.4) (or_done o g.1 g.5 g.6)

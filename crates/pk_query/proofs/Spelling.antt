@@ -4,10 +4,10 @@ use Rattle.std.specs.Prelude.{codes}
 use Rattle.std.specs.Char.{encode_utf8}
 use Rattle.std.specs.Str.{IsUtf8, bytes_eq, chars, is_utf8}
 use Rattle.std.proofs.lemmas.Str.{IsUtf8-append, IsUtf8-from_is_utf8, IsUtf8-nil}
-use Rattle.pk_query.specs.Tokens.{is_delimiter, glue, pieces, Token, Open, Close, AndWord, OrWord, NotWord, Chunk, Placed, token_of, placed_from, only_tokens, tokens, bytes_of, spaced, spelled}
+use Rattle.pk_query.specs.Tokens.{is_delimiter, glue, lexemes, Token, Open, Close, AndWord, OrWord, NotWord, Chunk, Placed, token_of, placed_from, only_tokens, tokens, bytes_of, spaced, spelled}
 use Rattle.pk_query.specs.Grammar.{GoesOn, Derives, OrRow}
-use Rattle.pk_query.specs.Machine.{Frame, State, Wants, Has, run}
-use Rattle.pk_query.proofs.PieceLemmas.{pieces_delimiter, pieces_plain, glue_delimiter, glue_plain}
+use Rattle.pk_query.specs.Machine.{Bracket, State, WantsOperand, HasOperand, run}
+use Rattle.pk_query.proofs.LexemeLemmas.{lexemes_delimiter, lexemes_plain, glue_delimiter, glue_plain}
 use Rattle.pk_query.proofs.Faults.{start, ending, closers, can_end}
 
 abbrev pub AllPlain : List ℕ → Type 0
@@ -18,15 +18,15 @@ pub plain-append : (xs ys : List ℕ) → AllPlain xs → AllPlain ys → AllPla
 plain-append [] ys p q = q
 plain-append (x ∷ xs) ys p q = (p.0, plain-append xs ys p.1 q)
 
--- a piece ends before this
+-- a lexeme ends before this
 abbrev breaks : List ℕ → Bool
 breaks [] = true
 breaks (d ∷ ds) = is_delimiter d
 
-pub pieces_joined : (b : ℕ) (xs rest : List ℕ) → AllPlain (b ∷ xs) → breaks rest ≡ true → pieces ((b ∷ xs) ++ rest) ≡ (b ∷ xs) ∷ pieces rest
-pieces_joined b [] [] p e = pieces_plain b [] p.0
-pieces_joined b [] (d ∷ ds) p e = pieces_plain b (d ∷ ds) p.0 ∙ ap (glue b) (pieces_delimiter d ds e) ∙ glue_delimiter b d [] (pieces ds) e ∙ ap (λ ps. (b ∷ []) ∷ ps) (sym (pieces_delimiter d ds e))
-pieces_joined b (c ∷ xs) rest p e = pieces_plain b ((c ∷ xs) ++ rest) p.0 ∙ ap (glue b) (pieces_joined c xs rest p.1 e) ∙ glue_plain b c xs (pieces rest) p.1.0
+pub lexemes_joined : (b : ℕ) (xs rest : List ℕ) → AllPlain (b ∷ xs) → breaks rest ≡ true → lexemes ((b ∷ xs) ++ rest) ≡ (b ∷ xs) ∷ lexemes rest
+lexemes_joined b [] [] p e = lexemes_plain b [] p.0
+lexemes_joined b [] (d ∷ ds) p e = lexemes_plain b (d ∷ ds) p.0 ∙ ap (glue b) (lexemes_delimiter d ds e) ∙ glue_delimiter b d [] (lexemes ds) e ∙ ap (λ ps. (b ∷ []) ∷ ps) (sym (lexemes_delimiter d ds e))
+lexemes_joined b (c ∷ xs) rest p e = lexemes_plain b ((c ∷ xs) ++ rest) p.0 ∙ ap (glue b) (lexemes_joined c xs rest p.1 e) ∙ glue_plain b c xs (lexemes rest) p.1.0
 
 -- a chunk that is read as itself
 pub record IsProperChunk (c : List ℕ) : Type 0 where
@@ -57,22 +57,22 @@ breaks_spaced (t ∷ ts) = refl
 abbrev read_from : ℕ → List (List ℕ) → List Token
 read_from at ps = only_tokens (placed_from at ps)
 
-chunk_read : (at : ℕ) (c rest : List ℕ) (ts : List Token) → IsProperChunk c → breaks rest ≡ true → ((n : ℕ) → read_from n (pieces rest) ≡ ts) → read_from at (pieces (c ++ rest)) ≡ Chunk c ∷ ts
+chunk_read : (at : ℕ) (c rest : List ℕ) (ts : List Token) → IsProperChunk c → breaks rest ≡ true → ((n : ℕ) → read_from n (lexemes rest) ≡ ts) → read_from at (lexemes (c ++ rest)) ≡ Chunk c ∷ ts
 chunk_read at c rest ts p e next =
-    let cut : pieces (c ++ rest) ≡ c ∷ pieces rest =
-    ap (λ x. pieces (x ++ rest)) p.split ∙ pieces_joined p.first p.others rest p.plain e ∙ ap (λ x. x ∷ pieces rest) (sym p.split) in
+    let cut : lexemes (c ++ rest) ≡ c ∷ lexemes rest =
+    ap (λ x. lexemes (x ++ rest)) p.split ∙ lexemes_joined p.first p.others rest p.plain e ∙ ap (λ x. x ∷ lexemes rest) (sym p.split) in
     ap (read_from at) cut
-    ∙ ap (λ b. only_tokens (cond b (placed_from (at + length c) (pieces rest)) ((record { place = at; token = token_of c }) ∷ placed_from (at + length c) (pieces rest)))) p.no_space
-    ∙ ap (λ t. t ∷ read_from (at + length c) (pieces rest)) p.is_chunk
+    ∙ ap (λ b. only_tokens (cond b (placed_from (at + length c) (lexemes rest)) ((record { place = at; token = token_of c }) ∷ placed_from (at + length c) (lexemes rest)))) p.no_space
+    ∙ ap (λ t. t ∷ read_from (at + length c) (lexemes rest)) p.is_chunk
     ∙ ap (λ us. Chunk c ∷ us) (next (at + length c))
 
-pub read_spaced : (ts : List Token) (at : ℕ) → AllProper ts → read_from at (pieces (spaced ts)) ≡ ts
+pub read_spaced : (ts : List Token) (at : ℕ) → AllProper ts → read_from at (lexemes (spaced ts)) ≡ ts
 read_spaced [] at p = refl
 read_spaced (Open ∷ ts) at p = ap (λ us. Open ∷ us) (read_spaced ts _ p.1)
 read_spaced (Close ∷ ts) at p = ap (λ us. Close ∷ us) (read_spaced ts _ p.1)
-read_spaced (AndWord ∷ ts) at p = ap (read_from (at + 1)) (pieces_joined 65 (78 ∷ 68 ∷ []) (spaced ts) (refl, (refl, (refl, tt))) (breaks_spaced ts)) ∙ ap (λ us. AndWord ∷ us) (read_spaced ts _ p.1)
-read_spaced (OrWord ∷ ts) at p = ap (read_from (at + 1)) (pieces_joined 79 (82 ∷ []) (spaced ts) (refl, (refl, tt)) (breaks_spaced ts)) ∙ ap (λ us. OrWord ∷ us) (read_spaced ts _ p.1)
-read_spaced (NotWord ∷ ts) at p = ap (read_from (at + 1)) (pieces_joined 78 (79 ∷ 84 ∷ []) (spaced ts) (refl, (refl, (refl, tt))) (breaks_spaced ts)) ∙ ap (λ us. NotWord ∷ us) (read_spaced ts _ p.1)
+read_spaced (AndWord ∷ ts) at p = ap (read_from (at + 1)) (lexemes_joined 65 (78 ∷ 68 ∷ []) (spaced ts) (refl, (refl, (refl, tt))) (breaks_spaced ts)) ∙ ap (λ us. AndWord ∷ us) (read_spaced ts _ p.1)
+read_spaced (OrWord ∷ ts) at p = ap (read_from (at + 1)) (lexemes_joined 79 (82 ∷ []) (spaced ts) (refl, (refl, tt)) (breaks_spaced ts)) ∙ ap (λ us. OrWord ∷ us) (read_spaced ts _ p.1)
+read_spaced (NotWord ∷ ts) at p = ap (read_from (at + 1)) (lexemes_joined 78 (79 ∷ 84 ∷ []) (spaced ts) (refl, (refl, (refl, tt))) (breaks_spaced ts)) ∙ ap (λ us. NotWord ∷ us) (read_spaced ts _ p.1)
 read_spaced (Chunk c ∷ ts) at p = chunk_read (at + 1) c (spaced ts) ts p.0 (breaks_spaced ts) (λ n. read_spaced ts n p.1)
 
 utf8_of : (t : Token) → IsProper t → IsUtf8 (bytes_of t)
@@ -92,7 +92,7 @@ pub spaced_utf8 : (ts : List Token) → AllProper ts → IsUtf8 (spaced ts)
 spaced_utf8 [] p = IsUtf8-nil
 spaced_utf8 (t ∷ ts) p = IsUtf8-append (32 ∷ []) _ space_utf8 (IsUtf8-append (bytes_of t) (spaced ts) (utf8_of t p.0) (spaced_utf8 ts p.1))
 
-closers_proper : (below : List Frame) → AllProper (closers below)
+closers_proper : (below : List Bracket) → AllProper (closers below)
 unfolding closers
 closers_proper [] = tt
 closers_proper (f ∷ below) = (tt, closers_proper below)
@@ -103,8 +103,8 @@ filler_proper = record { first = 97; others = []; split = refl; plain = (refl, t
 
 ending_proper : (s : State) → AllProper (ending s)
 unfolding ending
-ending_proper (Wants f below) = (filler_proper, closers_proper below)
-ending_proper (Has o a below) = closers_proper below
+ending_proper (WantsOperand f below) = (filler_proper, closers_proper below)
+ending_proper (HasOperand o a below) = closers_proper below
 
 -- what the machine reads without a complaint goes on
 pub goes_on : (ts : List Token) (s : State) → AllProper ts → run start ts ≡ Ok s → GoesOn ts
@@ -128,4 +128,4 @@ any_place (p ∷ ps) m n = moved (bytes_eq p (codes " ")) (token_of p) m n _ _ (
 -- tokens with a space between each two are read back
 pub read_spelled : (ts : List Token) → AllProper ts → tokens (spelled ts) ≡ ts
 read_spelled [] p = refl
-read_spelled (t ∷ ts) p = any_place (pieces (bytes_of t ++ spaced ts)) 0 1 ∙ read_spaced (t ∷ ts) 0 p
+read_spelled (t ∷ ts) p = any_place (lexemes (bytes_of t ++ spaced ts)) 0 1 ∙ read_spaced (t ∷ ts) 0 p

@@ -8,7 +8,7 @@ use Rattle.pk_query.specs.Grammar.{Reads, GoesOn, is_operand, operand_of}
 use Rattle.pk_query.specs.Refusals.{Balanced, nothing, other, nested, ends_operand, LacksOperand, StopsAt, LacksWordAt, IsUnexpectedAt, EndsEarly, EndsOpen}
 use Rattle.pk_query.specs.declared.fault.QueryFault.{QueryFault}
 use Rattle.pk_query.specs.declared.fault.QueryFault.TheVariants.{TooLong, TooDeep, NoWord, Unexpected, Unclosed, Memory}
-use Rattle.pk_query.specs.Machine.{Frame, State, Wants, Has, joined_or, closed, with_operand, step, step_wants, onward, run, Complaint, lacks_word, is_unexpected, opened, ended, judged_on, judged, verdict}
+use Rattle.pk_query.specs.Machine.{Bracket, State, WantsOperand, HasOperand, joined_or, closed, with_operand, step, step_wants, onward, run, Complaint, lacks_word, is_unexpected, opened, ended, judged_on, judged, verdict}
 use Rattle.pk_query.proofs.Faults.{start, run-append, accepts_read, one_reading, stops}
 use Rattle.pk_query.proofs.BalanceLemmas.{balanced-append}
 use Rattle.pk_query.proofs.Sound.{sound}
@@ -71,7 +71,7 @@ last_step : (t : Token) (ts : List Token) (b : Bool) → ends_operand t ≡ b �
 last_step t ts true e = λ lacks. let h : ends_operand t ≡ false = lacks ts t refl in cc
 last_step t ts false e = λ before last same. ap ends_operand (sym (same_last ts before t last same)) ∙ e
 
-record Keeps (places : List ℕ) (below : List Frame) (has : Bool) (ps : List Placed) : Type 0 where
+record Keeps (places : List ℕ) (below : List Bracket) (has : Bool) (ps : List Placed) : Type 0 where
   count : length places ≡ length below
   last : LastIs has (only_tokens ps)
   brackets : Opened places ps
@@ -79,17 +79,17 @@ record Keeps (places : List ℕ) (below : List Frame) (has : Bool) (ps : List Pl
 -- the invariant: what a state keeps of the tokens so far
 abbrev Kept : Result State Complaint → List ℕ → List Placed → Type 0
 Kept (Err e) places ps = Unit {0}
-Kept (Ok (Wants f below)) places ps = Keeps places below false ps
-Kept (Ok (Has o a below)) places ps = Keeps places below true ps
+Kept (Ok (WantsOperand f below)) places ps = Keeps places below false ps
+Kept (Ok (HasOperand o a below)) places ps = Keeps places below true ps
 
 last_of : (p : Placed) (ps : List Placed) (b : Bool) → ends_operand p.token ≡ b → LastIs b (only_tokens (ps ++ p ∷ []))
 last_of p ps b e = subst (LastIs b) (sym (map-append _ ps (p ∷ []))) (last_step p.token (only_tokens ps) b e)
 
-kept_operand : (r : Option Tree) (c : List ℕ) (place : ℕ) (f : Frame) (below : List Frame) (places : List ℕ) (ps : List Placed) → length places ≡ length below → Opened places ps → Kept (with_operand r f below) places (ps ++ (record { place = place; token = Chunk c }) ∷ [])
+kept_operand : (r : Option Tree) (c : List ℕ) (place : ℕ) (f : Bracket) (below : List Bracket) (places : List ℕ) (ps : List Placed) → length places ≡ length below → Opened places ps → Kept (with_operand r f below) places (ps ++ (record { place = place; token = Chunk c }) ∷ [])
 kept_operand None c place f below places ps e h = tt
 kept_operand (Some q) c place f below places ps e h = record { count = e; last = last_of _ ps true refl; brackets = opened_step (Chunk c) place places ps h }
 
-kept_wants : (t : Token) (place : ℕ) (f : Frame) (below : List Frame) (places : List ℕ) (ps : List Placed) → length places ≡ length below → Opened places ps → Kept (step_wants f below t) (opened t place places) (ps ++ (record { place = place; token = t }) ∷ [])
+kept_wants : (t : Token) (place : ℕ) (f : Bracket) (below : List Bracket) (places : List ℕ) (ps : List Placed) → length places ≡ length below → Opened places ps → Kept (step_wants f below t) (opened t place places) (ps ++ (record { place = place; token = t }) ∷ [])
 kept_wants Open place f below places ps e h = record { count = ap suc e; last = last_of _ ps false refl; brackets = opened_step Open place places ps h }
 kept_wants NotWord place f below places ps e h = record { count = e; last = last_of _ ps false refl; brackets = opened_step NotWord place places ps h }
 kept_wants (Chunk c) place f below places ps e h = kept_operand (operand_of (Chunk c)) c place f below places ps e h
@@ -97,50 +97,50 @@ kept_wants Close place f below places ps e h = tt
 kept_wants AndWord place f below places ps e h = tt
 kept_wants OrWord place f below places ps e h = tt
 
-kept_close : (q : Tree) (place : ℕ) (below : List Frame) (places : List ℕ) (ps : List Placed) → length places ≡ length below → Opened places ps → Kept (closed q below) (drop 1 places) (ps ++ (record { place = place; token = Close }) ∷ [])
+kept_close : (q : Tree) (place : ℕ) (below : List Bracket) (places : List ℕ) (ps : List Placed) → length places ≡ length below → Opened places ps → Kept (closed q below) (drop 1 places) (ps ++ (record { place = place; token = Close }) ∷ [])
 kept_close q place [] places ps e h = tt
 kept_close q place (f ∷ below) [] ps e h = absurd (omega arith)
 kept_close q place (f ∷ below) (n ∷ places) ps e h = record { count = omega arith; last = last_of _ ps true refl; brackets = opened_step Close place (n ∷ places) ps h }
 
 kept_step : (s : State) (t : Token) (place : ℕ) (places : List ℕ) (ps : List Placed) → Kept (Ok s) places ps → Kept (step s t) (opened t place places) (ps ++ (record { place = place; token = t }) ∷ [])
-kept_step (Wants f below) t place places ps k = kept_wants t place f below places ps k.count k.brackets
-kept_step (Has o a below) AndWord place places ps k = record { count = k.count; last = last_of _ ps false refl; brackets = opened_step AndWord place places ps k.brackets }
-kept_step (Has o a below) OrWord place places ps k = record { count = k.count; last = last_of _ ps false refl; brackets = opened_step OrWord place places ps k.brackets }
-kept_step (Has o a below) Close place places ps k = kept_close (joined_or o a) place below places ps k.count k.brackets
-kept_step (Has o a below) Open place places ps k = kept_wants Open place (record { ors = o; ands = Some a; nots = 0 }) below places ps k.count k.brackets
-kept_step (Has o a below) NotWord place places ps k = kept_wants NotWord place (record { ors = o; ands = Some a; nots = 0 }) below places ps k.count k.brackets
-kept_step (Has o a below) (Chunk c) place places ps k = kept_wants (Chunk c) place (record { ors = o; ands = Some a; nots = 0 }) below places ps k.count k.brackets
+kept_step (WantsOperand f below) t place places ps k = kept_wants t place f below places ps k.count k.brackets
+kept_step (HasOperand o a below) AndWord place places ps k = record { count = k.count; last = last_of _ ps false refl; brackets = opened_step AndWord place places ps k.brackets }
+kept_step (HasOperand o a below) OrWord place places ps k = record { count = k.count; last = last_of _ ps false refl; brackets = opened_step OrWord place places ps k.brackets }
+kept_step (HasOperand o a below) Close place places ps k = kept_close (joined_or o a) place below places ps k.count k.brackets
+kept_step (HasOperand o a below) Open place places ps k = kept_wants Open place (record { ors = o; ands = Some a; nots = 0 }) below places ps k.count k.brackets
+kept_step (HasOperand o a below) NotWord place places ps k = kept_wants NotWord place (record { ors = o; ands = Some a; nots = 0 }) below places ps k.count k.brackets
+kept_step (HasOperand o a below) (Chunk c) place places ps k = kept_wants (Chunk c) place (record { ors = o; ands = Some a; nots = 0 }) below places ps k.count k.brackets
 
 -- ---- the answer
 proper_front : (ts us : List Token) → AllProper (ts ++ us) → AllProper ts
 proper_front [] us p = tt
 proper_front (t ∷ ts) us p = (p.0, proper_front ts us p.1)
 
-operand_complains : (r : Option Tree) (f : Frame) (below : List Frame) → with_operand r f below ≡ Err is_unexpected → ⊥
+operand_complains : (r : Option Tree) (f : Bracket) (below : List Bracket) → with_operand r f below ≡ Err is_unexpected → ⊥
 operand_complains None f below e = cc
 operand_complains (Some q) f below e = cc
 
-closed_complains : (q : Tree) (below : List Frame) → closed q below ≡ Err lacks_word → ⊥
+closed_complains : (q : Tree) (below : List Bracket) → closed q below ≡ Err lacks_word → ⊥
 closed_complains q [] e = cc
 closed_complains q (f ∷ below) e = cc
 
 -- only a chunk lacks a word, and no chunk is unexpected
 operand_when : (s : State) (t : Token) → step s t ≡ Err lacks_word → is_operand t ≡ true
 operand_when s (Chunk c) e = refl
-operand_when (Wants f below) Open e = cc
-operand_when (Wants f below) Close e = cc
-operand_when (Wants f below) AndWord e = cc
-operand_when (Wants f below) OrWord e = cc
-operand_when (Wants f below) NotWord e = cc
-operand_when (Has o a below) Open e = cc
-operand_when (Has o a below) Close e = absurd (closed_complains _ below e)
-operand_when (Has o a below) AndWord e = cc
-operand_when (Has o a below) OrWord e = cc
-operand_when (Has o a below) NotWord e = cc
+operand_when (WantsOperand f below) Open e = cc
+operand_when (WantsOperand f below) Close e = cc
+operand_when (WantsOperand f below) AndWord e = cc
+operand_when (WantsOperand f below) OrWord e = cc
+operand_when (WantsOperand f below) NotWord e = cc
+operand_when (HasOperand o a below) Open e = cc
+operand_when (HasOperand o a below) Close e = absurd (closed_complains _ below e)
+operand_when (HasOperand o a below) AndWord e = cc
+operand_when (HasOperand o a below) OrWord e = cc
+operand_when (HasOperand o a below) NotWord e = cc
 
 no_operand_when : (s : State) (t : Token) → step s t ≡ Err is_unexpected → is_operand t ≡ false
-no_operand_when (Wants f below) (Chunk c) e = absurd (operand_complains _ f below e)
-no_operand_when (Has o a below) (Chunk c) e = absurd (operand_complains _ _ below e)
+no_operand_when (WantsOperand f below) (Chunk c) e = absurd (operand_complains _ f below e)
+no_operand_when (HasOperand o a below) (Chunk c) e = absurd (operand_complains _ _ below e)
 no_operand_when s Open e = refl
 no_operand_when s Close e = refl
 no_operand_when s AndWord e = refl
@@ -148,14 +148,14 @@ no_operand_when s OrWord e = refl
 no_operand_when s NotWord e = refl
 
 -- what an answer tells of a text
-abbrev pub Tells : List ℕ → Result Tree QueryFault → Type 0
-Tells text (Ok q) = Reads text q
-Tells text (Err TooLong) = ⊥
-Tells text (Err TooDeep) = ⊥
-Tells text (Err Memory) = ⊥
-Tells text (Err (NoWord n)) = LacksWordAt text n
-Tells text (Err (Unexpected n)) = IsUnexpectedAt text n ⊎ EndsEarly text n
-Tells text (Err (Unclosed n)) = EndsOpen text n
+abbrev pub IsVerdictOf : List ℕ → Result Tree QueryFault → Type 0
+IsVerdictOf text (Ok q) = Reads text q
+IsVerdictOf text (Err TooLong) = ⊥
+IsVerdictOf text (Err TooDeep) = ⊥
+IsVerdictOf text (Err Memory) = ⊥
+IsVerdictOf text (Err (NoWord n)) = LacksWordAt text n
+IsVerdictOf text (Err (Unexpected n)) = IsUnexpectedAt text n ⊎ EndsEarly text n
+IsVerdictOf text (Err (Unclosed n)) = EndsOpen text n
 
 module _ (text : List ℕ) (u : IsUtf8 text) where
   front_goes_on : (before ps : List Placed) (s : State) → placed_tokens text ≡ before ++ ps → run start (only_tokens before) ≡ Ok s → GoesOn (only_tokens before)
@@ -166,9 +166,9 @@ module _ (text : List ℕ) (u : IsUtf8 text) where
   whole : (before : List Placed) → placed_tokens text ≡ before ++ [] → only_tokens before ≡ tokens text
   whole before split = ap only_tokens (sym (split ∙ append-nil before))
 
-  told_open : (before : List Placed) (o : Option Tree) (a : Tree) (f : Frame) (below : List Frame) (places : List ℕ) → placed_tokens text ≡ before ++ [] → GoesOn (tokens text) → Keeps places (f ∷ below) true before → EndsOpen text (get_or places 0 0)
-  told_open before o a f below [] split g k = absurd (let h = k.count in omega (arith, h))
-  told_open before o a f below (n ∷ places) split g k =
+  verdict_open : (before : List Placed) (o : Option Tree) (a : Tree) (f : Bracket) (below : List Bracket) (places : List ℕ) → placed_tokens text ≡ before ++ [] → GoesOn (tokens text) → Keeps places (f ∷ below) true before → EndsOpen text (get_or places 0 0)
+  verdict_open before o a f below [] split g k = absurd (let h = k.count in omega (arith, h))
+  verdict_open before o a f below (n ∷ places) split g k =
       let b = k.brackets in
       record {
         goes_on = g;
@@ -178,12 +178,12 @@ module _ (text : List ℕ) (u : IsUtf8 text) where
         here = b.4;
       }
 
-  told_end : (s : State) (places : List ℕ) (before : List Placed) → placed_tokens text ≡ before ++ [] → run start (only_tokens before) ≡ Ok s → Kept (Ok s) places before → Tells text (ended s places (length text))
-  told_end (Wants f below) places before split e k =
+  verdict_end : (s : State) (places : List ℕ) (before : List Placed) → placed_tokens text ≡ before ++ [] → run start (only_tokens before) ≡ Ok s → Kept (Ok s) places before → IsVerdictOf text (ended s places (length text))
+  verdict_end (WantsOperand f below) places before split e k =
       let P : List Token → Type 0 = λ ts. LacksOperand ts in
       inr (record { goes_on = subst GoesOn (whole before split) (front_goes_on before [] _ split e); lacks = subst P (whole before split) k.last; here = refl })
-  told_end (Has o a []) places before split e k = sound (tokens text) o a (ap (run start) (sym (whole before split)) ∙ e)
-  told_end (Has o a (f ∷ below)) places before split e k = told_open before o a f below places split (subst GoesOn (whole before split) (front_goes_on before [] _ split e)) k
+  verdict_end (HasOperand o a []) places before split e k = sound (tokens text) o a (ap (run start) (sym (whole before split)) ∙ e)
+  verdict_end (HasOperand o a (f ∷ below)) places before split e k = verdict_open before o a f below places split (subst GoesOn (whole before split) (front_goes_on before [] _ split e)) k
 
   onward_ok : (r : Result State Complaint) → onward r (λ next. Ok next) ≡ r
   onward_ok (Err e) = refl
@@ -203,20 +203,20 @@ module _ (text : List ℕ) (u : IsUtf8 text) where
     stops = stops (only_tokens (before ++ p ∷ [])) c (run_more before p s (Err c) e h);
   }
 
-  told_on : (r : Result State Complaint) (s : State) (p : Placed) (before ps : List Placed) (places : List ℕ) → step s p.token ≡ r → placed_tokens text ≡ before ++ p ∷ ps → run start (only_tokens before) ≡ Ok s → Kept r places (before ++ p ∷ [])
-      → ((s' : State) → run start (only_tokens (before ++ p ∷ [])) ≡ Ok s' → Kept (Ok s') places (before ++ p ∷ []) → Tells text (judged s' places ps (length text)))
-      → Tells text (judged_on r p.place (λ next. judged next places ps (length text)))
-  told_on (Err lacks_word) s p before ps places h split e k next =
+  verdict_on : (r : Result State Complaint) (s : State) (p : Placed) (before ps : List Placed) (places : List ℕ) → step s p.token ≡ r → placed_tokens text ≡ before ++ p ∷ ps → run start (only_tokens before) ≡ Ok s → Kept r places (before ++ p ∷ [])
+      → ((s' : State) → run start (only_tokens (before ++ p ∷ [])) ≡ Ok s' → Kept (Ok s') places (before ++ p ∷ []) → IsVerdictOf text (judged s' places ps (length text)))
+      → IsVerdictOf text (judged_on r p.place (λ next. judged next places ps (length text)))
+  verdict_on (Err lacks_word) s p before ps places h split e k next =
       record { first = p; stops = stopped before ps p s lacks_word split e h; here = refl; is_operand = operand_when s p.token h }
-  told_on (Err is_unexpected) s p before ps places h split e k next =
+  verdict_on (Err is_unexpected) s p before ps places h split e k next =
       inl (record { first = p; stops = stopped before ps p s is_unexpected split e h; here = refl; no_operand = no_operand_when s p.token h })
-  told_on (Ok s') s p before ps places h split e k next = next s' (run_more before p s (Ok s') e h) k
+  verdict_on (Ok s') s p before ps places h split e k next = next s' (run_more before p s (Ok s') e h) k
 
-  told : (ps before : List Placed) (s : State) (places : List ℕ) → placed_tokens text ≡ before ++ ps → run start (only_tokens before) ≡ Ok s → Kept (Ok s) places before → Tells text (judged s places ps (length text))
-  told [] before s places split e k = told_end s places before split e k
-  told (p ∷ ps) before s places split e k =
-      told_on (step s p.token) s p before ps (opened p.token p.place places) refl split e (kept_step s p.token p.place places before k)
-      (λ s' e' k'. told ps (before ++ p ∷ []) s' (opened p.token p.place places) (split ∙ sym (append_assoc before (p ∷ []) ps)) e' k')
+  verdict_from : (ps before : List Placed) (s : State) (places : List ℕ) → placed_tokens text ≡ before ++ ps → run start (only_tokens before) ≡ Ok s → Kept (Ok s) places before → IsVerdictOf text (judged s places ps (length text))
+  verdict_from [] before s places split e k = verdict_end s places before split e k
+  verdict_from (p ∷ ps) before s places split e k =
+      verdict_on (step s p.token) s p before ps (opened p.token p.place places) refl split e (kept_step s p.token p.place places before k)
+      (λ s' e' k'. verdict_from ps (before ++ p ∷ []) s' (opened p.token p.place places) (split ∙ sym (append_assoc before (p ∷ []) ps)) e' k')
 
   start_kept : Kept (Ok start) [] []
   start_kept = record { count = refl; last = λ before last same. absurd (nothing_before before last same); brackets = tt }
@@ -226,21 +226,21 @@ module _ (text : List ℕ) (u : IsUtf8 text) where
       nothing_before (t ∷ before) last same = cc
 
   -- each answer says what the grammar says
-  pub verdict_tells : Tells text (verdict text)
-  verdict_tells = told (placed_tokens text) [] start [] refl refl start_kept
+  pub verdict_holds : IsVerdictOf text (verdict text)
+  verdict_holds = verdict_from (placed_tokens text) [] start [] refl refl start_kept
 
 judged_on_ok : (r : Result State Complaint) (place : ℕ) (f : State → Result State Complaint) (next : State → Result Tree QueryFault) (q : Tree) (done : State) → ((s : State) → f s ≡ Ok done → next s ≡ Ok q) → onward r f ≡ Ok done → judged_on r place next ≡ Ok q
 judged_on_ok (Err e) place f next q done h eq = cc
 judged_on_ok (Ok s) place f next q done h eq = h s eq
 
-judged_accepts : (ps : List Placed) (s : State) (places : List ℕ) (end : ℕ) (o : Option Tree) (a : Tree) → run s (only_tokens ps) ≡ Ok (Has o a []) → judged s places ps end ≡ Ok (joined_or o a)
+judged_accepts : (ps : List Placed) (s : State) (places : List ℕ) (end : ℕ) (o : Option Tree) (a : Tree) → run s (only_tokens ps) ≡ Ok (HasOperand o a []) → judged s places ps end ≡ Ok (joined_or o a)
 judged_accepts [] s places end o a e = ap (λ r. end_of r) e
   where
     end_of : Result State Complaint → Result Tree QueryFault
     end_of (Err c) = Err TooLong
     end_of (Ok t) = ended t places end
 judged_accepts (p ∷ ps) s places end o a e =
-    judged_on_ok (step s p.token) p.place (λ next. run next (only_tokens ps)) _ (joined_or o a) (Has o a [])
+    judged_on_ok (step s p.token) p.place (λ next. run next (only_tokens ps)) _ (joined_or o a) (HasOperand o a [])
     (λ next h. judged_accepts ps next (opened p.token p.place places) end o a h) e
 
 -- a text that reads as a query gets that query

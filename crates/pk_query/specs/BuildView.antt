@@ -11,17 +11,18 @@ use Rattle.pk_query.specs.declared.build.StepError.{StepError}
 use Rattle.pk_query.specs.declared.build.StepError.TheVariants as errors
 
 -- an open bracket of the code
-abbrev pub frame_view : Bracket → spec.Frame
-frame_view f = record { ors = option_map tree_of f.ors; ands = option_map tree_of f.ands; nots = f.nots }
+abbrev pub bracket_view : Bracket → spec.Bracket
+bracket_view f = record { ors = option_map tree_of f.ors; ands = option_map tree_of f.ands; nots = f.nots }
 
 -- a state of the code, over the brackets around it
-abbrev pub state_view : State → List spec.Frame → spec.State
-state_view (source.Wants f) below = spec.Wants (frame_view f) below
-state_view (source.Has ors ands) below = spec.Has (option_map tree_of ors) (tree_of ands) below
+abbrev pub state_view : State → List spec.Bracket → spec.State
+state_view (source.WantsOperand f) below = spec.WantsOperand (bracket_view f) below
+state_view (source.HasOperand ors ands) below =
+    spec.HasOperand (option_map tree_of ors) (tree_of ands) below
 
 -- the open brackets, the innermost first
-abbrev pub frames : List Bracket → List spec.Frame
-frames fs = reverse (map frame_view fs)
+abbrev pub brackets : List Bracket → List spec.Bracket
+brackets fs = reverse (map bracket_view fs)
 
 -- an error is the machine's, or memory ran out
 abbrev pub Complains : StepError → Result spec.State spec.Complaint → Type 0
@@ -31,12 +32,12 @@ Complains errors.Unexpected r = r ≡ Err spec.is_unexpected
 
 -- the NOTs that wait for an operand
 abbrev pub waiting_nots : spec.State → ℕ
-waiting_nots (spec.Wants f below) = f.nots
-waiting_nots (spec.Has ors ands below) = 0
+waiting_nots (spec.WantsOperand f below) = f.nots
+waiting_nots (spec.HasOperand ors ands below) = 0
 
 -- the query, if all is read
 abbrev pub finished : Result spec.State spec.Complaint → Option Tree
-finished (Ok (spec.Has ors ands [])) = Some (spec.joined_or ors ands)
+finished (Ok (spec.HasOperand ors ands [])) = Some (spec.joined_or ors ands)
 finished _ = None
 
 -- the query is built, or there is none, or memory ran out

@@ -35,14 +35,19 @@ operand_of _ = None
 -- by a row of the grammar these tokens are this query
 pub data Derives : Row → List Token → Tree → Type 0 where
   one_and : {ts : List Token} {q : Tree} → Derives AndRow ts q → Derives OrRow ts q
-  or_more : {ts us : List Token} {p q : Tree} → Derives OrRow ts p → Derives AndRow us q → Derives OrRow (ts ++ OrWord ∷ us) (Or p q)
+  or_more : {ts us : List Token} {p q : Tree} → Derives OrRow ts p → Derives AndRow us q
+      → Derives OrRow (ts ++ OrWord ∷ us) (Or p q)
   one_not : {ts : List Token} {q : Tree} → Derives NotRow ts q → Derives AndRow ts q
-  and_more : {ts us : List Token} {p q : Tree} → Derives AndRow ts p → Derives NotRow us q → Derives AndRow (ts ++ AndWord ∷ us) (And p q)
-  and_next : {ts us : List Token} {p q : Tree} → Derives AndRow ts p → Derives NotRow us q → Derives AndRow (ts ++ us) (And p q)
+  and_more : {ts us : List Token} {p q : Tree} → Derives AndRow ts p → Derives NotRow us q
+      → Derives AndRow (ts ++ AndWord ∷ us) (And p q)
+  and_next : {ts us : List Token} {p q : Tree} → Derives AndRow ts p → Derives NotRow us q
+      → Derives AndRow (ts ++ us) (And p q)
   one_operand : {ts : List Token} {q : Tree} → Derives OperandRow ts q → Derives NotRow ts q
-  not_more : {ts : List Token} {q : Tree} → Derives NotRow ts q → Derives NotRow (NotWord ∷ ts) (Not q)
+  not_more : {ts : List Token} {q : Tree} → Derives NotRow ts q
+      → Derives NotRow (NotWord ∷ ts) (Not q)
   operand : {t : Token} {q : Tree} → operand_of t ≡ Some q → Derives OperandRow (t ∷ []) q
-  bracketed : {ts : List Token} {q : Tree} → Derives OrRow ts q → Derives OperandRow (Open ∷ ts ++ Close ∷ []) q
+  bracketed : {ts : List Token} {q : Tree} → Derives OrRow ts q
+      → Derives OperandRow (Open ∷ ts ++ Close ∷ []) q
 
 -- the text is this query
 abbrev pub Reads : List ℕ → Tree → Type 0
@@ -50,4 +55,5 @@ Reads text q = Derives OrRow (tokens text) q
 
 -- some text that reads as a query begins with these tokens
 abbrev pub GoesOn : List Token → Type 0
-GoesOn ts = (text : List ℕ) × (more : List Token) × (q : Tree) × IsUtf8 text × (tokens text ≡ ts ++ more) × Reads text q
+GoesOn ts = (text : List ℕ) × (more : List Token) × (q : Tree) × IsUtf8 text
+    × (tokens text ≡ ts ++ more) × Reads text q

@@ -1,4 +1,5 @@
 -- The definitions of the crate.
+pub mod Limits
 pub mod Tokens
 pub mod Grammar
 pub mod Depth

@@ -4,9 +4,10 @@ use Rattle.pk_model.specs.Tree.{Tree}
 use Rattle.pk_query.specs.Tokens.{Token, Open, Close, Placed, placed_tokens, only_tokens, tokens}
 use Rattle.pk_query.specs.Grammar.{GoesOn, Reads, is_operand}
 use Rattle.pk_query.specs.Depth.{is_open, is_close, IsTooLong, IsTooDeep, IsWithinLimits}
-use Rattle.pk_query.specs.declared.limits.TheConstants.{MAX_BYTES}
+use Rattle.pk_query.specs.Limits.{max_bytes}
 use Rattle.pk_query.specs.declared.fault.QueryFault.{QueryFault}
-use Rattle.pk_query.specs.declared.fault.QueryFault.TheVariants.{TooLong, TooDeep, NoWord, Unexpected, Unclosed, Memory}
+use Rattle.pk_query.specs.declared.fault.QueryFault.TheVariants.{TooLong, TooDeep, NoWord}
+use Rattle.pk_query.specs.declared.fault.QueryFault.TheVariants.{Unexpected, Unclosed, Memory}
 
 -- the text reads as this query, and is neither too long nor too deep
 abbrev pub IsQuery : List ℕ → Tree → Type 0
@@ -41,7 +42,8 @@ ends_operand t = is_operand t
 
 -- an operand is missing at the end: there is no token, or the last one ends no operand
 abbrev pub LacksOperand : List Token → Type 0
-LacksOperand ts = (before : List Token) (last : Token) → ts ≡ before ++ last ∷ [] → ends_operand last ≡ false
+LacksOperand ts = (before : List Token) (last : Token) → ts ≡ before ++ last ∷ []
+    → ends_operand last ≡ false
 
 -- all tokens go on, and an operand is missing at the end
 pub record EndsEarly (text : List ℕ) (place : ℕ) : Type 0 where
@@ -52,7 +54,8 @@ pub record EndsEarly (text : List ℕ) (place : ℕ) : Type 0 where
 -- each `(` is closed, and each `)` closes one
 pub data Balanced : List Token → Type 0 where
   nothing : Balanced []
-  other : {t : Token} {ts : List Token} → is_open t ≡ false → is_close t ≡ false → Balanced ts → Balanced (t ∷ ts)
+  other : {t : Token} {ts : List Token} → is_open t ≡ false → is_close t ≡ false → Balanced ts
+      → Balanced (t ∷ ts)
   nested : {ts us : List Token} → Balanced ts → Balanced us → Balanced (Open ∷ ts ++ Close ∷ us)
 
 -- `bracket` is the last `(` of the text that is not closed
@@ -74,9 +77,10 @@ pub record EndsOpen (text : List ℕ) (place : ℕ) : Type 0 where
 -- the text gets this refusal; want of memory it gets only where it reads as a query
 abbrev pub Refuses : List ℕ → QueryFault → Type 0
 Refuses text TooLong = IsTooLong text
-Refuses text TooDeep = (length text ≤ MAX_BYTES) × IsTooDeep text
+Refuses text TooDeep = (length text ≤ max_bytes) × IsTooDeep text
 Refuses text (NoWord place) = IsWithinLimits text × LacksWordAt text place
-Refuses text (Unexpected place) = IsWithinLimits text × (IsUnexpectedAt text place ⊎ EndsEarly text place)
+Refuses text (Unexpected place) =
+    IsWithinLimits text × (IsUnexpectedAt text place ⊎ EndsEarly text place)
 Refuses text (Unclosed place) = IsWithinLimits text × EndsOpen text place
 Refuses text Memory = (q : Tree) × IsQuery text q
 

@@ -4,9 +4,9 @@ ghost use Rattle.std.specs.Prelude.{◌≡◌, ◌<◌, ◌≤◌, [], length, L
 ghost use Rattle.std.specs.Option.{option_map};
 ghost use Rattle.pk_model.specs.Tree.{tree_of};
 ghost use Rattle.pk_query.specs.BuildView.{
-  frame_view,
+  bracket_view,
   state_view,
-  frames,
+  brackets,
   waiting_nots,
   finished,
   Complains,
@@ -14,9 +14,9 @@ ghost use Rattle.pk_query.specs.BuildView.{
 };
 ghost use Rattle.pk_query.specs.Grammar.{operand_of};
 ghost use Rattle.pk_query.specs.LexerView.{token_view};
+ghost use Rattle.pk_query.specs.Machine as machine;
 ghost use Rattle.pk_query.specs.Machine.{
-  Frame,
-  Wants,
+  WantsOperand,
   closed,
   completed,
   fresh,
@@ -29,7 +29,7 @@ ghost use Rattle.pk_query.specs.Machine.{
 };
 ghost use Rattle.pk_query.specs.Tokens.{Chunk, tokens};
 
-use super::lexer::{Token, next_lexeme};
+use super::lexer::{Lexer, Placed, Token};
 use super::limits::MAX_BYTES;
 use pk_model::Query;
 use pk_words::word_list;
@@ -50,9 +50,9 @@ pub(crate) struct Bracket {
 #[derive(Drop)]
 pub(crate) enum State {
     /// An operand is wanted next.
-    Wants(Bracket),
+    WantsOperand(Bracket),
     /// An operand has just ended: what stands before the last `OR`, and the operands since then.
-    Has(Option<Query>, Query),
+    HasOperand(Option<Query>, Query),
 }
 
 /// Why nothing is built.
@@ -112,13 +112,13 @@ fn negated(alloc: Global, nots: u32, part: Query) -> Result<Query, AllocError>
 
 /// The operand that was wanted has come.
 fn completed(alloc: Global, operand: Query, bracket: Bracket) -> Result<State, AllocError>
-    ensures { IfOk result (λ s. (below : List Frame) →
-        state_view s below ≡ completed (tree_of operand) (frame_view bracket) below) }
+    ensures { IfOk result (λ s. (below : List machine.Bracket) →
+        state_view s below ≡ completed (tree_of operand) (bracket_view bracket) below) }
 {
     let Bracket { ors, ands, nots } = bracket;
     let operand = negated(alloc, nots, operand)?;
     let ands = and_of(alloc, ands, operand)?;
-    Ok(State::Has(ors, ands))
+    Ok(State::HasOperand(ors, ands))
 }
 
 /// The AND of the words of a chunk, if it has words.
@@ -134,7 +134,7 @@ fn words_query(alloc: Global, chunk: &str) -> Result<Option<Query>, AllocError>
 
 /// Just after a bracket, or at the start.
 fn fresh() -> Bracket
-    ensures { frame_view result ≡ fresh }
+    ensures { bracket_view result ≡ fresh }
 {
     Bracket {
         ors: None,
@@ -152,21 +152,21 @@ fn step_wants(
 ) -> Result<State, StepError>
     requires { bracket.nots < MAX_BYTES }
     ensures { MatchResult result
-        (λ s. step_wants (frame_view bracket) (frames below.old.items) (token_view token.entry)
-        ≡ Ok (state_view s (frames below.new.items)))
+        (λ s. step_wants (bracket_view bracket) (brackets below.old.items) (token_view token.entry)
+        ≡ Ok (state_view s (brackets below.new.items)))
         (λ e. Complains e
-        (step_wants (frame_view bracket) (frames below.old.items) (token_view token.entry))) }
+        (step_wants (bracket_view bracket) (brackets below.old.items) (token_view token.entry))) }
 {
     match token {
         Token::Open => {
             if below.push(bracket).is_err() {
                 return Err(StepError::Memory);
             }
-            Ok(State::Wants(fresh()))
+            Ok(State::WantsOperand(fresh()))
         }
         Token::Not => {
             let Bracket { ors, ands, nots } = bracket;
-            Ok(State::Wants(Bracket {
+            Ok(State::WantsOperand(Bracket {
                 ors,
                 ands,
                 nots: nots + 1,
@@ -183,9 +183,9 @@ fn step_wants(
 /// A bracket closes.
 fn close(alloc: Global, inner: Query, below: &mut Vec<Bracket>) -> Result<State, StepError>
     ensures { MatchResult result
-        (λ s. closed (tree_of inner) (frames below.old.items)
-        ≡ Ok (state_view s (frames below.new.items)))
-        (λ e. Complains e (closed (tree_of inner) (frames below.old.items))) }
+        (λ s. closed (tree_of inner) (brackets below.old.items)
+        ≡ Ok (state_view s (brackets below.new.items)))
+        (λ e. Complains e (closed (tree_of inner) (brackets below.old.items))) }
 {
     match below.pop() {
         None => Err(StepError::Unexpected),
@@ -200,24 +200,24 @@ fn step(
     below: &mut Vec<Bracket>,
     token: Token<'_>,
 ) -> Result<State, StepError>
-    requires { waiting_nots (state_view state (frames below.old.items)) < MAX_BYTES }
+    requires { waiting_nots (state_view state (brackets below.old.items)) < MAX_BYTES }
     ensures { MatchResult result
-        (λ s. step (state_view state (frames below.old.items)) (token_view token.entry)
-        ≡ Ok (state_view s (frames below.new.items)))
+        (λ s. step (state_view state (brackets below.old.items)) (token_view token.entry)
+        ≡ Ok (state_view s (brackets below.new.items)))
         (λ e. Complains e
-        (step (state_view state (frames below.old.items)) (token_view token.entry))) }
+        (step (state_view state (brackets below.old.items)) (token_view token.entry))) }
 {
     match state {
-        State::Wants(bracket) => step_wants(alloc, bracket, below, token),
-        State::Has(ors, ands) => match token {
-            Token::And => Ok(State::Wants(Bracket {
+        State::WantsOperand(bracket) => step_wants(alloc, bracket, below, token),
+        State::HasOperand(ors, ands) => match token {
+            Token::And => Ok(State::WantsOperand(Bracket {
                 ors,
                 ands: Some(ands),
                 nots: 0,
             })),
             Token::Or => {
                 let ors = or_of(alloc, ors, ands)?;
-                Ok(State::Wants(Bracket {
+                Ok(State::WantsOperand(Bracket {
                     ors: Some(ors),
                     ands: None,
                     nots: 0,
@@ -242,25 +242,21 @@ fn step(
 /// The query of a text without a fault.
 pub(crate) fn build(alloc: Global, text: &str) -> Result<Query, StepError>
     requires { length text.now ≤ MAX_BYTES }
-    ensures { Builds result (finished (run (Wants fresh []) (tokens text.now))) }
+    ensures { Builds result (finished (run (WantsOperand fresh []) (tokens text.now))) }
 {
     let mut below = Vec::new(alloc);
-    let mut state = State::Wants(fresh());
-    let mut at = 0;
-    let mut rest = text;
-    'tokens: while let Some(lexeme) = next_lexeme(at, rest) {
-        state = step(alloc, state, &mut below, lexeme.token)?;
-        at = lexeme.after;
-        rest = lexeme.rest;
+    let mut state = State::WantsOperand(fresh());
+    'tokens: for Placed { token, .. } in Lexer::of(text) {
+        state = step(alloc, state, &mut below, token)?;
     }
     match state {
-        State::Has(ors, ands) => {
+        State::HasOperand(ors, ands) => {
             if below.is_empty() {
                 Ok(or_of(alloc, ors, ands)?)
             } else {
                 Err(StepError::Unexpected)
             }
         }
-        State::Wants(_) => Err(StepError::Unexpected),
+        State::WantsOperand(_) => Err(StepError::Unexpected),
     }
 }

@@ -10,22 +10,22 @@ ghost use Rattle.std.specs.Prelude.{
 };
 ghost use Rattle.std.specs.Option.{is_some};
 ghost use Rattle.pk_query.specs.Check.{check_step, first_fault};
-ghost use Rattle.pk_query.specs.CheckView.{look_view, HasRoom, GoesTo};
+ghost use Rattle.pk_query.specs.CheckView.{progress_view, HasRoom, GoesTo};
 ghost use Rattle.pk_query.specs.Depth.{IsWithinLimits};
 ghost use Rattle.pk_query.specs.Grammar.{operand_of};
 ghost use Rattle.pk_query.specs.LexerView.{token_view};
 ghost use Rattle.pk_query.specs.Tokens.{Chunk};
 
 use super::fault::QueryFault;
-use super::lexer::{Token, next_lexeme};
+use super::lexer::{Lexer, Placed, Token};
 use super::limits::MAX_DEPTH;
 use unicode_segmentation::UnicodeSegmentation;
 
 /// How far a text was read: the places of the open brackets stand in a list beside it.
 #[derive(Clone, Copy)]
-pub(crate) struct Look {
+pub(crate) struct Progress {
     /// Whether an operand has just ended.
-    pub(crate) has: bool,
+    pub(crate) after_operand: bool,
     /// How many brackets are open.
     pub(crate) depth: usize,
 }
@@ -39,48 +39,60 @@ fn has_word(chunk: &str) -> bool
 
 /// One token, whose first byte stands at `place`.
 fn check_token(
-    look: Look,
+    progress: Progress,
     places: &mut [usize],
     token: Token<'_>,
     place: usize,
-) -> Result<Look, QueryFault>
+) -> Result<Progress, QueryFault>
     requires size { length places.old ≡ MAX_DEPTH }
-    requires room { HasRoom (token_view token) look.depth }
+    requires room { HasRoom (token_view token) progress.depth }
     ensures step { MatchResult result
-        (λ next. check_step (look_view look places.old) (token_view token.entry) place
-        ≡ Ok (look_view next places.new))
-        (λ fault. check_step (look_view look places.old) (token_view token.entry) place
+        (λ next. check_step (progress_view progress places.old) (token_view token.entry) place
+        ≡ Ok (progress_view next places.new))
+        (λ fault. check_step (progress_view progress places.old) (token_view token.entry) place
         ≡ Err fault) }
-    ensures depth { IfOk result (λ next. GoesTo (token_view token.entry) look.depth next.depth) }
+    ensures depth { IfOk result (λ next. GoesTo (token_view token.entry) progress.depth next.depth) }
 {
-    let Look { has, depth } = look;
+    let Progress {
+        after_operand,
+        depth,
+    } = progress;
     match token {
         Token::Open => {
             places[depth] = place;
-            Ok(Look {
-                has: false,
+            Ok(Progress {
+                after_operand: false,
                 depth: depth + 1,
             })
         }
-        Token::Not => Ok(Look { has: false, depth }),
+        Token::Not => Ok(Progress {
+            after_operand: false,
+            depth,
+        }),
         Token::Chunk(chunk) => {
             if has_word(chunk) {
-                Ok(Look { has: true, depth })
+                Ok(Progress {
+                    after_operand: true,
+                    depth,
+                })
             } else {
                 Err(QueryFault::NoWord(place))
             }
         }
         Token::And | Token::Or => {
-            if has {
-                Ok(Look { has: false, depth })
+            if after_operand {
+                Ok(Progress {
+                    after_operand: false,
+                    depth,
+                })
             } else {
                 Err(QueryFault::Unexpected(place))
             }
         }
         Token::Close => {
-            if has && depth > 0 {
-                Ok(Look {
-                    has: true,
+            if after_operand && depth > 0 {
+                Ok(Progress {
+                    after_operand: true,
                     depth: depth - 1,
                 })
             } else {
@@ -96,25 +108,21 @@ pub(crate) fn first_fault(text: &str) -> Option<QueryFault>
     ensures { result ≡ first_fault text.now }
 {
     let mut places = [0usize; MAX_DEPTH];
-    let mut look = Look {
-        has: false,
+    let mut progress = Progress {
+        after_operand: false,
         depth: 0,
     };
-    let mut at = 0;
-    let mut rest = text;
-    'tokens: while let Some(lexeme) = next_lexeme(at, rest) {
-        match check_token(look, &mut places, lexeme.token, lexeme.place) {
-            Ok(next) => look = next,
+    'tokens: for Placed { place, token } in Lexer::of(text) {
+        match check_token(progress, &mut places, token, place) {
+            Ok(next) => progress = next,
             Err(fault) => return Some(fault),
         }
-        at = lexeme.after;
-        rest = lexeme.rest;
     }
-    if !look.has {
+    if !progress.after_operand {
         return Some(QueryFault::Unexpected(text.len()));
     }
-    if look.depth > 0 {
-        Some(QueryFault::Unclosed(places[look.depth - 1]))
+    if progress.depth > 0 {
+        Some(QueryFault::Unclosed(places[progress.depth - 1]))
     } else {
         None
     }

@@ -7,15 +7,24 @@ ghost use Rattle.std.specs.Prelude.{
   ◌≤◌,
   ◌^◌,
   ◌∷◌,
-  [],
+  List,
   length,
   take,
   drop,
-  MatchOption,
 };
+ghost use Rattle.std.specs.Iterator.{YieldsFirstBy, item_count};
 ghost use Rattle.std.specs.Str.{IsCharBoundary};
-ghost use Rattle.pk_query.specs.LexerView.{token_view, IsNext};
-ghost use Rattle.pk_query.specs.Tokens.{is_delimiter, pieces, token_of, placed_from};
+ghost use Rattle.pk_query.specs.LexerView.{placed_view, token_view};
+ghost use Rattle.pk_query.specs.Tokens as spec;
+ghost use Rattle.pk_query.specs.Tokens.{
+  is_delimiter,
+  lexemes,
+  placed_from,
+  placed_tokens,
+  token_of,
+};
+
+use std::marker::Model;
 
 /// A token. A chunk is a part of the text.
 #[derive(Clone, Copy)]
@@ -28,17 +37,63 @@ pub(crate) enum Token<'a> {
     Chunk(&'a str),
 }
 
-/// A token where it stands in the text, and what comes after it.
+/// A token and the place of its first byte.
 #[derive(Clone, Copy)]
-pub(crate) struct Lexeme<'a> {
-    /// The place of its first byte.
+pub(crate) struct Placed<'a> {
     pub(crate) place: usize,
-    /// The token.
     pub(crate) token: Token<'a>,
-    /// The place of the first byte after it.
-    pub(crate) after: usize,
-    /// The text from there on.
-    pub(crate) rest: &'a str,
+}
+
+/// The tokens of a text that are still to come, each with its place.
+#[derive(Drop)]
+pub(crate) struct Lexer<'a> {
+    /// The place of the first byte of `rest`.
+    at: usize,
+    /// The text that is still to be read.
+    rest: &'a str,
+}
+
+impl<'a> Model for Lexer<'a> {
+    ghost Value = { List spec.Placed };
+
+    ghost view = { λ l. placed_from l.at (lexemes l.rest.now) };
+
+    ghost invariant = { λ l. l.at + length l.rest.now < 2 ^ 64 };
+}
+
+impl<'a> Lexer<'a> {
+    /// The tokens of a text, of which there are at most as many as bytes.
+    pub(crate) fn of(text: &'a str) -> Self
+        ensures tokens { result ≡ placed_tokens text.now }
+        ensures few { length result ≤ length text.now }
+    {
+        Lexer { at: 0, rest: text }
+    }
+}
+
+impl<'a> Iterator for Lexer<'a> {
+    type Item = Placed<'a>;
+
+    ghost next_gives = { YieldsFirstBy placed_view (λ l. l) };
+
+    ghost remaining = { item_count (λ l. l) };
+
+    fn next(&mut self) -> Option<Placed<'a>> {
+        'lexemes: while !self.rest.is_empty() {
+            let place = self.at;
+            let len = lexeme_len(self.rest);
+            let lexeme = &self.rest[..len];
+            self.rest = &self.rest[len..];
+            self.at += len;
+            if lexeme != " " {
+                return Some(Placed {
+                    place,
+                    token: token_of(lexeme),
+                });
+            }
+        }
+        None
+    }
 }
 
 /// Whether the byte ends a chunk: a space, `(` or `)`.
@@ -48,13 +103,13 @@ fn is_delimiter(b: u8) -> bool
     b == b' ' || b == b'(' || b == b')'
 }
 
-/// The length of the first piece: of a delimiter, or of a longest run without one.
-fn piece_len(text: &str) -> usize
+/// The length of the first lexeme: of a delimiter, or of a longest run without one.
+fn lexeme_len(text: &str) -> usize
     requires { 0 < length text.now }
     ensures some { 0 < result }
     ensures within { result ≤ length text.now }
     ensures boundary { IsCharBoundary text.now result }
-    ensures cut { pieces text.now ≡ take result text.now ∷ pieces (drop result text.now) }
+    ensures cut { lexemes text.now ≡ take result text.now ∷ lexemes (drop result text.now) }
 {
     let bytes = text.as_bytes();
     if is_delimiter(bytes[0]) {
@@ -67,48 +122,16 @@ fn piece_len(text: &str) -> usize
     end
 }
 
-/// What a piece stands for, a space apart.
-fn token_of(piece: &str) -> Token<'_>
-    ensures { token_view result ≡ token_of piece.now }
+/// What a lexeme stands for, a space apart.
+fn token_of(lexeme: &str) -> Token<'_>
+    ensures { token_view result ≡ token_of lexeme.now }
 {
-    if piece == "(" {
-        Token::Open
-    } else if piece == ")" {
-        Token::Close
-    } else if piece == "AND" {
-        Token::And
-    } else if piece == "OR" {
-        Token::Or
-    } else if piece == "NOT" {
-        Token::Not
-    } else {
-        Token::Chunk(piece)
+    match lexeme {
+        "(" => Token::Open,
+        ")" => Token::Close,
+        "AND" => Token::And,
+        "OR" => Token::Or,
+        "NOT" => Token::Not,
+        _ => Token::Chunk(lexeme),
     }
-}
-
-/// The first token of a text whose first byte has this place in a longer text.
-pub(crate) fn next_lexeme(place: usize, text: &str) -> Option<Lexeme<'_>>
-    requires { place + length text.now < 2 ^ 64 }
-    ensures { MatchOption result
-        (placed_from place (pieces text.now) ≡ [])
-        (IsNext place text.now) }
-{
-    let mut at = place;
-    let mut rest = text;
-    'pieces: while !rest.is_empty() {
-        let len = piece_len(rest);
-        let piece = &rest[..len];
-        let others = &rest[len..];
-        if piece != " " {
-            return Some(Lexeme {
-                place: at,
-                token: token_of(piece),
-                after: at + len,
-                rest: others,
-            });
-        }
-        at += len;
-        rest = others;
-    }
-    None
 }

@@ -38,6 +38,3 @@ mod reading;
 pub use fault::QueryFault;
 pub use limits::{MAX_BYTES, MAX_DEPTH};
 pub use reading::{fault_of, parse};
-
-#[cfg(test)]
-mod tests;

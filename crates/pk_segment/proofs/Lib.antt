@@ -1,3 +1,4 @@
+pub mod DirectoryLemmas
 pub mod OpeningLemmas
 pub mod PlainLemmas
 pub mod ReadLemmas

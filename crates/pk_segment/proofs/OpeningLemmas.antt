@@ -4,19 +4,11 @@ use Rattle.std.specs.Prelude.{slice_index}
 use Rattle.std.proofs.lemmas.Bool.{and_from, eq-eqb, le-leb, cases_lt}
 use Rattle.std.proofs.Common.{inl, inr}
 use Rattle.pk_model.specs.Collection.{Doc, numbers_of}
-use Rattle.pk_posting.specs.declared.source.SourceFault.{SourceFault}
-use Rattle.pk_posting.specs.declared.source.SourceFault.TheVariants.{Damaged, Disk}
 use Rattle.pk_segment.specs.declared.header.Header.{Header}
 use Rattle.pk_segment.specs.Plain.{PlainSpells, texts}
 use Rattle.pk_segment.specs.Directory.{doc_in}
 use Rattle.pk_segment.specs.Fields.{IsHeader, is_plain, is_sound, header_field, entry_field, number_at}
-use Rattle.pk_segment.specs.Opened.{IsDevice}
 use Rattle.pk_segment.proofs.PlainLemmas.{header_says, length_parts, entry_number_at, above_all, rise_in, rise_of}
-
--- a fault that is not damage is the device's
-pub device_of : (f : SourceFault) → (f ≡ Damaged → ⊥) → IsDevice f
-device_of Damaged h = h refl
-device_of Disk h = tt
 
 -- the header and the directory are there
 pub long_enough : (bytes : List ℕ) (docs : List Doc) → PlainSpells bytes docs → 24 + 12 * length docs ≤ length bytes
@@ -52,7 +44,7 @@ whole bytes docs kind size h is header k s =
     (and_from (eqb h.kind kind && leb 1 h.count) (eqb (24 + 12 * h.count + h.texts + h.postings + h.dictionary) size) (and_from (eqb h.kind kind) (leb 1 h.count) a b) d)
     (or_right _ (is_plain h) plain)
 
--- the numbers at their places
+-- the numbers by index
 pub index_in : (docs : List Doc) (i : ℕ) → slice_index (numbers_of docs) i ≡ (doc_in docs i).number
 index_in [] i = refl
 index_in (d ∷ docs) zero = refl

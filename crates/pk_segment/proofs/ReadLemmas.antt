@@ -19,7 +19,7 @@ use Rattle.pk_segment.specs.declared.fault.ReadFault.{ReadFault}
 use Rattle.pk_segment.specs.declared.fault.ReadFault.TheVariants.{Damaged, Disk, Memory}
 use Rattle.pk_segment.specs.Directory.{doc_in, EntrySays}
 use Rattle.pk_segment.specs.Fields.{IsEntry, entry_field}
-use Rattle.pk_segment.specs.Reading.{IsCause, read_of, text_of}
+use Rattle.pk_segment.specs.Reading.{IsNoDamage, read_of, text_of}
 use Rattle.pk_segment.proofs.PlainLemmas.{length_parts, parts_of, entry_says, numbers_more, rise_in, rise_of, text_found, text_missing}
 
 -- the length of the segment of documents of the code
@@ -41,15 +41,15 @@ are_documents ds some rising least fit = record {
 }
 
 -- a reader's fault that is not damage is a cause
-pub cause_of : (f : ReadFault) → (f ≡ Damaged → ⊥) → IsCause f
+pub cause_of : (f : ReadFault) → (f ≡ Damaged → ⊥) → IsNoDamage f
 cause_of Damaged h = absurd (h refl)
 cause_of Disk h = tt
 cause_of Memory h = tt
 
 -- so is a source's
-pub cause_read : (f : SourceFault) → (f ≡ source.Damaged → ⊥) → (y : ReadFault) → y ≡ read_of f → IsCause y
+pub cause_read : (f : SourceFault) → (f ≡ source.Damaged → ⊥) → (y : ReadFault) → y ≡ read_of f → IsNoDamage y
 cause_read source.Damaged h y same = absurd (h refl)
-cause_read source.Disk h y same = subst (λ (x : ReadFault). IsCause x) (sym same) tt
+cause_read source.Disk h y same = subst (λ (x : ReadFault). IsNoDamage x) (sym same) tt
 
 -- what an entry that was read says of its document
 pub says : (bytes : List ℕ) (docs : List Doc) (i : ℕ) (e : Entry) → PlainSpells bytes docs → i < length docs → IsEntry (entry_field bytes i) e → EntrySays docs i e.number e.at e.len

@@ -1,4 +1,4 @@
--- Documents by their place in a directory.
+-- Documents by their index in a directory.
 use Rattle.std.specs.Prelude.{◌≡◌, ℕ, zero, suc, ◌+◌, List, [], ◌∷◌, length}
 use Rattle.pk_model.specs.Collection.{Doc}
 
@@ -12,7 +12,7 @@ doc_in [] i = no_doc
 doc_in (d ∷ docs) zero = d
 doc_in (d ∷ docs) (suc i) = doc_in docs i
 
--- where the text of the ith document begins, those of all beginning at a place
+-- where the text of the ith document begins, those of all beginning at an offset
 abbrev pub offset_in : ℕ → List Doc → ℕ → ℕ
 offset_in at [] i = at
 offset_in at (d ∷ docs) zero = at

@@ -1,7 +1,9 @@
--- The fixed fields of a segment, read at their places, whatever the bytes are.
+-- The fixed fields of a segment, read at their offsets, whatever the bytes are.
 use Rattle.std.specs.Prelude.{
   ◌≡◌,
   ℕ,
+  zero,
+  suc,
   ◌+◌,
   ◌*◌,
   Bool,
@@ -11,6 +13,9 @@ use Rattle.std.specs.Prelude.{
   nat_le,
   ◌==◌,
   List,
+  [],
+  ◌∷◌,
+  ◌++◌,
   take,
   drop,
 }
@@ -18,7 +23,7 @@ use Rattle.std.specs.Int.{w32, from_le_bytes}
 use Rattle.pk_segment.specs.declared.directory.Entry.{Entry}
 use Rattle.pk_segment.specs.declared.header.Header.{Header}
 
--- the number of 32 bits at a place, lowest byte first
+-- the number of 32 bits at an offset, lowest byte first
 abbrev pub number_at : ℕ → List ℕ → ℕ
 number_at at bytes = from_le_bytes w32 (take 4 (drop at bytes))
 
@@ -44,6 +49,11 @@ pub record IsEntry (field : List ℕ) (e : Entry) : Type 0 where
   pub number_is : e.number ≡ number_at 0 field
   pub at_is : e.at ≡ number_at 4 field
   pub len_is : e.len ≡ number_at 8 field
+
+-- the numbers of the first n entries of the directory
+abbrev pub entry_numbers : List ℕ → ℕ → List ℕ
+entry_numbers bytes zero = []
+entry_numbers bytes (suc n) = entry_numbers bytes n ++ number_at 0 (entry_field bytes n) ∷ []
 
 -- nothing but a header, a directory and texts
 abbrev pub is_plain : Header → Bool

@@ -1,6 +1,5 @@
 pub mod Building
 pub mod Directory
-pub mod Extent
 pub mod Fields
 pub mod Opened
 pub mod Plain

@@ -16,11 +16,11 @@ use Rattle.std.specs.Prelude.{
 }
 use Rattle.pk_model.specs.Collection.{Doc, numbers_of}
 use Rattle.pk_posting.specs.declared.source.SourceFault.{SourceFault}
-use Rattle.pk_posting.specs.declared.source.SourceFault.TheVariants.{Damaged, Disk}
 use Rattle.pk_segment.specs.declared.header.Header.{Header}
 use Rattle.pk_segment.specs.declared.segment.Segment.{Segment}
 use Rattle.pk_segment.specs.Fields.{IsHeader, is_sound, header_field, entry_field, number_at}
 use Rattle.pk_segment.specs.Plain.{texts}
+use Rattle.pk_segment.specs.Reading.{IsNoDamage, read_of}
 
 -- how many documents it has
 abbrev pub count_of : Segment → ℕ
@@ -59,12 +59,7 @@ pub record IsOpened (bytes : List ℕ) (size kind : ℕ) (s : Segment) : Type 0 
   pub least : 1 ≤ first_of s
   pub order : first_of s ≤ last_of s
 
--- the device alone fails
-abbrev pub IsDevice : SourceFault → Type 0
-IsDevice Damaged = ⊥
-IsDevice Disk = Unit {0}
-
--- a segment of the documents, or the device failed
+-- a segment of the documents, or a cause
 abbrev pub OpensAs : List Doc → Result Segment SourceFault → Type 0
 OpensAs docs (Ok s) = IsSegmentOf s docs
-OpensAs docs (Err fault) = IsDevice fault
+OpensAs docs (Err fault) = IsNoDamage (read_of fault)

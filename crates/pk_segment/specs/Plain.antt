@@ -13,6 +13,7 @@ use Rattle.std.specs.Prelude.{
   ◌++◌,
   length,
   map,
+  take,
   All,
   IsUtf8,
 }
@@ -44,11 +45,11 @@ unfoldable pub header : ℕ → ℕ → ℕ → ℕ → ℕ → ℕ → List ℕ
 header kind count text_bytes postings dictionary terms =
     le32 kind ++ le32 count ++ le32 text_bytes ++ le32 postings ++ le32 dictionary ++ le32 terms
 
--- an entry of the directory: the number, the place of the text among the texts, its length
+-- an entry of the directory: the number, the offset of the text among the texts, its length
 unfoldable pub directory_entry : ℕ → Doc → List ℕ
 directory_entry at d = le32 d.number ++ le32 at ++ le32 (length d.text)
 
--- the entries of documents whose texts begin at a place
+-- the entries of documents whose texts begin at an offset
 abbrev pub directory : ℕ → List Doc → List ℕ
 directory at [] = []
 directory at (d ∷ docs) = directory_entry at d ++ directory (at + length d.text) docs
@@ -79,3 +80,11 @@ pub record PlainSpells (bytes : List ℕ) (docs : List Doc) : Type 0 where
 -- the bytes are the segment of a kind of the documents
 abbrev pub SegmentSpells : List ℕ → List Doc → ℕ → Type 0
 SegmentSpells bytes docs kind = (kind ≡ 1) × PlainSpells bytes docs
+
+-- The bytes have the length, the header and the directory of the segment of a kind of the
+-- documents. The texts may be any bytes.
+pub record DirectorySpells (bytes : List ℕ) (docs : List Doc) (kind : ℕ) : Type 0 where
+  pub segment : List ℕ
+  pub spelled : SegmentSpells segment docs kind
+  pub long : length bytes ≡ length segment
+  pub same : take (24 + 12 * length docs) bytes ≡ take (24 + 12 * length docs) segment

@@ -39,10 +39,10 @@ read_of source.Damaged = Damaged
 read_of source.Disk = Disk
 
 -- not damaged: the device failed, or memory was refused
-abbrev pub IsCause : ReadFault → Type 0
-IsCause Damaged = ⊥
-IsCause Disk = Unit {0}
-IsCause Memory = Unit {0}
+abbrev pub IsNoDamage : ReadFault → Type 0
+IsNoDamage Damaged = ⊥
+IsNoDamage Disk = Unit {0}
+IsNoDamage Memory = Unit {0}
 
 -- Disk is answered exactly where the count of failures rose; with any other answer it is as before.
 pub record CountsReads {T : Type 0} (before now : ℕ) (result : Result T ReadFault) : Type 0 where
@@ -55,7 +55,7 @@ pub record CountsReads {T : Type 0} (before now : ℕ) (result : Result T ReadFa
 -- the numbers of the documents
 abbrev pub NumbersAs : List Doc → Result (Vec ℕ) ReadFault → Type 0
 NumbersAs docs (Ok numbers) = numbers.items ≡ numbers_of docs
-NumbersAs docs (Err fault) = IsCause fault
+NumbersAs docs (Err fault) = IsNoDamage fault
 
 -- the text of the document of a number, if there is one
 abbrev pub text_of : List Doc → ℕ → Option (List ℕ)
@@ -63,16 +63,16 @@ text_of docs n = option_map (λ (d : Doc). d.text) (find (has_number n) docs)
 
 abbrev pub TextAs : List Doc → ℕ → Result (Option (String Global)) ReadFault → Type 0
 TextAs docs n (Ok text) = option_map (λ (t : String Global). string_bytes t) text ≡ text_of docs n
-TextAs docs n (Err fault) = IsCause fault
+TextAs docs n (Err fault) = IsNoDamage fault
 
 -- the ith document, the first being 0
 abbrev pub DocumentAs : List Doc → ℕ → Result Document ReadFault → Type 0
 DocumentAs docs i (Ok document) = slice_get docs i ≡ Some (doc_of document)
-DocumentAs docs i (Err fault) = IsCause fault
+DocumentAs docs i (Err fault) = IsNoDamage fault
 
--- the pieces of at most 4,096 bytes that so many bytes are read in
-abbrev pub pieces_of : ℕ → ℕ
-pieces_of n = (n + 4095) / 4096
+-- the asks for at most 4,096 bytes each that so many bytes take
+abbrev pub asks_for : ℕ → ℕ
+asks_for n = (n + 4095) / 4096
 
 -- the bytes of a text that was found
 abbrev pub found_bytes : Option (String Global) → ℕ
@@ -82,4 +82,4 @@ found_bytes (Some text) = string_len text
 -- the text of the ith document, the first being 0
 abbrev pub DocTextAs : List Doc → ℕ → Result (String Global) ReadFault → Type 0
 DocTextAs docs i (Ok text) = string_bytes text ≡ (doc_in docs i).text
-DocTextAs docs i (Err fault) = IsCause fault
+DocTextAs docs i (Err fault) = IsNoDamage fault

@@ -20,17 +20,18 @@ ghost use Rattle.std.specs.Prelude.{
   IsErrOf,
   OnOk,
 };
+ghost use Rattle.pk_disk.proofs.FrameLemmas.{keeps_disk_none, keeps_disk_then};
+ghost use Rattle.pk_disk.specs.Frames.{KeepsDisk};
 ghost use Rattle.pk_disk.specs.Units.{extent_bytes, start_of};
 ghost use Rattle.pk_posting.specs.Source.{CountsFaults, full_count};
-ghost use Rattle.pk_segment.specs.Extent.{KeepsDisk, keeps_disk_none, keeps_disk_then};
 
 use pk_disk::{Disk, DiskFault, Extent, UNIT};
 use pk_posting::{ByteSource, SourceFault};
 
-/// The most bytes of one piece.
-const PIECE: usize = 4096;
+/// The most bytes that are lent at once.
+const MOST_LENT: usize = 4096;
 
-/// An extent of a disk as a source. It holds the piece that it lends.
+/// An extent of a disk as a source. It holds the bytes that it lends.
 ///
 /// Its bytes are the first `bytes` bytes of the extent. A call of `bytes` reads just the bytes
 /// asked for, in one read of the disk, and writes nothing.
@@ -39,7 +40,7 @@ pub struct ExtentSource<'a, D: Disk> {
     disk: &'a mut D,
     extent: Extent,
     asked: u64,
-    buffer: [u8; 4096],
+    buffer: [u8; MOST_LENT],
     ghost inside: { start_of extent + extent.bytes ≤ length (D.content disk.now) },
 }
 
@@ -56,17 +57,16 @@ impl<'a, D: Disk> ExtentSource<'a, D> {
             disk,
             extent,
             asked: 0,
-            buffer: [0; PIECE],
+            buffer: [0; MOST_LENT],
         }
     }
 
-    // Reads the n bytes from a place on into the front of the buffer.
+    // Reads the n bytes from an offset on into the front of the buffer.
     #[tactic(auto, using(crate::proofs::Window::window))]
     fn fill(&mut self, at: u32, n: u32) -> Result<(), SourceFault>
         requires { n ≤ 4096 }
         ensures same_reference { self.new.disk.ghost_name ≡ self.old.disk.ghost_name }
-        ensures keeps { KeepsDisk D.honest D.content D.is_open D.moment D.images_since
-            D.failed_writes self.old.disk.now self.new.disk.now }
+        ensures keeps { KeepsDisk D.Disk self.old.disk.now self.new.disk.now }
         ensures size { length (D.content self.new.disk.now) ≡ length (D.content self.old.disk.now) }
         ensures extent { self.new.extent ≡ self.old.extent }
         ensures asked { self.new.asked ≡ min (self.old.asked + 1) full_count }
@@ -82,11 +82,8 @@ impl<'a, D: Disk> ExtentSource<'a, D> {
         if u64::from(at) + u64::from(n) > u64::from(self.extent.bytes) {
             return Err(SourceFault::Damaged);
         }
-        let mut buffer = [0u8; PIECE];
         let start = UNIT * u64::from(self.extent.first) + u64::from(at);
-        read_front(self.disk, start, &mut buffer, n as usize)?;
-        self.buffer = buffer;
-        Ok(())
+        read_front(self.disk, start, &mut self.buffer, n as usize)
     }
 }
 
@@ -100,13 +97,12 @@ impl<'a, D: Disk> ByteSource for ExtentSource<'a, D> {
     ghost asked = { λ s. s.asked };
 
     ghost keeps = { λ a b. (b.disk.ghost_name ≡ a.disk.ghost_name)
-        × KeepsDisk D.honest D.content D.is_open D.moment D.images_since D.failed_writes
-        a.disk.now b.disk.now };
+        × KeepsDisk D.Disk a.disk.now b.disk.now };
 
-    ghost keeps_self = { λ a. (refl, keeps_disk_none _ _ _ _ _ _ _) };
+    ghost keeps_self = { λ a. (refl, keeps_disk_none _ _) };
 
     ghost keeps_then = { λ a b c first second.
-        (second.0 ∙ first.0, keeps_disk_then _ _ _ _ _ _ _ _ _ first.1 second.1) };
+        (second.0 ∙ first.0, keeps_disk_then _ _ _ _ first.1 second.1) };
 
     fn len(&self) -> u32 {
         self.extent.bytes
@@ -131,8 +127,7 @@ fn read_front<D: Disk>(
 ) -> Result<(), SourceFault>
     requires room { n ≤ length buffer.old }
     requires inside { at + n ≤ length (D.content disk.old) }
-    ensures keeps { KeepsDisk D.honest D.content D.is_open D.moment D.images_since D.failed_writes
-        disk.old disk.new }
+    ensures keeps { KeepsDisk D.Disk disk.old disk.new }
     ensures size { length (D.content disk.new) ≡ length (D.content disk.old) }
     ensures faults { CountsFaults (D.failed_reads disk.old) (D.failed_reads disk.new) result }
     ensures not_full { OnOk result (D.failed_reads disk.new < full_count) }

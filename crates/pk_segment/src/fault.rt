@@ -6,7 +6,7 @@ use std::alloc::AllocError;
 /// Why a call that reads a segment has no answer. It changed nothing, and may be made again.
 #[derive(Clone, Copy, Debug, PartialEq, Eq, Drop)]
 pub enum ReadFault {
-    /// The bytes are no segment: a place past their end, or a text that is not UTF-8.
+    /// The bytes are no segment: an offset past their end, or a text that is not UTF-8.
     Damaged,
     /// The device failed.
     Disk,

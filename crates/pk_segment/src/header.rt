@@ -85,7 +85,7 @@ pub fn header_of<S: ByteSource>(source: &mut S) -> Result<Header, SourceFault>
     })
 }
 
-// The number of 32 bits at a place.
+// The number of 32 bits at an offset.
 pub fn u32_at(bytes: &[u8], at: usize) -> u32
     requires { at + 4 ≤ length bytes.now }
     ensures { result ≡ number_at at bytes.now }

@@ -6,7 +6,7 @@
 //!
 //! # The bytes of a segment of kind 1
 //!
-//! | place | field |
+//! | offset | field |
 //! |---|---|
 //! | 0 | the kind, 1 |
 //! | 4 | document count c, at least 1 |
@@ -23,20 +23,21 @@
 //! # What is read
 //!
 //! `Segment::open` reads the header and the first and last entry, and takes no memory. `text_of`
-//! halves the directory and then reads the one text, in pieces of at most 4,096 bytes. Each call
-//! that reads is handed the source; `ExtentSource` is the extent of a disk as one.
+//! halves the directory and then reads the one text, at most 4,096 bytes at once. Each call that
+//! reads is handed the source; `ExtentSource` is the extent of a disk as one.
 //!
 //! # What is refused
 //!
 //! `build` and `size_of` answer `TooLarge` exactly where the length passes the limit, else at most
 //! `Memory`. On bytes that spell documents a reader answers by them, or `Disk` or `Memory`; on any
-//! others it returns. `Disk` is answered exactly where a read failed. A refused call changed
-//! nothing but the counts, and may be made again. Of the disk below each reader's clause `keeps`
-//! tells, through the source, that it was only read.
+//! others it returns. `open` and `numbers` go by the header and the directory alone, whatever bytes
+//! the texts are (`DirectorySpells`). `Disk` is answered exactly where a read failed. A refused
+//! call changed nothing but the counts, and may be made again. Of the disk below each reader's
+//! clause `keeps` tells, through the source, that it was only read.
 //!
 //! Where the words are: `specs/Plain` has the spelling, `specs/Opened` and `specs/Reading` what the
-//! readers answer, `specs/Extent` what is kept of a disk. Lemma pages: `PlainLemmas` reads a
-//! spelling again, field by field, `ReadLemmas` and `OpeningLemmas` serve the readers.
+//! readers answer; what is kept of a disk is `KeepsDisk` of pk_disk. Lemma pages: `PlainLemmas`
+//! reads a spelling again, field by field, `ReadLemmas` and `OpeningLemmas` serve the readers.
 #![tactic(auto)]
 
 mod building;
@@ -45,10 +46,8 @@ mod extent;
 mod fault;
 mod header;
 pub mod laws;
-mod pieces;
 mod segment;
-#[cfg(test)]
-mod tests;
+mod stretch;
 
 pub use building::{BuildFault, build, size_of};
 pub use extent::ExtentSource;

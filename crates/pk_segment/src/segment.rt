@@ -20,8 +20,8 @@ ghost use Rattle.std.specs.Prelude.{
 ghost use Rattle.pk_model.specs.Collection.{Doc};
 ghost use Rattle.pk_posting.specs.Source.{CountsFaults};
 ghost use Rattle.pk_segment.specs.Directory.{EntrySays};
-ghost use Rattle.pk_segment.specs.Fields.{entry_field, number_at};
-ghost use Rattle.pk_segment.specs.Plain.{SegmentSpells};
+ghost use Rattle.pk_segment.specs.Fields.{entry_field, entry_numbers, number_at};
+ghost use Rattle.pk_segment.specs.Plain.{DirectorySpells, SegmentSpells};
 ghost use Rattle.pk_segment.specs.Reading.{
   CountsReads,
   DocTextAs,
@@ -29,13 +29,13 @@ ghost use Rattle.pk_segment.specs.Reading.{
   NumbersAs,
   TextAs,
   found_bytes,
-  pieces_of,
+  asks_for,
 };
 
 use crate::directory::{Entry, entry_of};
 use crate::fault::ReadFault;
 use crate::header::header_of;
-use crate::pieces::stretch;
+use crate::stretch::stretch;
 use pk_model::{DocNo, Document};
 use pk_posting::{ByteSource, SourceFault};
 use std::alloc::Global;
@@ -100,8 +100,8 @@ impl Segment {
         ensures opened { S.honest → IfOk result (IsOpened (S.content source.old) bytes kind) }
         ensures damaged { S.honest → IsErrOf result SourceFault.Damaged
             → (s : Segment) → IsOpened (S.content source.old) bytes kind s → ⊥ }
-        ensures spelled { S.honest → (docs : List Doc)
-            → SegmentSpells (S.content source.old) docs kind
+        ensures directory { S.honest → (docs : List Doc)
+            → DirectorySpells (S.content source.old) docs kind
             → bytes ≡ length (S.content source.old) → OpensAs docs result }
         ensures content { S.honest → S.content source.new ≡ S.content source.old }
         ensures size { length (S.content source.new) ≡ length (S.content source.old) }
@@ -146,14 +146,20 @@ impl Segment {
         self.last
     }
 
-    /// The numbers of its documents, in their order.
+    /// The numbers of its documents, in their order: those of the directory, whatever the texts.
+    ///
+    /// `Damaged` only where the directory goes past the source.
     pub fn numbers<S: ByteSource>(
         &self,
         alloc: Global,
         source: &mut S,
     ) -> Result<Vec<u32>, ReadFault>
-        ensures spelled { S.honest → (docs : List Doc) (kind : ℕ)
-            → SegmentSpells (S.content source.old) docs kind → IsSegmentOf self.now docs
+        ensures read { S.honest → IfOk result
+            (λ out. out.items ≡ entry_numbers (S.content source.old) (count_of self.now)) }
+        ensures damaged { IsErrOf result ReadFault.Damaged
+            → length (S.content source.old) < 24 + 12 * count_of self.now }
+        ensures directory { S.honest → (docs : List Doc) (kind : ℕ)
+            → DirectorySpells (S.content source.old) docs kind → IsSegmentOf self.now docs
             → NumbersAs docs result }
         ensures content { S.honest → S.content source.new ≡ S.content source.old }
         ensures size { length (S.content source.new) ≡ length (S.content source.old) }
@@ -172,7 +178,7 @@ impl Segment {
     }
 
     /// The text of the document of a number, if it has one. It reads the directory by halving, and
-    /// the text in pieces of at most 4,096 bytes.
+    /// the text at most 4,096 bytes at once.
     pub fn text_of<S: ByteSource>(
         &self,
         alloc: Global,
@@ -185,7 +191,7 @@ impl Segment {
         ensures content { S.honest → S.content source.new ≡ S.content source.old }
         ensures size { length (S.content source.new) ≡ length (S.content source.old) }
         ensures asked { IfOk result (λ text. (k : ℕ) → count_of self.now < 2 ^ k
-            → S.asked source.new ≤ S.asked source.old + k + pieces_of (found_bytes text)) }
+            → S.asked source.new ≤ S.asked source.old + k + asks_for (found_bytes text)) }
         ensures keeps { S.keeps source.old source.new }
         ensures faults { CountsReads (S.failures source.old) (S.failures source.new) result }
     {
@@ -221,7 +227,7 @@ impl Segment {
         ensures content { S.honest → S.content source.new ≡ S.content source.old }
         ensures size { length (S.content source.new) ≡ length (S.content source.old) }
         ensures asked { IfOk result (λ d. S.asked source.new
-            ≤ S.asked source.old + 1 + pieces_of (string_len d.text)) }
+            ≤ S.asked source.old + 1 + asks_for (string_len d.text)) }
         ensures keeps { S.keeps source.old source.new }
         ensures faults { CountsReads (S.failures source.old) (S.failures source.new) result }
     {
@@ -247,7 +253,7 @@ impl Segment {
         ensures content { S.honest → S.content source.new ≡ S.content source.old }
         ensures size { length (S.content source.new) ≡ length (S.content source.old) }
         ensures asked { IfOk result (λ text. S.asked source.new
-            ≤ S.asked source.old + pieces_of (string_len text)) }
+            ≤ S.asked source.old + asks_for (string_len text)) }
         ensures keeps { S.keeps source.old source.new }
         ensures faults { CountsReads (S.failures source.old) (S.failures source.new) result }
     {

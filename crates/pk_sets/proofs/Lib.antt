@@ -6,3 +6,4 @@ pub mod UnionLemmas
 pub mod ExclusionLemmas
 pub mod CallerLemmas
 pub mod HitLemmas
+pub mod CursorLemmas

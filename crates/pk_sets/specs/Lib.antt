@@ -1,2 +1,3 @@
--- The operations on sets, as rising lists.
+-- The operations on sets, as rising lists, and the loops that carry them out.
+pub mod Cursors
 pub mod Sets

@@ -14,7 +14,7 @@ intersection xs ys = filter (has ys) xs
 abbrev pub difference : List ℕ → List ℕ → List ℕ
 difference xs ys = filter (λ x. not (has ys x)) xs
 
--- a rising list with x at its place, where it is not there already
+-- a rising list with x put in, where it is not there already
 abbrev pub with_number : ℕ → List ℕ → List ℕ
 with_number x [] = x ∷ []
 with_number x (y ∷ ys) =

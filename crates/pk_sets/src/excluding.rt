@@ -1,119 +1,106 @@
 //! The difference by a merge of four numbers against four, or by the runs of the longer list.
 
-ghost use Rattle.std.specs.Prelude.{◌≡◌, ℕ, List, ◌+◌, ◌/◌, ◌%◌, ◌^◌, ◌<◌, ◌≤◌, ◌++◌};
+ghost use Rattle.std.specs.Prelude.{◌≡◌, ℕ, List, ◌+◌, ◌-◌, ◌/◌, ◌%◌, ◌^◌, ◌<◌, ◌≤◌, ◌++◌};
 ghost use Rattle.std.specs.Prelude.{length, slice_index, take, drop, cond};
 ghost use Rattle.std.specs.Simd.Lanes.{chunk};
 ghost use Rattle.std.specs.List.Sorted.{IsStrictlyIncreasing};
+ghost use Rattle.pk_sets.specs.Cursors.{Reaches};
 ghost use Rattle.pk_sets.specs.Sets.{difference, has};
 
+use crate::cursor::{Cursor, START};
 use crate::finding::{is_long, next_from};
 use crate::merging::shared;
 use crate::writing::{keep, one_up_to, put_below, put_four, put_rest};
 use std::hint::select_unpredictable;
 use std::simd::prelude::*;
 
-// Writes the head of `a` where it is below that of `b`, and gives the places of the next heads and
-// of the next number.
+// Writes the head of `a` where it is below that of `b`.
 #[inline(always)]
-fn exclude_one(
-    a: &[u32],
-    b: &[u32],
-    i: usize,
-    j: usize,
-    n: usize,
-    out: &mut [u32],
-) -> (usize, usize, usize)
+fn exclude_one(a: &[u32], b: &[u32], at: Cursor, out: &mut [u32]) -> Cursor
     requires rising_a { IsStrictlyIncreasing a.now }
     requires rising_b { IsStrictlyIncreasing b.now }
-    requires left { i < length a.now }
-    requires right { j < length b.now }
-    requires room { n < length out.old }
-    ensures in_a { result.0 ≤ i + 1 }
-    ensures in_b { result.1 ≤ j + 1 }
-    ensures goes_on { i + j < result.0 + result.1 }
-    ensures written { result.2 + i ≤ n + result.0 }
-    ensures found { take result.2 out.new ++ difference (drop result.0 a.now) (drop result.1 b.now)
-        ≡ take n out.old ++ difference (drop i a.now) (drop j b.now) }
+    requires left { at.a < length a.now }
+    requires right { at.b < length b.now }
+    requires room { at.written < length out.old }
+    ensures in_a { result.a ≤ at.a + 1 }
+    ensures in_b { result.b ≤ at.b + 1 }
+    ensures goes_on { at.a + at.b < result.a + result.b }
+    ensures written { result.written + at.a ≤ at.written + result.a }
+    ensures reaches { Reaches difference a.now b.now at out.old result out.new }
 {
-    let x = a[i];
-    let y = b[j];
+    let x = a[at.a];
+    let y = b[at.b];
     let past = one_up_to(y, x);
-    let next = keep(x, 1 - past as u64, n, out);
-    (i + one_up_to(x, y), j + past, next)
-}
-
-// What is left from the places `from` and `start` on, one number after another.
-fn exclude_rest(
-    a: &[u32],
-    b: &[u32],
-    from: usize,
-    start: usize,
-    place: usize,
-    out: &mut [u32],
-) -> usize
-    requires rising_a { IsStrictlyIncreasing a.now }
-    requires rising_b { IsStrictlyIncreasing b.now }
-    requires left { from ≤ length a.now }
-    requires right { start ≤ length b.now }
-    requires written { place ≤ from }
-    requires room { length a.now ≤ length out.old }
-    ensures within { result ≤ length out.new }
-    ensures found { take result out.new
-        ≡ take place out.old ++ difference (drop from a.now) (drop start b.now) }
-{
-    let mut i = from;
-    let mut j = start;
-    let mut n = place;
-    'heads: while i < a.len() && j < b.len() {
-        let (next_i, next_j, next_n) = exclude_one(a, b, i, j, n, out);
-        i = next_i;
-        j = next_j;
-        n = next_n;
+    Cursor {
+        a: at.a + one_up_to(x, y),
+        b: at.b + past,
+        written: keep(x, 1 - past as u64, at.written, out),
     }
-    put_rest(a, i, n, out)
 }
 
-// What is left from the places `from` and `start` on, four numbers at once where they stand below
-// the other list.
-fn exclude_fours(
-    a: &[u32],
-    b: &[u32],
-    from: usize,
-    start: usize,
-    place: usize,
-    out: &mut [u32],
-) -> usize
+// What is left of `a`, one number after another.
+fn exclude_rest(a: &[u32], b: &[u32], from: Cursor, out: &mut [u32]) -> usize
     requires rising_a { IsStrictlyIncreasing a.now }
     requires rising_b { IsStrictlyIncreasing b.now }
-    requires left { from ≤ length a.now }
-    requires right { start ≤ length b.now }
-    requires written { place ≤ from }
+    requires left { from.a ≤ length a.now }
+    requires right { from.b ≤ length b.now }
+    requires written { from.written ≤ from.a }
     requires room { length a.now ≤ length out.old }
     ensures within { result ≤ length out.new }
     ensures found { take result out.new
-        ≡ take place out.old ++ difference (drop from a.now) (drop start b.now) }
+        ≡ take from.written out.old ++ difference (drop from.a a.now) (drop from.b b.now) }
 {
-    let mut i = from;
-    let mut j = start;
-    let mut n = place;
-    'fours: while i < a.len() && 4 <= a.len() - i && j < b.len() && 4 <= b.len() - j {
-        if b[j + 3] < a[i] {
-            j += 4;
-        } else if a[i + 3] < b[j] {
-            put_four(a, i, n, out);
-            i += 4;
-            n += 4;
+    let mut at = from;
+    'heads: while at.a < a.len() && at.b < b.len() {
+        at = exclude_one(a, b, at, out);
+    }
+    put_rest(a, at.a, at.written, out)
+}
+
+// Four single steps.
+#[inline(always)]
+fn exclude_four(a: &[u32], b: &[u32], at: Cursor, out: &mut [u32]) -> Cursor
+    requires rising_a { IsStrictlyIncreasing a.now }
+    requires rising_b { IsStrictlyIncreasing b.now }
+    requires left { at.a + 4 ≤ length a.now }
+    requires right { at.b + 4 ≤ length b.now }
+    requires written { at.written ≤ at.a }
+    requires room { length a.now ≤ length out.old }
+    ensures goes_on { at.a + at.b < result.a + result.b }
+    ensures written { result.written ≤ result.a }
+    ensures reaches { Reaches difference a.now b.now at out.old result out.new }
+{
+    let one = exclude_one(a, b, at, out);
+    let two = exclude_one(a, b, one, out);
+    let three = exclude_one(a, b, two, out);
+    exclude_one(a, b, three, out)
+}
+
+// What is left of `a`, four numbers at once where they stand below the other list.
+fn exclude_fours(a: &[u32], b: &[u32], from: Cursor, out: &mut [u32]) -> usize
+    requires rising_a { IsStrictlyIncreasing a.now }
+    requires rising_b { IsStrictlyIncreasing b.now }
+    requires left { from.a ≤ length a.now }
+    requires right { from.b ≤ length b.now }
+    requires written { from.written ≤ from.a }
+    requires room { length a.now ≤ length out.old }
+    ensures within { result ≤ length out.new }
+    ensures found { take result out.new
+        ≡ take from.written out.old ++ difference (drop from.a a.now) (drop from.b b.now) }
+{
+    let mut at = from;
+    'fours: while 4 <= a.len() - at.a && 4 <= b.len() - at.b {
+        if b[at.b + 3] < a[at.a] {
+            at.b += 4;
+        } else if a[at.a + 3] < b[at.b] {
+            put_four(a, at.a, at.written, out);
+            at.a += 4;
+            at.written += 4;
         } else {
-            let (i_1, j_1, n_1) = exclude_one(a, b, i, j, n, out);
-            let (i_2, j_2, n_2) = exclude_one(a, b, i_1, j_1, n_1, out);
-            let (i_3, j_3, n_3) = exclude_one(a, b, i_2, j_2, n_2, out);
-            let (i_4, j_4, n_4) = exclude_one(a, b, i_3, j_3, n_3, out);
-            i = i_4;
-            j = j_4;
-            n = n_4;
+            at = exclude_four(a, b, at, out);
         }
     }
-    exclude_rest(a, b, i, j, n, out)
+    exclude_rest(a, b, at, out)
 }
 
 // Writes those of four numbers of `a` whose bit is 0.
@@ -144,7 +131,7 @@ fn exclude_even(a: &[u32], b: &[u32], out: &mut [u32]) -> usize
     let mut i = 0;
     let mut j = 0;
     let mut n = 0;
-    // Which of the four at i are among the numbers of b before j, and a place before which none is.
+    // Which of the four at i are among the numbers of b before j, and an index with none before it.
     let mut seen = 0;
     let mut start = 0;
     'fours: while 4 <= a.len() - i && 4 <= b.len() - j {
@@ -159,7 +146,12 @@ fn exclude_even(a: &[u32], b: &[u32], out: &mut [u32]) -> usize
         i += select_unpredictable(done, 4, 0);
         j += select_unpredictable(y <= x, 4, 0);
     }
-    exclude_fours(a, b, i, start, n, out)
+    let from = Cursor {
+        a: i,
+        b: start,
+        written: n,
+    };
+    exclude_fours(a, b, from, out)
 }
 
 // The difference by a merge of four against four that branches on which side goes on: the way to
@@ -174,7 +166,7 @@ fn exclude_foreseen(a: &[u32], b: &[u32], out: &mut [u32]) -> usize
     let mut i = 0;
     let mut j = 0;
     let mut n = 0;
-    // Which of the four at i are among the numbers of b before j, and a place before which none is.
+    // Which of the four at i are among the numbers of b before j, and an index with none before it.
     let mut seen = 0;
     let mut start = 0;
     'fours: while 4 <= a.len() - i && 4 <= b.len() - j {
@@ -193,7 +185,33 @@ fn exclude_foreseen(a: &[u32], b: &[u32], out: &mut [u32]) -> usize
             seen = hits;
         }
     }
-    exclude_fours(a, b, i, start, n, out)
+    let from = Cursor {
+        a: i,
+        b: start,
+        written: n,
+    };
+    exclude_fours(a, b, from, out)
+}
+
+// Writes the run of `a` below the head of `b`.
+#[inline(always)]
+fn keep_run(a: &[u32], b: &[u32], at: Cursor, out: &mut [u32]) -> Cursor
+    requires rising_a { IsStrictlyIncreasing a.now }
+    requires rising_b { IsStrictlyIncreasing b.now }
+    requires left { at.a ≤ length a.now }
+    requires right { at.b < length b.now }
+    requires room { at.written + (length a.now - at.a) ≤ length out.old }
+    ensures lower { at.a ≤ result.a }
+    ensures in_b { result.b ≡ at.b }
+    ensures written { result.written + at.a ≡ at.written + result.a }
+    ensures reaches { Reaches difference a.now b.now at out.old result out.new }
+{
+    let end = put_below(a, at.a, b[at.b], at.written, out);
+    Cursor {
+        a: end,
+        b: at.b,
+        written: at.written + (end - at.a),
+    }
 }
 
 // The difference by the runs of `a` between the numbers of `b`: the way to take where `a` is much
@@ -205,21 +223,33 @@ fn exclude_runs(a: &[u32], b: &[u32], out: &mut [u32]) -> usize
     ensures within { result ≤ length out.new }
     ensures found { take result out.new ≡ difference a.now b.now }
 {
-    let mut i = 0;
-    let mut j = 0;
-    let mut n = 0;
-    'runs: while i < a.len() && j < b.len() {
-        let end = put_below(a, i, b[j], n, out);
-        n += end - i;
-        i = end;
-        if i < a.len() {
-            let (next_i, next_j, next_n) = exclude_one(a, b, i, j, n, out);
-            i = next_i;
-            j = next_j;
-            n = next_n;
+    let mut at = START;
+    'runs: while at.a < a.len() && at.b < b.len() {
+        at = keep_run(a, b, at, out);
+        if at.a < a.len() {
+            at = exclude_one(a, b, at, out);
         }
     }
-    put_rest(a, i, n, out)
+    exclude_rest(a, b, at, out)
+}
+
+// Passes the run of `b` below the head of `a`.
+#[inline(always)]
+fn pass_run(a: &[u32], b: &[u32], at: Cursor) -> Cursor
+    requires rising_a { IsStrictlyIncreasing a.now }
+    requires rising_b { IsStrictlyIncreasing b.now }
+    requires left { at.a < length a.now }
+    requires right { at.b ≤ length b.now }
+    ensures in_a { result.a ≡ at.a }
+    ensures lower { at.b ≤ result.b }
+    ensures written { result.written ≡ at.written }
+    ensures reaches { (out : List ℕ) → Reaches difference a.now b.now at out result out }
+{
+    Cursor {
+        a: at.a,
+        b: next_from(b, at.b, a[at.a]),
+        written: at.written,
+    }
 }
 
 // The difference that passes the runs of `b` between the numbers of `a`: the way to take where `b`
@@ -231,19 +261,14 @@ fn exclude_passing(a: &[u32], b: &[u32], out: &mut [u32]) -> usize
     ensures within { result ≤ length out.new }
     ensures found { take result out.new ≡ difference a.now b.now }
 {
-    let mut i = 0;
-    let mut j = 0;
-    let mut n = 0;
-    'runs: while i < a.len() && j < b.len() {
-        j = next_from(b, j, a[i]);
-        if j < b.len() {
-            let (next_i, next_j, next_n) = exclude_one(a, b, i, j, n, out);
-            i = next_i;
-            j = next_j;
-            n = next_n;
+    let mut at = START;
+    'runs: while at.a < a.len() && at.b < b.len() {
+        at = pass_run(a, b, at);
+        if at.b < b.len() {
+            at = exclude_one(a, b, at, out);
         }
     }
-    put_rest(a, i, n, out)
+    exclude_rest(a, b, at, out)
 }
 
 /// Writes into `out` the numbers of `a` that are not in `b`.

@@ -3,7 +3,7 @@
 ghost use Rattle.std.specs.Prelude.{ℕ, ◌+◌, ◌-◌, ◌*◌, ◌<◌, ◌≤◌, ◌↔◌, IsTrue, length, slice_index};
 ghost use Rattle.std.specs.List.Sorted.{IsStrictlyIncreasing};
 
-// The place of the first number that is not below x, by halving.
+// The index of the first number that is not below x, by halving.
 pub fn first_from(xs: &[u32], x: u32) -> usize
     requires rising { IsStrictlyIncreasing xs.now }
     ensures upper { result ≤ length xs.now }
@@ -34,7 +34,7 @@ pub fn count_below(xs: &[u32], from: usize, x: u32) -> usize
     (xs[from] < x) as usize + (xs[from + 1] < x) as usize + (xs[from + 2] < x) as usize
 }
 
-// The place of the first number from `from` on that is not below x, four at once as far as that
+// The index of the first number from `from` on that is not below x, four at once as far as that
 // goes.
 #[inline(always)]
 pub fn next_from(xs: &[u32], from: usize, x: u32) -> usize

@@ -28,6 +28,7 @@
 //! sizes. Nothing is refused, and no call takes memory.
 #![tactic(auto)]
 
+mod cursor;
 mod excluding;
 mod finding;
 mod galloping;
@@ -42,6 +43,3 @@ pub use galloping::both_gallop;
 pub use intersecting::both;
 pub use merging::both_merge;
 pub use uniting::either;
-
-#[cfg(test)]
-mod tests;

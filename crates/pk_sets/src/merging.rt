@@ -37,7 +37,7 @@ fn meet(a: &[u32], b: &[u32], i: usize, j: usize, n: usize, out: &mut [u32]) -> 
     keep(a[i + 3], hits >> 3 & 1, n, out)
 }
 
-// What is left from the places `from` and `start` on, one number after another.
+// What is left from the indices `from` and `start` on, one number after another.
 pub fn merge_rest(
     a: &[u32],
     b: &[u32],

@@ -1,86 +1,78 @@
 //! The union by a merge of both halves side by side, or by the runs of the longer list.
 
-ghost use Rattle.std.specs.Prelude.{◌≡◌, ℕ, ◌+◌, ◌<◌, ◌≤◌, length, take, drop, ◌++◌};
+ghost use Rattle.std.specs.Prelude.{◌≡◌, ℕ, ◌+◌, ◌-◌, ◌<◌, ◌≤◌, length, take, drop, ◌++◌};
 ghost use Rattle.std.specs.List.Sorted.{IsStrictlyIncreasing};
+ghost use Rattle.pk_sets.specs.Cursors.{Reaches};
 ghost use Rattle.pk_sets.specs.Sets.{union};
 
+use crate::cursor::{Cursor, START};
 use crate::finding::{first_from, is_long};
 use crate::writing::{one_up_to, put_below, put_rest};
 
-// Writes the lower of two heads, or one of equal ones, and gives the places of the next heads.
+// Writes the lower of two heads, or one of equal ones.
 #[inline(always)]
-fn unite_one(a: &[u32], b: &[u32], i: usize, j: usize, n: usize, out: &mut [u32]) -> (usize, usize)
+fn unite_one(a: &[u32], b: &[u32], at: Cursor, out: &mut [u32]) -> Cursor
     requires rising_a { IsStrictlyIncreasing a.now }
     requires rising_b { IsStrictlyIncreasing b.now }
-    requires left { i < length a.now }
-    requires right { j < length b.now }
-    requires room { n < length out.old }
-    ensures in_a { result.0 ≤ i + 1 }
-    ensures in_b { result.1 ≤ j + 1 }
-    ensures goes_on { i + j < result.0 + result.1 }
-    ensures found { take (n + 1) out.new ++ union (drop result.0 a.now) (drop result.1 b.now)
-        ≡ take n out.old ++ union (drop i a.now) (drop j b.now) }
+    requires left { at.a < length a.now }
+    requires right { at.b < length b.now }
+    requires room { at.written < length out.old }
+    ensures in_a { result.a ≤ at.a + 1 }
+    ensures in_b { result.b ≤ at.b + 1 }
+    ensures goes_on { at.a + at.b < result.a + result.b }
+    ensures written { result.written ≡ at.written + 1 }
+    ensures reaches { Reaches union a.now b.now at out.old result out.new }
 {
-    let x = a[i];
-    let y = b[j];
-    out[n] = x.min(y);
-    (i + one_up_to(x, y), j + one_up_to(y, x))
+    let x = a[at.a];
+    let y = b[at.b];
+    out[at.written] = x.min(y);
+    Cursor {
+        a: at.a + one_up_to(x, y),
+        b: at.b + one_up_to(y, x),
+        written: at.written + 1,
+    }
 }
 
-// What is left from the places `from` and `start` on, one number after another.
-fn unite_rest(
-    a: &[u32],
-    b: &[u32],
-    from: usize,
-    start: usize,
-    place: usize,
-    out: &mut [u32],
-) -> usize
+// What is left of both lists, one number after another.
+fn unite_rest(a: &[u32], b: &[u32], from: Cursor, out: &mut [u32]) -> usize
     requires rising_a { IsStrictlyIncreasing a.now }
     requires rising_b { IsStrictlyIncreasing b.now }
-    requires left { from ≤ length a.now }
-    requires right { start ≤ length b.now }
-    requires written { place ≤ from + start }
+    requires left { from.a ≤ length a.now }
+    requires right { from.b ≤ length b.now }
+    requires written { from.written ≤ from.a + from.b }
     requires room { length a.now + length b.now ≤ length out.old }
     ensures within { result ≤ length out.new }
     ensures found { take result out.new
-        ≡ take place out.old ++ union (drop from a.now) (drop start b.now) }
+        ≡ take from.written out.old ++ union (drop from.a a.now) (drop from.b b.now) }
 {
-    let mut i = from;
-    let mut j = start;
-    let mut n = place;
-    'heads: while i < a.len() && j < b.len() {
-        let (next_i, next_j) = unite_one(a, b, i, j, n, out);
-        i = next_i;
-        j = next_j;
-        n += 1;
+    let mut at = from;
+    'heads: while at.a < a.len() && at.b < b.len() {
+        at = unite_one(a, b, at, out);
     }
-    let n = put_rest(a, i, n, out);
-    put_rest(b, j, n, out)
+    let n = put_rest(a, at.a, at.written, out);
+    put_rest(b, at.b, n, out)
 }
 
-// Four numbers of the union of what is left from the places i and j on, and the next places.
+// Four numbers of the union of what is left of both lists.
 #[inline(always)]
-fn unite_four(a: &[u32], b: &[u32], i: usize, j: usize, n: usize, out: &mut [u32]) -> (usize, usize)
+fn unite_four(a: &[u32], b: &[u32], at: Cursor, out: &mut [u32]) -> Cursor
     requires rising_a { IsStrictlyIncreasing a.now }
     requires rising_b { IsStrictlyIncreasing b.now }
-    requires left { i + 4 ≤ length a.now }
-    requires right { j + 4 ≤ length b.now }
-    requires room { n + 4 ≤ length out.old }
-    ensures in_a { result.0 ≤ i + 4 }
-    ensures in_b { result.1 ≤ j + 4 }
-    ensures goes_on { i + j + 4 ≤ result.0 + result.1 }
-    ensures found { take (n + 4) out.new ++ union (drop result.0 a.now) (drop result.1 b.now)
-        ≡ take n out.old ++ union (drop i a.now) (drop j b.now) }
+    requires left { at.a + 4 ≤ length a.now }
+    requires right { at.b + 4 ≤ length b.now }
+    requires room { at.written + 4 ≤ length out.old }
+    ensures goes_on { at.a + at.b + 4 ≤ result.a + result.b }
+    ensures written { result.written ≡ at.written + 4 }
+    ensures reaches { Reaches union a.now b.now at out.old result out.new }
 {
-    let (i_1, j_1) = unite_one(a, b, i, j, n, out);
-    let (i_2, j_2) = unite_one(a, b, i_1, j_1, n + 1, out);
-    let (i_3, j_3) = unite_one(a, b, i_2, j_2, n + 2, out);
-    unite_one(a, b, i_3, j_3, n + 3, out)
+    let one = unite_one(a, b, at, out);
+    let two = unite_one(a, b, one, out);
+    let three = unite_one(a, b, two, out);
+    unite_one(a, b, three, out)
 }
 
-// Two unions side by side, four numbers of each in turn. A step waits for the places that the step
-// before gave, and not for those of the other union.
+// Two unions side by side, four numbers of each in turn. A step waits for the cursor that the step
+// before gave, and not for that of the other union.
 fn unite_two(
     low_a: &[u32],
     low_b: &[u32],
@@ -100,26 +92,18 @@ fn unite_two(
     ensures found_low { take result.0 low.new ≡ union low_a.now low_b.now }
     ensures found_high { take result.1 high.new ≡ union high_a.now high_b.now }
 {
-    let mut i = 0;
-    let mut j = 0;
-    let mut k = 0;
-    let mut l = 0;
-    let mut n = 0;
-    'fours: while 4 <= low_a.len() - i
-        && 4 <= low_b.len() - j
-        && 4 <= high_a.len() - k
-        && 4 <= high_b.len() - l
+    let mut in_low = START;
+    let mut in_high = START;
+    'fours: while 4 <= low_a.len() - in_low.a
+        && 4 <= low_b.len() - in_low.b
+        && 4 <= high_a.len() - in_high.a
+        && 4 <= high_b.len() - in_high.b
     {
-        let (next_i, next_j) = unite_four(low_a, low_b, i, j, n, low);
-        let (next_k, next_l) = unite_four(high_a, high_b, k, l, n, high);
-        i = next_i;
-        j = next_j;
-        k = next_k;
-        l = next_l;
-        n += 4;
+        in_low = unite_four(low_a, low_b, in_low, low);
+        in_high = unite_four(high_a, high_b, in_high, high);
     }
-    let low_count = unite_rest(low_a, low_b, i, j, n, low);
-    let high_count = unite_rest(high_a, high_b, k, l, n, high);
+    let low_count = unite_rest(low_a, low_b, in_low, low);
+    let high_count = unite_rest(high_a, high_b, in_high, high);
     (low_count, high_count)
 }
 
@@ -133,14 +117,35 @@ fn unite_halves(a: &[u32], b: &[u32], out: &mut [u32]) -> usize
     ensures found { take result out.new ≡ union a.now b.now }
 {
     let half = a.len() / 2;
-    let place = first_from(b, a[half]);
+    let half_b = first_from(b, a[half]);
     let (low_a, high_a) = a.split_at(half);
-    let (low_b, high_b) = b.split_at(place);
-    let (low, high) = out.split_at_mut(half + place);
+    let (low_b, high_b) = b.split_at(half_b);
+    let (low, high) = out.split_at_mut(half + half_b);
     let (low_count, high_count) = unite_two(low_a, low_b, high_a, high_b, low, high);
-    let start = half + place;
+    let start = half + half_b;
     out.copy_within(start..start + high_count, low_count);
     low_count + high_count
+}
+
+// Writes the run of `b` below the head of `a`.
+#[inline(always)]
+fn copy_run(a: &[u32], b: &[u32], at: Cursor, out: &mut [u32]) -> Cursor
+    requires rising_a { IsStrictlyIncreasing a.now }
+    requires rising_b { IsStrictlyIncreasing b.now }
+    requires left { at.a < length a.now }
+    requires right { at.b ≤ length b.now }
+    requires room { at.written + (length b.now - at.b) ≤ length out.old }
+    ensures in_a { result.a ≡ at.a }
+    ensures lower { at.b ≤ result.b }
+    ensures written { result.written + at.b ≡ at.written + result.b }
+    ensures reaches { Reaches union a.now b.now at out.old result out.new }
+{
+    let end = put_below(b, at.b, a[at.a], at.written, out);
+    Cursor {
+        a: at.a,
+        b: end,
+        written: at.written + (end - at.b),
+    }
 }
 
 // The union by the runs of `b` between the numbers of `a`: the way to take where `b` is much
@@ -152,21 +157,14 @@ fn unite_runs(a: &[u32], b: &[u32], out: &mut [u32]) -> usize
     ensures within { result ≤ length out.new }
     ensures found { take result out.new ≡ union a.now b.now }
 {
-    let mut i = 0;
-    let mut j = 0;
-    let mut n = 0;
-    'runs: while i < a.len() && j < b.len() {
-        let end = put_below(b, j, a[i], n, out);
-        n += end - j;
-        j = end;
-        if j < b.len() {
-            let (next_i, next_j) = unite_one(a, b, i, j, n, out);
-            i = next_i;
-            j = next_j;
-            n += 1;
+    let mut at = START;
+    'runs: while at.a < a.len() && at.b < b.len() {
+        at = copy_run(a, b, at, out);
+        if at.b < b.len() {
+            at = unite_one(a, b, at, out);
         }
     }
-    unite_rest(a, b, i, j, n, out)
+    unite_rest(a, b, at, out)
 }
 
 /// Writes into `out` the numbers that are in `a` or in `b`, each once.
@@ -188,7 +186,7 @@ pub fn either(a: &[u32], b: &[u32], out: &mut [u32]) -> usize
     }
     // In few numbers, the search for the halves costs more than they save.
     if a.len() < 32 {
-        return unite_rest(a, b, 0, 0, 0, out);
+        return unite_rest(a, b, START, out);
     }
     unite_halves(a, b, out)
 }

@@ -8,7 +8,7 @@ ghost use Rattle.std.specs.List.Sorted.{IsStrictlyIncreasing};
 use crate::finding::count_below;
 use std::simd::prelude::*;
 
-// Writes x at place n, and counts it where the bit is 1: a branch would often be foreseen wrongly.
+// Writes x at index n, and counts it where the bit is 1: a branch would often be foreseen wrongly.
 #[inline(always)]
 pub fn keep(x: u32, bit: u64, n: usize, out: &mut [u32]) -> usize
     requires room { n < length out.old }
@@ -25,11 +25,12 @@ pub fn keep(x: u32, bit: u64, n: usize, out: &mut [u32]) -> usize
 pub fn one_up_to(x: u32, y: u32) -> usize
     ensures one { x ≤ y → result ≡ 1 }
     ensures none { y < x → result ≡ 0 }
+    ensures most { result ≤ 1 }
 {
     if x <= y { 1 } else { 0 }
 }
 
-// Writes at place n the four numbers from `from` on.
+// Writes at index n the four numbers from `from` on.
 #[inline(always)]
 pub fn put_four(xs: &[u32], from: usize, n: usize, out: &mut [u32])
     requires left { from + 4 ≤ length xs.now }
@@ -39,8 +40,8 @@ pub fn put_four(xs: &[u32], from: usize, n: usize, out: &mut [u32])
     u32x4::from_slice(&xs[from..]).copy_to_slice(&mut out[n..]);
 }
 
-// Writes at place n the numbers from `from` on that are below x, four at once as far as that goes,
-// and gives the place of the first that is not.
+// Writes at index n the numbers from `from` on that are below x, four at once as far as that goes,
+// and gives the index of the first that is not.
 #[inline(always)]
 pub fn put_below(xs: &[u32], from: usize, x: u32, n: usize, out: &mut [u32]) -> usize
     requires rising { IsStrictlyIncreasing xs.now }
@@ -72,7 +73,7 @@ pub fn put_below(xs: &[u32], from: usize, x: u32, n: usize, out: &mut [u32]) -> 
     at
 }
 
-// Writes at place n what is left of the numbers from `from` on.
+// Writes at index n what is left of the numbers from `from` on.
 #[inline(always)]
 pub fn put_rest(xs: &[u32], from: usize, n: usize, out: &mut [u32]) -> usize
     requires left { from ≤ length xs.now }

@@ -1,5 +1,6 @@
 -- Parts of a text that are put and written in turn.
 use Rattle.std.proofs.Common.{◌≡◌, ℕ, ◌+◌, ◌<◌, ◌-◌, Option, Some, None, List, [], ◌∷◌, ◌++◌, get_or, map, length, take, drop, length-drop, refl, sym, ap, ◌∙◌, subst, append_assoc, arith, Result, Ok, Err}
+use Rattle.std.specs.Prelude.{IsErrAnd}
 use Rattle.std.specs.List.{flat_map}
 use Rattle.std.specs.Io.KnownBytes.{Appends, Keeps}
 use Rattle.std.proofs.Math.Seq.{take-length, take-add}
@@ -45,7 +46,7 @@ stopped w0 w1 w2 n bytes short h k = stopped_with w0 w2 n bytes short (keeps_the
 pub stopped_at : (w0 w1 w2 : Option (List ℕ)) (n m : ℕ) (bytes more : List ℕ) → n < length bytes → Appends w0 w1 (take n bytes) → Appends w1 w2 (take m more) → m ≡ 0 → SentPart w0 w2 bytes
 stopped_at w0 w1 w2 n m bytes more short h k z = stopped_with w0 w2 n bytes short (rw (append-nil (take n bytes)) at (appends_then w0 w1 w2 _ [] h (rw z at k)))
 
-rest_whole : (done : ℕ) (bytes : List ℕ) → take (length bytes - done) (drop done bytes) ≡ drop done bytes
+pub rest_whole : (done : ℕ) (bytes : List ℕ) → take (length bytes - done) (drop done bytes) ≡ drop done bytes
 rest_whole done bytes = rw (← length-drop done bytes) (take-length (drop done bytes))
 
 -- the writer took n more bytes
@@ -82,6 +83,22 @@ pub puts_then : {T E : Type 0} (o o1 o2 : List ℕ) (w w1 w2 : Option (List ℕ)
 puts_then o o1 o2 w w1 w2 (Ok x) a b first second = put_then o o1 o2 w w1 w2 a b first second
 puts_then o o1 o2 w w1 w2 (Err e) a b first second = stops_then o o1 w w1 w2 a b first second
 
+-- a call that failed with the call that it made
+pub stopped_by : {T E : Type 0} (result : Result T E) (P : E → Type 0) (o o1 : List ℕ) (w w1 : Option (List ℕ)) (text : List ℕ)
+    → IsErrAnd result P → HasStopped o w w1 text → Puts o w result o1 w1 text
+stopped_by (Ok x) P o o1 w w1 text err h = absurd err
+stopped_by (Err e) P o o1 w w1 text err h = h
+
+pub unflushed_by : {T E : Type 0} (result : Result T E) (P : E → Type 0) (o o1 : List ℕ) (w w1 : Option (List ℕ))
+    → IsErrAnd result P → HasStopped o w w1 [] → Flushes o w result o1 w1
+unflushed_by (Ok x) P o o1 w w1 err h = absurd err
+unflushed_by (Err e) P o o1 w w1 err h = h
+
+pub unsent_by : {T E : Type 0} (result : Result T E) (P : E → Type 0) (w w1 : Option (List ℕ)) (text : List ℕ)
+    → IsErrAnd result P → SentPart w w1 text → Sent w w1 result text
+unsent_by (Ok x) P w w1 text err h = absurd err
+unsent_by (Err e) P w w1 text err h = h
+
 -- FLUSHING
 pub flushed : (o : List ℕ) (w w1 : Option (List ℕ)) (w0 : Option (List ℕ)) (text : List ℕ) → Appends w w1 o → IsUnderWay w0 w o text → Appends w0 w1 text
 flushed o w w1 w0 text h u = subst (Appends w0 w1) (sym u.whole) (appends_then w0 w w1 u.part o u.written h)
@@ -95,20 +112,35 @@ flush_stops o w w1 s w0 before u = subst (SentPart w0 w1) (sym (append-nil befor
   written = appends_then w0 w w1 u.part s.part u.written s.written;
 })
 
--- ONE BYTE
-pub put_behind : (o o1 : List ℕ) (w : Option (List ℕ)) (b : ℕ) → o1 ≡ o ++ b ∷ [] → HasPut o w o1 w (b ∷ [])
-put_behind o o1 w b e w0 before u = record {
+-- MORE BYTES, as far as there is room
+pub put_behind : (o o1 : List ℕ) (w : Option (List ℕ)) (bytes : List ℕ) → o1 ≡ o ++ bytes → HasPut o w o1 w bytes
+put_behind o o1 w bytes e w0 before u = record {
   part = u.part;
   written = u.written;
-  whole = ap (λ t. t ++ b ∷ []) u.whole ∙ append_assoc u.part o (b ∷ []) ∙ ap (λ t. u.part ++ t) (sym e);
+  whole = ap (λ t. t ++ bytes) u.whole ∙ append_assoc u.part o bytes ∙ ap (λ t. u.part ++ t) (sym e);
 }
 
-pub put_after_flush : (o o1 o2 : List ℕ) (w w1 : Option (List ℕ)) (b : ℕ) → HasFlushed o w o1 w1 → o2 ≡ o1 ++ b ∷ [] → HasPut o w o2 w1 (b ∷ [])
-put_after_flush o o1 o2 w w1 b f e w0 before u = record {
+put_after_flush : (o o1 o2 : List ℕ) (w w1 : Option (List ℕ)) (bytes : List ℕ) → HasFlushed o w o1 w1 → o2 ≡ o1 ++ bytes
+    → HasPut o w o2 w1 bytes
+put_after_flush o o1 o2 w w1 bytes f e w0 before u = record {
   part = before;
   written = f.0 w0 before u;
-  whole = ap (λ t. before ++ t) (sym (e ∙ ap (λ t. t ++ b ∷ []) f.1));
+  whole = ap (λ t. before ++ t) (sym (e ∙ ap (λ t. t ++ bytes) f.1));
 }
+
+pub put_on : (o o1 o2 o3 : List ℕ) (w w1 w2 : Option (List ℕ)) (done n : ℕ) (bytes : List ℕ)
+    → HasPut o w o1 w1 (take done bytes) → HasFlushed o1 w1 o2 w2
+    → o3 ≡ o2 ++ take n (take (length bytes - done) (drop done bytes)) → HasPut o w o3 w2 (take (done + n) bytes)
+put_on o o1 o2 o3 w w1 w2 done n bytes so_far flushed e =
+    rw (take-add done n bytes)
+    (put_then o o1 o3 w w1 w2 _ _ so_far (put_after_flush o1 o2 o3 w1 w2 _ flushed (rw (rest_whole done bytes) at e)))
+
+pub put_stops : (o o1 : List ℕ) (w w1 w2 : Option (List ℕ)) (done : ℕ) (bytes : List ℕ)
+    → HasPut o w o1 w1 (take done bytes) → HasStopped o1 w1 w2 [] → HasStopped o w w2 bytes
+put_stops o o1 w w1 w2 done bytes so_far stops =
+    let whole : (take done bytes ++ []) ++ drop done bytes ≡ bytes =
+    ap (λ t. t ++ drop done bytes) (append-nil (take done bytes)) ∙ take-append-drop done bytes in
+    subst (HasStopped o w w2) whole (stops_first o w w2 _ (drop done bytes) (stops_then o o1 w w1 w2 _ _ so_far stops))
 
 -- A REPLY
 pub sent : (o0 o1 o2 : List ℕ) (w w1 w2 : Option (List ℕ)) (text : List ℕ) → o0 ≡ [] → HasPut o0 w o1 w1 text → HasFlushed o1 w1 o2 w2 → Appends w w2 text
@@ -157,15 +189,3 @@ item_stops o o1 w w1 w2 f xs i d h so_far one =
 pub flat_map-map : {X : Type 0} (f : ℕ → List ℕ) (g : X → ℕ) (xs : List X) → flat_map f (map g xs) ≡ flat_map (λ x. f (g x)) xs
 flat_map-map f g [] = refl
 flat_map-map f g (x ∷ xs) = ap (λ t. f (g x) ++ t) (flat_map-map f g xs)
-
--- the bytes so far are put, and one more
-pub put_more : (o o1 o2 : List ℕ) (w w1 w2 : Option (List ℕ)) (bytes : List ℕ) (i : ℕ) → i < length bytes
-    → HasPut o w o1 w1 (take i bytes) → HasPut o1 w1 o2 w2 (get_or bytes i 0 ∷ []) → HasPut o w o2 w2 (take (i + 1) bytes)
-put_more o o1 o2 w w1 w2 bytes i h so_far one = subst (HasPut o w o2 w2) (sym (take_more bytes i 0 h)) (put_then o o1 o2 w w1 w2 _ _ so_far one)
-
--- one of them is not written
-pub byte_stops : (o o1 : List ℕ) (w w1 w2 : Option (List ℕ)) (bytes : List ℕ) (i : ℕ) → i < length bytes
-    → HasPut o w o1 w1 (take i bytes) → HasStopped o1 w1 w2 (get_or bytes i 0 ∷ []) → HasStopped o w w2 bytes
-byte_stops o o1 w w1 w2 bytes i h so_far one =
-    let whole : (take i bytes ++ get_or bytes i 0 ∷ []) ++ drop (i + 1) bytes ≡ bytes = ap (λ t. t ++ drop (i + 1) bytes) (sym (take_more bytes i 0 h)) ∙ take-append-drop (i + 1) bytes in
-    subst (HasStopped o w w2) whole (stops_first o w w2 _ (drop (i + 1) bytes) (stops_then o o1 w w1 w2 _ _ so_far one))

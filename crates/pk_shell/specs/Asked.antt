@@ -1,14 +1,14 @@
 -- What a line asks.
-use Rattle.std.specs.Prelude.{ℕ, ◌^◌, Bool, true, false, ◌&&◌, nat_lt, nat_le, List, [], ◌∷◌, length}
-use Rattle.std.specs.Prelude.{codes, Option, Some, None, ◌==◌, if◌then◌else◌}
+use Rattle.std.specs.Prelude.{ℕ, ◌^◌, Bool, true, false, ◌&&◌, nat_lt, nat_le, List, [], ◌∷◌}
+use Rattle.std.specs.Prelude.{length, codes, Option, Some, None, ◌==◌, if◌then◌else◌}
 use Rattle.std.specs.List.{before_first, after_first, position_or_len}
 use Rattle.std.specs.Str.{bytes_eq, all_ascii_digits}
 use Rattle.std.specs.Str.Lossy.{utf8_valid_len}
 use Rattle.std.specs.Str.Parse.{digits_value}
 use Rattle.pk_model.specs.Steps.{Request, add, delete, show, commit, count}
-use Rattle.pk_shell.specs.declared.line.TheConstants.{MAX_LINE_BYTES}
 
--- what a line asks: a refusal of the shell's own, a command, the documents of a query text, or the end
+-- what a line asks: a refusal of the shell's own, a command, the documents of a query text, or
+-- the end
 pub data Asked : Type 0 where
   refuses : (why : List ℕ) → Asked
   does : (request : Request) → Asked
@@ -66,9 +66,13 @@ asked_text line =
 unfoldable pub asked_short : List ℕ → Asked
 asked_short line = if is_text line then asked_text line else refuses (codes "not text")
 
+-- the longest line, in bytes without its line feed: an `add` with the longest text, and 60 bytes
+abbrev pub longest_line : ℕ
+longest_line = 1048640
+
 -- a line as it is held: nothing of one that is too long
 abbrev pub held_of : List ℕ → Option (List ℕ)
-held_of line = if nat_lt MAX_LINE_BYTES (length line) then None else Some line
+held_of line = if nat_lt longest_line (length line) then None else Some line
 
 -- what is held asks
 abbrev pub asked_held : Option (List ℕ) → Asked

@@ -4,6 +4,7 @@ pub mod AskView
 pub mod ReplyText
 pub mod Script
 pub mod Sending
-pub mod Said
-pub mod Talk
+pub mod Response
+pub mod Transcript
 pub mod Progress
+pub mod StoreStep

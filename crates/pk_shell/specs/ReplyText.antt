@@ -2,7 +2,8 @@
 use Rattle.std.specs.Prelude.{ℕ, List, [], ◌∷◌, ◌++◌, length, codes, decimal, Result, Ok, Err, ◌==◌}
 use Rattle.std.specs.Prelude.{if◌then◌else◌}
 use Rattle.std.specs.List.{flat_map}
-use Rattle.pk_model.specs.Steps.{Answer, added, deleted, found, text_is, committed, merged, tidied, counted}
+use Rattle.pk_model.specs.Steps.{Answer, added, deleted, found, text_is, committed, counted}
+use Rattle.pk_model.specs.Steps.{merged, tidied}
 use Rattle.pk_model.specs.declared.commands.Refusal.{Refusal}
 use Rattle.pk_model.specs.declared.commands.Refusal.TheVariants.{Reopen, TextTooLong, BufferFull}
 use Rattle.pk_model.specs.declared.commands.Refusal.TheVariants.{NumbersUsedUp, NoSuchDocument}
@@ -47,7 +48,8 @@ spaced n = codes " " ++ decimal n
 abbrev pub reply_text : Result Answer Refusal → List ℕ
 reply_text (Ok (added n)) = codes "added " ++ decimal n
 reply_text (Ok (deleted n)) = codes "deleted " ++ decimal n
-reply_text (Ok (found ns)) = codes "found " ++ (decimal (length ns) ++ (codes ":" ++ flat_map spaced ns))
+reply_text (Ok (found ns)) =
+    codes "found " ++ (decimal (length ns) ++ (codes ":" ++ flat_map spaced ns))
 reply_text (Ok (text_is text)) = codes "text " ++ flat_map escaped text
 reply_text (Ok committed) = codes "committed"
 reply_text (Ok merged) = codes "merged"

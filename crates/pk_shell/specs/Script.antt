@@ -1,6 +1,6 @@
 -- Legal scripts, over any engine: S is what it means, Step says which of its steps are legal.
-use Rattle.std.specs.Prelude.{◌≡◌, ℕ, ◌⊎◌, ◌<◌, List, [], ◌∷◌, ◌++◌, codes, length, Option}
-use Rattle.std.specs.Prelude.{Result, Ok, Err, MatchBool}
+use Rattle.std.specs.Prelude.{◌≡◌, ℕ, ◌⊎◌, ◌<◌, ◌≤◌, ◌^◌, List, [], ◌∷◌, ◌++◌, codes, length}
+use Rattle.std.specs.Prelude.{Option, Result, Ok, Err, MatchBool}
 use Rattle.std.specs.List.{flat_map, AllByRecursion}
 use Rattle.std.specs.Io.KnownBytes.{Appends, Consumes, IsAtEnd}
 use Rattle.pk_model.specs.Tree.{Tree}
@@ -14,7 +14,8 @@ use Rattle.pk_shell.specs.Lines.{lines_of, with_feed, HasNoFeed}
 use Rattle.pk_shell.specs.declared.ending.Ended.{Ended}
 use Rattle.pk_shell.specs.declared.ending.Ended.TheVariants.{Quit, InputEnd}
 use Rattle.pk_shell.specs.declared.ending.ShellFault.{ShellFault}
-use Rattle.pk_shell.specs.declared.ending.ShellFault.TheVariants.{Input, Output, TooManyReads, Memory}
+use Rattle.pk_shell.specs.declared.ending.ShellFault.TheVariants.{Input, Output, TooManyReads}
+use Rattle.pk_shell.specs.declared.ending.ShellFault.TheVariants.{Memory}
 
 -- the reply line to what a line asks, without its line feed
 abbrev pub IsReply : {S : Type 0} → (S → Request → Result Answer Refusal → S → Type 0)
@@ -23,8 +24,8 @@ IsReply Step s (refuses why) reply s' = (reply ≡ codes "refused " ++ why) × (
 IsReply Step s quits reply s' = (reply ≡ codes "bye") × (s' ≡ s)
 IsReply Step s (does request) reply s' =
     (outcome : Result Answer Refusal) × Step s request outcome s' × (reply ≡ reply_text outcome)
--- a query text that reads as a query is found, and any other gets its fault; one that reads may find
--- no memory
+-- a query text that reads as a query is found, and any other gets its fault; one that reads may
+-- find no memory
 IsReply Step s (queries text) reply s' =
     ((query : Tree) × (outcome : Result Answer Refusal) × IsQuery text query
     × Step s (find query) outcome s' × (reply ≡ reply_text outcome))
@@ -56,12 +57,12 @@ pub record Served {S : Type 0} (Step : S → Request → Result Answer Refusal �
   pub script : Script Step s (lines_of read) replies s' how
   pub written : Appends w w' (spelled replies)
 
--- at Input and TooManyReads: the replies to the whole lines read so far.
+-- at Input: the replies to the whole lines read so far.
 pub record Broken {S : Type 0} (Step : S → Request → Result Answer Refusal → S → Type 0)
     (s : S) (r r' w w' : Option (List ℕ)) (s' : S) : Type 0 where
   pub lines : List (List ℕ)
   pub rest : List ℕ
-  pub clean : AllByRecursion HasNoFeed lines × HasNoFeed rest
+  pub no_feed : AllByRecursion HasNoFeed lines × HasNoFeed rest
   pub consumed : Consumes r r' (flat_map with_feed lines ++ rest)
   pub replies : List (List ℕ)
   pub script : Script Step s lines replies s' InputEnd
@@ -76,14 +77,20 @@ pub record CutShort {S : Type 0} (Step : S → Request → Result Answer Refusal
   pub others : List (List ℕ)
   pub executed : lines_of read ≡ lines ++ others
   pub how : Ended
-  pub told : List (List ℕ)
+  pub replies : List (List ℕ)
   pub last : List ℕ
-  pub script : Script Step s lines (told ++ last ∷ []) s' how
+  pub script : Script Step s lines (replies ++ last ∷ []) s' how
   pub part : List ℕ
   pub missing : List ℕ
   pub some_missing : 0 < length missing
   pub cut : with_feed last ≡ part ++ missing
-  pub written : Appends w w' (spelled told ++ part)
+  pub written : Appends w w' (spelled replies ++ part)
+
+-- at TooManyReads: the same, and at least 2^40 bytes were read.
+pub record Overlong {S : Type 0} (Step : S → Request → Result Answer Refusal → S → Type 0)
+    (s : S) (r r' w w' : Option (List ℕ)) (s' : S) : Type 0 where
+  pub answered : Broken Step s r r' w w' s'
+  pub many : 2 ^ 40 ≤ length (flat_map with_feed answered.lines ++ answered.rest)
 
 -- at Memory: nothing was read or written
 pub record IsUntouched {S : Type 0} (s : S) (r r' w w' : Option (List ℕ)) (s' : S) : Type 0 where
@@ -97,6 +104,6 @@ abbrev pub Ends : {S : Type 0} → (S → Request → Result Answer Refusal → 
     → Result Ended ShellFault → S → Type 0
 Ends Step s r r' w w' (Ok how) s' = Served Step s r r' w w' how s'
 Ends Step s r r' w w' (Err Input) s' = Broken Step s r r' w w' s'
-Ends Step s r r' w w' (Err TooManyReads) s' = Broken Step s r r' w w' s'
+Ends Step s r r' w w' (Err TooManyReads) s' = Overlong Step s r r' w w' s'
 Ends Step s r r' w w' (Err Output) s' = CutShort Step s r r' w w' s'
 Ends Step s r r' w w' (Err Memory) s' = IsUntouched s r r' w w' s'

@@ -16,7 +16,8 @@ abbrev pub Sent : {T E : Type 0} → Option (List ℕ) → Option (List ℕ) →
     → Type 0
 Sent w w' result text = MatchResult result (λ _. Appends w w' text) (λ _. SentPart w w' text)
 
--- since the writer stood at w0 the text was put: a part of it is written, the rest waits in the outbox
+-- since the writer stood at w0 the text was put: a part of it is written, the rest waits in the
+-- outbox
 pub record IsUnderWay (w0 w : Option (List ℕ)) (outbox text : List ℕ) : Type 0 where
   pub part : List ℕ
   pub written : Appends w0 w part
@@ -33,8 +34,8 @@ HasStopped outbox w w' text = (w0 : Option (List ℕ)) (before : List ℕ)
     → IsUnderWay w0 w outbox before → SentPart w0 w' (before ++ text)
 
 -- a call puts a text, or the writer failed
-abbrev pub Puts : {T E : Type 0} → List ℕ → Option (List ℕ) → Result T E → List ℕ → Option (List ℕ)
-    → List ℕ → Type 0
+abbrev pub Puts : {T E : Type 0} → List ℕ → Option (List ℕ) → Result T E → List ℕ
+    → Option (List ℕ) → List ℕ → Type 0
 Puts outbox w result outbox' w' text =
     MatchResult result (λ _. HasPut outbox w outbox' w' text) (λ _. HasStopped outbox w w' text)
 

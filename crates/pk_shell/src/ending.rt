@@ -1,5 +1,8 @@
 //! How `serve` ends.
 
+use super::sending::Unwritten;
+use std::alloc::AllocError;
+
 /// The ends of a session that was served.
 #[derive(Clone, Copy, Debug, PartialEq, Eq)]
 pub enum Ended {
@@ -17,8 +20,30 @@ pub enum ShellFault {
     Input,
     /// A write failed or took no byte. The last reply is cut short.
     Output,
-    /// There were 2^40 reads. All whole lines that were read are answered.
+    /// There were 2^40 reads, each of a byte at least. All whole lines that were read are answered.
     TooManyReads,
     /// There was no memory for the two buffers. Nothing was read or written.
     Memory,
+}
+
+impl From<AllocError> for ShellFault {
+    ghost use Rattle.std.specs.Prelude.{◌≡◌};
+    ghost use Rattle.pk_shell.specs.declared.ending.ShellFault.TheVariants.{Memory};
+
+    ghost from_gives = { λ _ fault. fault ≡ Memory };
+
+    fn from(_error: AllocError) -> ShellFault {
+        ShellFault::Memory
+    }
+}
+
+impl From<Unwritten> for ShellFault {
+    ghost use Rattle.std.specs.Prelude.{◌≡◌};
+    ghost use Rattle.pk_shell.specs.declared.ending.ShellFault.TheVariants.{Output};
+
+    ghost from_gives = { λ _ fault. fault ≡ Output };
+
+    fn from(_error: Unwritten) -> ShellFault {
+        ShellFault::Output
+    }
 }

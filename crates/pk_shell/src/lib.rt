@@ -39,7 +39,7 @@
 //! | `InputEnd` | the reader gave no byte | the replies to all lines |
 //! | `ShellFault::Input` | a read failed | the replies to the whole lines read |
 //! | `ShellFault::Output` | a write failed or took no byte | a beginning of the replies |
-//! | `ShellFault::TooManyReads` | after 2^40 reads | the replies to the whole lines read |
+//! | `ShellFault::TooManyReads` | 2^40 bytes or more were read | those to the whole lines read |
 //! | `ShellFault::Memory` | its two buffers were not to be had | nothing, and nothing was read |
 //!
 //! In specs/, `Asked` says what a line asks, `ReplyText` how a reply is spelled, `Script` what a
@@ -56,7 +56,5 @@ mod sending;
 mod serving;
 
 pub use ending::{Ended, ShellFault};
+pub use sending::{Unwritten, write_all};
 pub use serving::serve;
-
-#[cfg(test)]
-mod tests;

@@ -3,13 +3,13 @@
 ghost use Rattle.std.specs.Prelude.{◌≡◌, IfOk, Some, []};
 ghost use Rattle.std.specs.Option.{option_copied};
 ghost use Rattle.pk_shell.specs.Asked.{is_blank};
-ghost use Rattle.pk_shell.specs.Talk.{after_byte};
+ghost use Rattle.pk_shell.specs.Transcript.{held_after};
 
 use std::alloc::{AllocError, Global};
 use std::marker::Model;
 
 /// The longest line, in bytes, without its line feed: an `add` with the longest text fits.
-pub const MAX_LINE_BYTES: usize = 1_048_640;
+const MAX_LINE_BYTES: usize = 1_048_640;
 
 /// What has come of a line so far: its bytes, or nothing of one that is too long.
 #[derive(Drop)]
@@ -25,17 +25,20 @@ impl Model for Line {
       Option,
       None,
       Some,
+      length,
       ◌≤◌,
       if◌then◌else◌,
       vec_capacity,
     };
-    ghost use Rattle.pk_shell.specs.declared.line.TheConstants.{MAX_LINE_BYTES};
+    ghost use Rattle.pk_shell.specs.Asked.{longest_line};
 
     ghost Value = { Option (List ℕ) };
 
     ghost view = { λ l. if l.is_too_long then None else Some l.bytes.items };
 
-    ghost invariant = { λ l. MAX_LINE_BYTES ≤ vec_capacity l.bytes };
+    // It takes no memory after it is made.
+    ghost invariant = { λ l. (length l.bytes.items ≤ longest_line)
+        × (longest_line ≤ vec_capacity l.bytes) };
 }
 
 impl Line {
@@ -49,18 +52,20 @@ impl Line {
         })
     }
 
-    /// Takes one more byte. The byte that makes the line too long, and all after it, are skipped.
-    pub fn push(&mut self, byte: u8)
-        ensures { self.new ≡ after_byte self.old byte }
+    /// Takes more bytes. Of a line that they make too long nothing is kept, and the rest of it is
+    /// skipped.
+    pub fn extend(&mut self, bytes: &[u8])
+        ensures { self.new ≡ held_after self.old bytes.now }
     {
-        if !self.is_too_long {
-            if self.bytes.len() < MAX_LINE_BYTES {
-                let Ok(()) = self.bytes.push(byte) else {
-                    unreachable!()
-                };
-            } else {
-                self.is_too_long = true;
-            }
+        if self.is_too_long {
+            return;
+        }
+        if bytes.len() <= MAX_LINE_BYTES - self.bytes.len() {
+            let Ok(()) = self.bytes.extend_from_slice(bytes) else {
+                unreachable!()
+            };
+        } else {
+            self.is_too_long = true;
         }
     }
 

@@ -1,6 +1,6 @@
 //! The reply that is being built.
 
-ghost use Rattle.std.specs.Prelude.{◌≡◌, ◌<◌, ◌++◌, ◌∷◌, [], length, IfOk};
+ghost use Rattle.std.specs.Prelude.{◌≡◌, ◌≤◌, ◌<◌, ◌++◌, [], length, take, IfOk};
 
 use std::alloc::{AllocError, Global};
 use std::marker::Model;
@@ -15,14 +15,16 @@ pub struct Outbox {
 }
 
 impl Model for Outbox {
-    ghost use Rattle.std.specs.Prelude.{ℕ, List, ◌≤◌, vec_capacity};
+    ghost use Rattle.std.specs.Prelude.{ℕ, List, length, ◌≤◌, vec_capacity};
     ghost use Rattle.pk_shell.specs.declared.outbox.TheConstants.{OUTBOX_BYTES};
 
     ghost Value = { List ℕ };
 
     ghost view = { λ o. o.bytes.items };
 
-    ghost invariant = { λ o. OUTBOX_BYTES ≤ vec_capacity o.bytes };
+    // It takes no memory after it is made.
+    ghost invariant = { λ o. (length o.bytes.items ≤ OUTBOX_BYTES)
+        × (OUTBOX_BYTES ≤ vec_capacity o.bytes) };
 }
 
 impl Outbox {
@@ -35,21 +37,18 @@ impl Outbox {
         })
     }
 
-    /// How many bytes wait.
-    pub fn len(&self) -> usize
-        ensures { result ≡ length self.now }
+    /// Puts as many of the bytes at the end as there is room for, and says how many.
+    pub fn fill(&mut self, bytes: &[u8]) -> usize
+        ensures within { result ≤ length bytes.now }
+        ensures filled { self.new ≡ self.old ++ take result bytes.now }
+        ensures some { self.old ≡ [] → 0 < length bytes.now → 0 < result }
     {
-        self.bytes.len()
-    }
-
-    /// Puts one more byte at the end.
-    pub fn push(&mut self, byte: u8)
-        requires { length self.old < OUTBOX_BYTES }
-        ensures { self.new ≡ self.old ++ byte ∷ [] }
-    {
-        let Ok(()) = self.bytes.push(byte) else {
+        let room = OUTBOX_BYTES - self.bytes.len();
+        let filled = bytes.len().min(room);
+        let Ok(()) = self.bytes.extend_from_slice(&bytes[..filled]) else {
             unreachable!()
         };
+        filled
     }
 
     /// The bytes that wait.

@@ -4,11 +4,11 @@ ghost use Rattle.std.specs.Prelude.{◌≡◌};
 ghost use Rattle.pk_model.specs.Steps.{add, delete, find, show, commit, count};
 ghost use Rattle.pk_model.specs.Tree.{tree_of};
 ghost use Rattle.pk_model.specs.Views.{reply_of};
-ghost use Rattle.pk_store.specs.Store.{Steps};
 ghost use Rattle.pk_shell.specs.Asked.{asked_short, queries, is_quit};
 ghost use Rattle.pk_shell.specs.AskView.{line_asks};
 ghost use Rattle.pk_shell.specs.Script.{IsReply};
-ghost use Rattle.pk_shell.specs.Said.{said_text, is_bye};
+ghost use Rattle.pk_shell.specs.Response.{response_text, is_bye};
+ghost use Rattle.pk_shell.specs.StoreStep.{StoreStep};
 
 use super::ask::{Ask, ask_of};
 use pk_disk::Disk;
@@ -17,68 +17,65 @@ use pk_query::{QueryFault, parse};
 use pk_store::Store;
 use std::alloc::Global;
 
-/// What is said to a line.
+/// What a line is answered.
 #[derive(Drop)]
-pub enum Said {
+pub enum Response {
     /// The line was `quit`.
     Bye,
     /// The line is too long.
-    TooLong,
+    LineTooLong,
     /// The line is no UTF-8 text.
     NotText,
     /// The line asks nothing that is known.
     Unknown,
     /// The query text of a `find` is no query, or there was no memory for it.
-    NoQuery(QueryFault),
+    QueryRefused(QueryFault),
     /// What the store replied.
-    Told(Reply),
+    Replied(Reply),
 }
 
-impl Said {
+impl Response {
     /// Whether it ends the session.
     pub fn is_bye(&self) -> bool
         ensures { result ≡ is_bye self.now }
     {
-        matches!(self, Said::Bye)
+        matches!(self, Response::Bye)
     }
 }
 
 /// Answers a line that is not too long.
-pub fn reply_to<D: Disk>(alloc: Global, store: &mut Store<D>, line: &[u8]) -> Said
-    ensures reply { IsReply (Steps D.honest D.content D.is_open D.moment D.images_since
-        D.failed_reads D.failed_writes) store.old (asked_short line.now)
-        (said_text result) store.new }
+pub fn answer_to<D: Disk>(alloc: Global, store: &mut Store<D>, line: &[u8]) -> Response
+    ensures reply { IsReply (StoreStep D.Disk) store.old (asked_short line.now)
+        (response_text result) store.new }
     ensures bye { is_bye result ≡ is_quit (asked_short line.now) }
 {
     match str::from_utf8(line) {
-        Ok(line) => reply_to_ask(alloc, store, ask_of(line)),
-        Err(_) => Said::NotText,
+        Ok(line) => answer_ask(alloc, store, ask_of(line)),
+        Err(_) => Response::NotText,
     }
 }
 
 /// Answers what a line asks.
-fn reply_to_ask<D: Disk>(alloc: Global, store: &mut Store<D>, ask: Ask<'_>) -> Said
-    ensures reply { IsReply (Steps D.honest D.content D.is_open D.moment D.images_since
-        D.failed_reads D.failed_writes) store.old (line_asks ask.entry)
-        (said_text result) store.new }
+fn answer_ask<D: Disk>(alloc: Global, store: &mut Store<D>, ask: Ask<'_>) -> Response
+    ensures reply { IsReply (StoreStep D.Disk) store.old (line_asks ask.entry)
+        (response_text result) store.new }
     ensures bye { is_bye result ≡ is_quit (line_asks ask.entry) }
 {
     match ask {
-        Ask::Add(text) => Said::Told(added(alloc, store, text)),
-        Ask::Delete(number) => Said::Told(deleted(alloc, store, number)),
-        Ask::Find(text) => found(alloc, store, text),
-        Ask::Show(number) => Said::Told(shown(alloc, store, number)),
-        Ask::Commit => Said::Told(committed(alloc, store)),
-        Ask::Count => Said::Told(counted(store)),
-        Ask::Quit => Said::Bye,
-        Ask::Unknown => Said::Unknown,
+        Ask::Add(text) => Response::Replied(reply_to_add(alloc, store, text)),
+        Ask::Delete(number) => Response::Replied(reply_to_delete(alloc, store, number)),
+        Ask::Find(text) => answer_find(alloc, store, text),
+        Ask::Show(number) => Response::Replied(reply_to_show(alloc, store, number)),
+        Ask::Commit => Response::Replied(reply_to_commit(alloc, store)),
+        Ask::Count => Response::Replied(reply_to_count(store)),
+        Ask::Quit => Response::Bye,
+        Ask::Unknown => Response::Unknown,
     }
 }
 
 /// The reply to `add`.
-fn added<D: Disk>(alloc: Global, store: &mut Store<D>, text: &str) -> Reply
-    ensures { Steps D.honest D.content D.is_open D.moment D.images_since D.failed_reads
-        D.failed_writes store.old (add text.now) (reply_of result) store.new }
+fn reply_to_add<D: Disk>(alloc: Global, store: &mut Store<D>, text: &str) -> Reply
+    ensures { StoreStep D.Disk store.old (add text.now) (reply_of result) store.new }
 {
     match store.add(alloc, text) {
         Ok(number) => Reply::Added(number),
@@ -87,9 +84,8 @@ fn added<D: Disk>(alloc: Global, store: &mut Store<D>, text: &str) -> Reply
 }
 
 /// The reply to `delete`.
-fn deleted<D: Disk>(alloc: Global, store: &mut Store<D>, number: DocNo) -> Reply
-    ensures { Steps D.honest D.content D.is_open D.moment D.images_since D.failed_reads
-        D.failed_writes store.old (delete number.0) (reply_of result) store.new }
+fn reply_to_delete<D: Disk>(alloc: Global, store: &mut Store<D>, number: DocNo) -> Reply
+    ensures { StoreStep D.Disk store.old (delete number.0) (reply_of result) store.new }
 {
     match store.delete(alloc, number) {
         Ok(()) => Reply::Deleted(number),
@@ -97,23 +93,21 @@ fn deleted<D: Disk>(alloc: Global, store: &mut Store<D>, number: DocNo) -> Reply
     }
 }
 
-/// The reply to `find`: the query text is judged before the store is asked.
-fn found<D: Disk>(alloc: Global, store: &mut Store<D>, text: &str) -> Said
-    ensures reply { IsReply (Steps D.honest D.content D.is_open D.moment D.images_since
-        D.failed_reads D.failed_writes) store.old
-        (queries text.now) (said_text result) store.new }
+/// Answers `find`: the query text is judged before the store is asked.
+fn answer_find<D: Disk>(alloc: Global, store: &mut Store<D>, text: &str) -> Response
+    ensures reply { IsReply (StoreStep D.Disk) store.old
+        (queries text.now) (response_text result) store.new }
     ensures bye { is_bye result ≡ is_quit (queries text.now) }
 {
     match parse(alloc, text) {
-        Ok(query) => Said::Told(found_for(alloc, store, &query)),
-        Err(fault) => Said::NoQuery(fault),
+        Ok(query) => Response::Replied(reply_to_query(alloc, store, &query)),
+        Err(fault) => Response::QueryRefused(fault),
     }
 }
 
 /// The reply to a query.
-fn found_for<D: Disk>(alloc: Global, store: &mut Store<D>, query: &Query) -> Reply
-    ensures { Steps D.honest D.content D.is_open D.moment D.images_since D.failed_reads
-        D.failed_writes store.old (find (tree_of query.now)) (reply_of result) store.new }
+fn reply_to_query<D: Disk>(alloc: Global, store: &mut Store<D>, query: &Query) -> Reply
+    ensures { StoreStep D.Disk store.old (find (tree_of query.now)) (reply_of result) store.new }
 {
     match store.find(alloc, query) {
         Ok(numbers) => Reply::Found(numbers),
@@ -122,9 +116,8 @@ fn found_for<D: Disk>(alloc: Global, store: &mut Store<D>, query: &Query) -> Rep
 }
 
 /// The reply to `show`.
-fn shown<D: Disk>(alloc: Global, store: &mut Store<D>, number: DocNo) -> Reply
-    ensures { Steps D.honest D.content D.is_open D.moment D.images_since D.failed_reads
-        D.failed_writes store.old (show number.0) (reply_of result) store.new }
+fn reply_to_show<D: Disk>(alloc: Global, store: &mut Store<D>, number: DocNo) -> Reply
+    ensures { StoreStep D.Disk store.old (show number.0) (reply_of result) store.new }
 {
     match store.show(alloc, number) {
         Ok(text) => Reply::Text(text),
@@ -133,9 +126,8 @@ fn shown<D: Disk>(alloc: Global, store: &mut Store<D>, number: DocNo) -> Reply
 }
 
 /// The reply to `commit`.
-fn committed<D: Disk>(alloc: Global, store: &mut Store<D>) -> Reply
-    ensures { Steps D.honest D.content D.is_open D.moment D.images_since D.failed_reads
-        D.failed_writes store.old commit (reply_of result) store.new }
+fn reply_to_commit<D: Disk>(alloc: Global, store: &mut Store<D>) -> Reply
+    ensures { StoreStep D.Disk store.old commit (reply_of result) store.new }
 {
     match store.commit(alloc) {
         Ok(()) => Reply::Committed,
@@ -144,9 +136,8 @@ fn committed<D: Disk>(alloc: Global, store: &mut Store<D>) -> Reply
 }
 
 /// The reply to `count`.
-fn counted<D: Disk>(store: &Store<D>) -> Reply
-    ensures { Steps D.honest D.content D.is_open D.moment D.images_since D.failed_reads
-        D.failed_writes store.now count (reply_of result) store.now }
+fn reply_to_count<D: Disk>(store: &Store<D>) -> Reply
+    ensures { StoreStep D.Disk store.now count (reply_of result) store.now }
 {
     match store.counts() {
         Ok(counts) => Reply::Counted(counts),

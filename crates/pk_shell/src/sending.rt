@@ -1,7 +1,8 @@
 //! Replies to a writer. No call here takes memory.
 
-ghost use Rattle.std.specs.Prelude.{◌≡◌, ◌++◌, ◌∷◌, [], codes, decimal, map, length};
+ghost use Rattle.std.specs.Prelude.{◌≡◌, ◌++◌, true, codes, decimal, map, length};
 ghost use Rattle.std.specs.List.{flat_map};
+ghost use Rattle.memchr.specs.Find.{is_byte2};
 ghost use Rattle.pk_model.specs.Views.{reply_of, numbers_in};
 ghost use Rattle.pk_shell.specs.ReplyText.{
   reply_text,
@@ -11,12 +12,13 @@ ghost use Rattle.pk_shell.specs.ReplyText.{
   escaped,
 };
 ghost use Rattle.pk_shell.specs.Sending.{Sent, Puts, Flushes};
-ghost use Rattle.pk_shell.specs.Said.{said_text};
+ghost use Rattle.pk_shell.specs.Response.{response_text};
 ghost use Rattle.pk_shell.specs.Lines.{with_feed};
 
-use super::outbox::{OUTBOX_BYTES, Outbox};
-use super::reply::Said;
+use super::outbox::Outbox;
+use super::reply::Response;
 use itoa::Buffer;
+use memchr::memchr2;
 use pk_model::{DocNo, Refusal, Reply};
 use pk_query::QueryFault;
 use std::io::Write;
@@ -25,8 +27,8 @@ use std::io::Write;
 #[derive(Clone, Copy, Debug)]
 pub struct Unwritten;
 
-/// Writes all the bytes, or a part of them.
-fn write_all<W: Write>(writer: &mut W, bytes: &[u8]) -> Result<(), Unwritten>
+/// Writes all the bytes, or a part of them where the writer fails or takes no byte.
+pub fn write_all<W: Write>(writer: &mut W, bytes: &[u8]) -> Result<(), Unwritten>
     ensures { Sent (W.contents writer.old) (W.contents writer.new) result bytes.now }
 {
     let mut done = 0;
@@ -44,38 +46,20 @@ fn write_all<W: Write>(writer: &mut W, bytes: &[u8]) -> Result<(), Unwritten>
 fn flush<W: Write>(outbox: &mut Outbox, writer: &mut W) -> Result<(), Unwritten>
     ensures { Flushes outbox.old (W.contents writer.old) result outbox.new (W.contents writer.new) }
 {
-    let Ok(()) = write_all(writer, outbox.as_slice()) else {
-        return Err(Unwritten);
-    };
+    write_all(writer, outbox.as_slice())?;
     outbox.clear();
     Ok(())
 }
 
-/// Puts one byte behind what waits, which is written first where no room is left.
-fn put_byte<W: Write>(outbox: &mut Outbox, writer: &mut W, byte: u8) -> Result<(), Unwritten>
-    ensures { Puts outbox.old (W.contents writer.old) result outbox.new (W.contents writer.new)
-        (byte ∷ []) }
-{
-    if outbox.len() < OUTBOX_BYTES {
-        outbox.push(byte);
-        return Ok(());
-    }
-    let Ok(()) = flush(outbox, writer) else {
-        return Err(Unwritten);
-    };
-    outbox.push(byte);
-    Ok(())
-}
-
-/// Puts the bytes.
+/// Puts the bytes. What waits is written first where there is no room for them.
 fn put<W: Write>(outbox: &mut Outbox, writer: &mut W, bytes: &[u8]) -> Result<(), Unwritten>
     ensures { Puts outbox.old (W.contents writer.old) result outbox.new (W.contents writer.new)
         bytes.now }
 {
-    for byte in bytes {
-        let Ok(()) = put_byte(outbox, writer, *byte) else {
-            return Err(Unwritten);
-        };
+    let mut done = outbox.fill(bytes);
+    while done < bytes.len() {
+        flush(outbox, writer)?;
+        done += outbox.fill(&bytes[done..]);
     }
     Ok(())
 }
@@ -91,9 +75,7 @@ fn put_number<W: Write>(
         (text.now ++ decimal number) }
 {
     let mut buffer = Buffer::new();
-    let Ok(()) = put(outbox, writer, text) else {
-        return Err(Unwritten);
-    };
+    put(outbox, writer, text)?;
     put(outbox, writer, buffer.format(number).as_bytes())
 }
 
@@ -109,9 +91,7 @@ fn put_pair<W: Write>(
     ensures { Puts outbox.old (W.contents writer.old) result outbox.new (W.contents writer.new)
         (text.now ++ decimal number ++ (then.now ++ decimal other)) }
 {
-    let Ok(()) = put_number(outbox, writer, text, number) else {
-        return Err(Unwritten);
-    };
+    put_number(outbox, writer, text, number)?;
     put_number(outbox, writer, then, other)
 }
 
@@ -125,9 +105,7 @@ fn put_numbers<W: Write>(
         (flat_map spaced (numbers_in numbers.now)) }
 {
     for number in numbers {
-        let Ok(()) = put_number(outbox, writer, b" ", number.0 as u64) else {
-            return Err(Unwritten);
-        };
+        put_number(outbox, writer, b" ", number.0 as u64)?;
     }
     Ok(())
 }
@@ -142,44 +120,31 @@ fn put_found<W: Write>(
         (codes "found " ++ decimal (length numbers.now)
         ++ (codes ":" ++ flat_map spaced (numbers_in numbers.now))) }
 {
-    let Ok(()) = put_number(outbox, writer, b"found ", numbers.len() as u64) else {
-        return Err(Unwritten);
-    };
-    let Ok(()) = put(outbox, writer, b":") else {
-        return Err(Unwritten);
-    };
+    put_number(outbox, writer, b"found ", numbers.len() as u64)?;
+    put(outbox, writer, b":")?;
     put_numbers(outbox, writer, numbers)
 }
 
-/// Puts a byte of a text, a line feed and a backslash spelled out.
-fn put_escaped_byte<W: Write>(
-    outbox: &mut Outbox,
-    writer: &mut W,
-    byte: u8,
-) -> Result<(), Unwritten>
-    ensures { Puts outbox.old (W.contents writer.old) result outbox.new (W.contents writer.new)
-        (escaped byte) }
+/// How a line feed or a backslash is written in a text.
+fn escape(byte: u8) -> &'static [u8]
+    requires { is_byte2 10 92 byte ≡ true }
+    ensures { result.now ≡ escaped byte }
 {
-    if byte == b'\n' {
-        return put(outbox, writer, b"\\n");
-    }
-    if byte == b'\\' {
-        return put(outbox, writer, b"\\\\");
-    }
-    put_byte(outbox, writer, byte)
+    if byte == b'\n' { b"\\n" } else { b"\\\\" }
 }
 
-/// Puts a text, its line feeds and backslashes spelled out.
+/// Puts a text, its line feeds and backslashes escaped.
 fn put_escaped<W: Write>(outbox: &mut Outbox, writer: &mut W, text: &[u8]) -> Result<(), Unwritten>
     ensures { Puts outbox.old (W.contents writer.old) result outbox.new (W.contents writer.new)
         (flat_map escaped text.now) }
 {
-    for byte in text {
-        let Ok(()) = put_escaped_byte(outbox, writer, *byte) else {
-            return Err(Unwritten);
-        };
+    let mut rest = text;
+    'escapes: while let Some(at) = memchr2(b'\n', b'\\', rest) {
+        put(outbox, writer, &rest[..at])?;
+        put(outbox, writer, escape(rest[at]))?;
+        rest = &rest[at + 1..];
     }
-    Ok(())
+    put(outbox, writer, rest)
 }
 
 /// Puts a document's text.
@@ -187,9 +152,7 @@ fn put_text<W: Write>(outbox: &mut Outbox, writer: &mut W, text: &[u8]) -> Resul
     ensures { Puts outbox.old (W.contents writer.old) result outbox.new (W.contents writer.new)
         (codes "text " ++ flat_map escaped text.now) }
 {
-    let Ok(()) = put(outbox, writer, b"text ") else {
-        return Err(Unwritten);
-    };
+    put(outbox, writer, b"text ")?;
     put_escaped(outbox, writer, text)
 }
 
@@ -272,40 +235,48 @@ fn put_reply<W: Write>(outbox: &mut Outbox, writer: &mut W, reply: &Reply) -> Re
     }
 }
 
-/// Puts what is said to a line.
-fn put_said<W: Write>(outbox: &mut Outbox, writer: &mut W, said: &Said) -> Result<(), Unwritten>
+/// Puts what a line is answered.
+fn put_response<W: Write>(
+    outbox: &mut Outbox,
+    writer: &mut W,
+    response: &Response,
+) -> Result<(), Unwritten>
     ensures { Puts outbox.old (W.contents writer.old) result outbox.new (W.contents writer.new)
-        (said_text said.now) }
+        (response_text response.now) }
 {
-    match said {
-        Said::Bye => put(outbox, writer, b"bye"),
-        Said::TooLong => put(outbox, writer, b"refused line too long"),
-        Said::NotText => put(outbox, writer, b"refused not text"),
-        Said::Unknown => put(outbox, writer, b"refused unknown"),
-        Said::NoQuery(fault) => put_fault(outbox, writer, *fault),
-        Said::Told(reply) => put_reply(outbox, writer, reply),
+    match response {
+        Response::Bye => put(outbox, writer, b"bye"),
+        Response::LineTooLong => put(outbox, writer, b"refused line too long"),
+        Response::NotText => put(outbox, writer, b"refused not text"),
+        Response::Unknown => put(outbox, writer, b"refused unknown"),
+        Response::QueryRefused(fault) => put_fault(outbox, writer, *fault),
+        Response::Replied(reply) => put_reply(outbox, writer, reply),
     }
 }
 
-/// Puts what is said and its line feed.
-fn put_line<W: Write>(outbox: &mut Outbox, writer: &mut W, said: &Said) -> Result<(), Unwritten>
+/// Puts what a line is answered, and a line feed.
+fn put_line<W: Write>(
+    outbox: &mut Outbox,
+    writer: &mut W,
+    response: &Response,
+) -> Result<(), Unwritten>
     ensures { Puts outbox.old (W.contents writer.old) result outbox.new (W.contents writer.new)
-        (with_feed (said_text said.now)) }
+        (with_feed (response_text response.now)) }
 {
-    let Ok(()) = put_said(outbox, writer, said) else {
-        return Err(Unwritten);
-    };
-    put_byte(outbox, writer, b'\n')
+    put_response(outbox, writer, response)?;
+    put(outbox, writer, b"\n")
 }
 
 /// Writes a reply line: in one call, where it is not longer than the outbox.
-pub fn send<W: Write>(outbox: &mut Outbox, writer: &mut W, said: &Said) -> Result<(), Unwritten>
+pub fn send<W: Write>(
+    outbox: &mut Outbox,
+    writer: &mut W,
+    response: &Response,
+) -> Result<(), Unwritten>
     ensures { Sent (W.contents writer.old) (W.contents writer.new) result
-        (with_feed (said_text said.now)) }
+        (with_feed (response_text response.now)) }
 {
     outbox.clear();
-    let Ok(()) = put_line(outbox, writer, said) else {
-        return Err(Unwritten);
-    };
+    put_line(outbox, writer, response)?;
     flush(outbox, writer)
 }

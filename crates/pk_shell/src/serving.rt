@@ -1,16 +1,16 @@
 //! Lines from a reader, replies to a writer.
 
-ghost use Rattle.std.specs.Prelude.{[], ◌∷◌};
-ghost use Rattle.pk_store.specs.Store.{Steps};
 ghost use Rattle.pk_shell.specs.Asked.{asked_held};
 ghost use Rattle.pk_shell.specs.Script.{Ends};
-ghost use Rattle.pk_shell.specs.Talk.{Answers, Hears};
+ghost use Rattle.pk_shell.specs.StoreStep.{StoreStep};
+ghost use Rattle.pk_shell.specs.Transcript.{AnswersLine, AnswersLines};
 
 use super::ending::{Ended, ShellFault};
 use super::line::Line;
 use super::outbox::Outbox;
-use super::reply::{Said, reply_to};
+use super::reply::{Response, answer_to};
 use super::sending::{Unwritten, send};
+use memchr::memchr;
 use pk_disk::Disk;
 use pk_store::Store;
 use std::alloc::Global;
@@ -23,54 +23,28 @@ const MAX_READS: u64 = 1 << 40;
 const CHUNK_BYTES: usize = 16_384;
 
 /// Answers what is held of a line, and says whether it was a quit.
-fn answer<W: Write, D: Disk>(
+fn answer_line<W: Write, D: Disk>(
     alloc: Global,
     line: &Line,
     outbox: &mut Outbox,
     store: &mut Store<D>,
     writer: &mut W,
 ) -> Result<bool, Unwritten>
-    ensures { Answers (Steps D.honest D.content D.is_open D.moment D.images_since
-        D.failed_reads D.failed_writes) (asked_held line.now) store.old store.new
+    ensures { AnswersLine (StoreStep D.Disk) (asked_held line.now) store.old store.new
         (W.contents writer.old) (W.contents writer.new) result }
 {
-    let said = match line.held() {
-        Some(bytes) => reply_to(alloc, store, bytes),
-        None => Said::TooLong,
+    let response = match line.held() {
+        Some(bytes) => answer_to(alloc, store, bytes),
+        None => Response::LineTooLong,
     };
-    let quits = said.is_bye();
-    let Ok(()) = send(outbox, writer, &said) else {
-        return Err(Unwritten);
-    };
+    let quits = response.is_bye();
+    send(outbox, writer, &response)?;
     Ok(quits)
 }
 
-/// Takes in one more byte, and answers the line that it ends.
-fn hear<W: Write, D: Disk>(
-    alloc: Global,
-    line: &mut Line,
-    outbox: &mut Outbox,
-    store: &mut Store<D>,
-    writer: &mut W,
-    byte: u8,
-) -> Result<bool, Unwritten>
-    ensures { Hears (Steps D.honest D.content D.is_open D.moment D.images_since
-        D.failed_reads D.failed_writes) line.old store.old (W.contents writer.old) (byte ∷ [])
-        result line.new store.new (W.contents writer.new) }
-{
-    if byte != b'\n' {
-        line.push(byte);
-        return Ok(false);
-    }
-    let Ok(quits) = answer(alloc, line, outbox, store, writer) else {
-        return Err(Unwritten);
-    };
-    line.clear();
-    Ok(quits)
-}
-
-/// Takes in more bytes and answers the lines that end in them. It stops at a quit.
-fn feed<W: Write, D: Disk>(
+/// Takes in more bytes, answers each line that ends in them, and keeps what follows the last line
+/// feed. It stops at a quit, and says whether there was one.
+fn answer_lines<W: Write, D: Disk>(
     alloc: Global,
     line: &mut Line,
     outbox: &mut Outbox,
@@ -78,18 +52,20 @@ fn feed<W: Write, D: Disk>(
     writer: &mut W,
     chunk: &[u8],
 ) -> Result<bool, Unwritten>
-    ensures { Hears (Steps D.honest D.content D.is_open D.moment D.images_since
-        D.failed_reads D.failed_writes) line.old store.old (W.contents writer.old) chunk.now
+    ensures { AnswersLines (StoreStep D.Disk) line.old store.old (W.contents writer.old) chunk.now
         result line.new store.new (W.contents writer.new) }
 {
-    for byte in chunk {
-        let Ok(quits) = hear(alloc, line, outbox, store, writer, *byte) else {
-            return Err(Unwritten);
-        };
+    let mut rest = chunk;
+    'lines: while let Some(end) = memchr(b'\n', rest) {
+        line.extend(&rest[..end]);
+        let quits = answer_line(alloc, line, outbox, store, writer)?;
+        line.clear();
         if quits {
             return Ok(true);
         }
+        rest = &rest[end + 1..];
     }
+    line.extend(rest);
     Ok(false)
 }
 
@@ -105,16 +81,11 @@ pub fn serve<R: Read, W: Write, D: Disk>(
     writer: &mut W,
     store: &mut Store<D>,
 ) -> Result<Ended, ShellFault>
-    ensures { Ends (Steps D.honest D.content D.is_open D.moment D.images_since
-        D.failed_reads D.failed_writes) store.old (R.remaining reader.old) (R.remaining reader.new)
+    ensures { Ends (StoreStep D.Disk) store.old (R.remaining reader.old) (R.remaining reader.new)
         (W.contents writer.old) (W.contents writer.new) result store.new }
 {
-    let Ok(mut line) = Line::new(alloc) else {
-        return Err(ShellFault::Memory);
-    };
-    let Ok(mut outbox) = Outbox::new(alloc) else {
-        return Err(ShellFault::Memory);
-    };
+    let mut line = Line::new(alloc)?;
+    let mut outbox = Outbox::new(alloc)?;
     let mut chunk = [0u8; CHUNK_BYTES];
     for _ in 0..MAX_READS {
         match reader.read(&mut chunk) {
@@ -123,20 +94,14 @@ pub fn serve<R: Read, W: Write, D: Disk>(
                 if line.is_blank() {
                     return Ok(Ended::InputEnd);
                 }
-                let Ok(quits) = answer(alloc, &line, &mut outbox, store, writer) else {
-                    return Err(ShellFault::Output);
-                };
+                let quits = answer_line(alloc, &line, &mut outbox, store, writer)?;
                 if quits {
                     return Ok(Ended::Quit);
                 }
                 return Ok(Ended::InputEnd);
             }
             Ok(n) => {
-                let Ok(quit) = feed(alloc, &mut line, &mut outbox, store, writer, &chunk[..n])
-                else {
-                    return Err(ShellFault::Output);
-                };
-                if quit {
+                if answer_lines(alloc, &mut line, &mut outbox, store, writer, &chunk[..n])? {
                     return Ok(Ended::Quit);
                 }
             }

@@ -2,3 +2,4 @@
 pub mod Free
 pub mod Runs
 pub mod Space
+pub mod Places

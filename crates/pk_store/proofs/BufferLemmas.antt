@@ -7,7 +7,7 @@ use Rattle.std.proofs.lemmas.Grind.{common_steps}
 use Rattle.pk_model.specs.declared.commands.Refusal.{Refusal}
 use Rattle.pk_model.specs.declared.commands.Refusal.TheVariants.{TextTooLong, BufferFull, NumbersUsedUp}
 use Rattle.pk_model.specs.Collection.{Doc, is_live, has_number}
-use Rattle.pk_store.specs.Store.{IsBuffered}
+use Rattle.pk_store.specs.View.{IsBuffered}
 
 -- what refuses an addition, by the documents themselves
 abbrev pub due_here : ℕ → List Doc → List ℕ → Option Refusal

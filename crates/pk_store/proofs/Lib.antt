@@ -1,21 +1,12 @@
 -- The lemma pages.
 pub mod BufferLemmas
-pub mod ClaimLemmas
-pub mod CourseLemmas
-pub mod HeldLemmas
-pub mod ExtentLemmas
-pub mod CallerLemmas
-pub mod StoredLemmas
-pub mod PlaceLemmas
 pub mod StoreSteps
-pub mod LiveLemmas
-pub mod FindingLemmas
 pub mod ReadSteps
+pub mod RunLemmas
 pub mod OpeningLemmas
 pub mod CreatingLemmas
+pub mod ExtentLemmas
+pub mod BodyLemmas
 pub mod PlanLemmas
-pub mod NextLemmas
-pub mod CommitSteps
 pub mod CarryLemmas
-pub mod CommitRefusals
-pub mod RunLemmas
+pub mod CommitSteps

@@ -1,12 +1,13 @@
 -- What opening rests on: which segments the entries of a body open as, and what that makes of the store.
-use Rattle.std.proofs.Common.{◌≡◌, ℕ, suc, ◌+◌, ◌-◌, ◌*◌, ◌<◌, ◌≤◌, ◌^◌, ◌&&◌, not, leb, eqb, Bool, true, false, List, [], ◌∷◌, ◌++◌, length, drop, refl, sym, ap, ◌∙◌, subst, arith, append_assoc, append-nil, add-one, drop-cons, length-drop, Result, Ok, Err, Some, None}
-use Rattle.std.specs.Prelude.{All, filter, slice_index, slice_index_or}
-use Rattle.std.specs.List.{flat_map, list_all}
+use Rattle.std.proofs.Common.{◌≡◌, ℕ, suc, ◌+◌, ◌-◌, ◌*◌, ◌<◌, ◌≤◌, ◌^◌, ◌&&◌, leb, eqb, true, List, [], ◌∷◌, ◌++◌, length, drop, refl, sym, ap, ◌∙◌, subst, arith, append_assoc, append-nil, add-one, drop-cons, length-drop, Result, Ok, Err, Option, Some, None}
+use Rattle.std.specs.Prelude.{All, slice_index, slice_index_or}
+use Rattle.std.specs.List.{list_all}
 use Rattle.std.specs.List.Sorted.{IsStrictlyIncreasing}
 use Rattle.std.proofs.lemmas.Bool.{and_parts, leb-true}
 use Rattle.std.proofs.lemmas.List.{drop_all, length-map, length-take-le}
-use Rattle.std.proofs.lemmas.List.Concat.{flat_map-cons}
 use Rattle.std.proofs.lemmas.List.Elements.{All-head, All-nil, All-tail}
+use Rattle.pk_disk.specs.declared.disk.Disk.{Ghosts}
+use Rattle.pk_disk.specs.declared.units.Extent.{Extent}
 use Rattle.pk_disk.specs.Disk.{nowhere}
 use Rattle.pk_disk.specs.Units.{apart, extent_bytes, overlap, start_of}
 use Rattle.pk_manifest.specs.declared.fault.ManifestFault.{ManifestFault}
@@ -16,10 +17,9 @@ use Rattle.pk_manifest.specs.declared.manifest.Part.{Part as Entry}
 use Rattle.pk_manifest.specs.Bodies.{other}
 use Rattle.pk_manifest.specs.Current.{FaultAs, HasBody, units_of_disk}
 use Rattle.pk_manifest.specs.Sound.{IsBody, is_part, is_sound, named, same_segment}
-use Rattle.pk_manifest.specs.Spelling.{Body as Table}
+use Rattle.pk_manifest.specs.Spelling.{Body}
 use Rattle.pk_manifest.proofs.Fields.{one_body_in_force}
 use Rattle.pk_manifest.proofs.Firm.{firm_shut}
-use Rattle.pk_model.specs.Body.{collection_of, lists, live_of}
 use Rattle.pk_model.specs.Collection.{Collection, Doc, IsCollection, numbers_of}
 use Rattle.pk_segment.specs.declared.header.Header.{Header}
 use Rattle.pk_segment.specs.declared.segment.Segment.{Segment}
@@ -28,15 +28,22 @@ use Rattle.pk_segment.specs.Opened.{IsOpened, IsSegmentOf, first_of, last_of}
 use Rattle.pk_segment.specs.Plain.{PlainSpells, texts}
 use Rattle.pk_segment.proofs.OpeningLemmas.{counted, in_order, long_enough, number_there, texts_counted, whole}
 use Rattle.pk_segment.proofs.PlainLemmas.{length_parts, length_plain}
+use Rattle.pk_store.specs.declared.opening.Found.{Found}
 use Rattle.pk_store.specs.declared.refused.OpenFault.{OpenFault}
-use Rattle.pk_store.specs.declared.refused.OpenFault.TheVariants.{TooSmall, AlreadyAStore, NotAStore, Damaged, Disk, Memory}
-use Rattle.pk_store.specs.Judging.{IsOpenSoFar, OpensNext, SegmentAs, SegmentsAs, body_fault}
-use Rattle.pk_store.specs.Kept.{AreSegments, IsReady, LieInside}
-use Rattle.pk_store.specs.Opening.{IsNoStoreFault, IsStoreOf, OpenAsSegments, OpensAs, OpensAsSegment, RefusesOpening}
-use Rattle.pk_store.specs.Store.{IsBuffered, Shown, state_with}
-use Rattle.pk_store.specs.Stored.{Holds, SpellsEntries, body_with, part_of, parts_of}
-use Rattle.pk_store.proofs.ExtentLemmas.{units_room}
-use Rattle.pk_store.proofs.StoredLemmas.{kept_closed, lie_inside}
+use Rattle.pk_store.specs.declared.refused.OpenFault.TheVariants.{TooSmall, NotAStore, Damaged, Disk, Memory}
+use Rattle.pk_store.specs.Judging.{JudgesFound, IsLarge, IsOpenSoFar, OpensNext, SegmentAs, SegmentsAs, body_fault}
+use Rattle.pk_store.specs.Opening.{IsFresh, IsNoStoreFault, IsStoreOf, IsUncalled, OnSynced, OpenAsSegments, OpensAsStore, OpensAsSegment, RefusesOpening}
+use Rattle.pk_store.specs.View.{IsBuffered, IsReady, StoreView, committed_by, state_with, volume_of}
+use Rattle.pk_store.proofs.StoreSteps.{clear_flag}
+use Rattle.pk_state.specs.Committed.{Stored, collection_of, live_in}
+use Rattle.pk_state.specs.Holds.{Holds, ListSpells, SpellsEntries}
+use Rattle.pk_state.specs.Kept.{AreSegments, LieInside}
+use Rattle.pk_state.proofs.HoldsLemmas.{kept_closed, lie_inside, units_room}
+use Rattle.pk_search.specs.Finding.{all_of}
+use Rattle.pk_search.proofs.FindingLemmas.{live_documents}
+
+abbrev collection : ℕ → List Doc → Collection
+collection next docs = record { next = next; documents = docs }
 
 -- ---- one segment
 
@@ -49,7 +56,6 @@ same_ends bytes size kind s t a b =
 -- a fault of an entry is one of its segment with bounds
 pub fault_next : (bytes : List ℕ) (low next : ℕ) (e : Entry) (why : OpenFault) → SegmentAs (OpensAsSegment bytes e) (Err why) → SegmentAs (OpensNext bytes low next e) (Err why)
 fault_next bytes low next e TooSmall h = h
-fault_next bytes low next e AlreadyAStore h = h
 fault_next bytes low next e NotAStore h = h
 fault_next bytes low next e Damaged h = λ s opens. h s opens.0
 fault_next bytes low next e Disk h = tt
@@ -89,7 +95,7 @@ abbrev pub no_entry : Entry
 no_entry = record { segment = 0; extent = record { first = 0; units = 0; bytes = 0 }; kind = 0; dead = None }
 
 -- The same, by the place of the next entry, of bytes and entries that are read again as they were.
-module _ (bytes : List ℕ) (table : Table) (low : ℕ) (segments : List Segment) (i : ℕ) (lt : i < length table.entries) (before : IsOpenSoFar bytes table.next_number table.entries low segments (drop i table.entries))
+module _ (bytes : List ℕ) (table : Body) (low : ℕ) (segments : List Segment) (i : ℕ) (lt : i < length table.entries) (before : IsOpenSoFar bytes table.next_number table.entries low segments (drop i table.entries))
     (here : List ℕ) (same : here ≡ bytes) (entries : List Entry) (all : entries ≡ table.entries) where
   ahead : IsOpenSoFar bytes table.next_number table.entries low segments (slice_index_or table.entries i no_entry ∷ drop (i + 1) table.entries)
   ahead = subst (IsOpenSoFar bytes table.next_number table.entries low segments) (drop-cons table.entries i no_entry lt ∙ (rw add-one refl)) before
@@ -103,7 +109,6 @@ module _ (bytes : List ℕ) (table : Table) (low : ℕ) (segments : List Segment
 
   fault_here : (why : OpenFault) → SegmentAs (OpensNext bytes low table.next_number (slice_index_or table.entries i no_entry)) (Err why) → SegmentsAs bytes table (Err why)
   fault_here TooSmall h = h
-  fault_here AlreadyAStore h = h
   fault_here NotAStore h = h
   fault_here Damaged h = none_open bytes table.next_number table.entries low segments (slice_index_or table.entries i no_entry) (drop (i + 1) table.entries) ahead h
   fault_here Disk h = tt
@@ -113,13 +118,13 @@ module _ (bytes : List ℕ) (table : Table) (low : ℕ) (segments : List Segment
   fault_so_far why h = fault_here why (moved (Err why) h)
 
 -- with no entry left, the segments are those of all of them
-pub end_so_far : (bytes : List ℕ) (table : Table) (low : ℕ) (segments : List Segment) (i : ℕ) → length table.entries ≤ i → IsOpenSoFar bytes table.next_number table.entries low segments (drop i table.entries) → OpenAsSegments bytes 0 table.next_number table.entries segments
+pub end_so_far : (bytes : List ℕ) (table : Body) (low : ℕ) (segments : List Segment) (i : ℕ) → length table.entries ≤ i → IsOpenSoFar bytes table.next_number table.entries low segments (drop i table.entries) → OpenAsSegments bytes 0 table.next_number table.entries segments
 end_so_far bytes table low segments i le before = all_open bytes table.next_number table.entries low segments (subst (IsOpenSoFar bytes table.next_number table.entries low segments) (drop_all i table.entries le) before)
 
 -- ---- the body and its segments
 
 -- a damaged body opens as nothing
-pub body_refuses : (bytes : List ℕ) (fault : ManifestFault) → FaultAs bytes fault → RefusesOpening bytes (body_fault fault)
+pub body_refuses : (bytes : List ℕ) (fault : ManifestFault) → FaultAs bytes fault → JudgesFound bytes (Err (body_fault fault))
 body_refuses bytes manifest.NotAStore h = h
 body_refuses bytes manifest.Damaged h = record {
   half = h.half;
@@ -131,16 +136,15 @@ body_refuses bytes manifest.UsedUp h = absurd h
 body_refuses bytes manifest.Memory h = tt
 
 -- nor does one with a damaged segment
-pub segments_refuse : (bytes : List ℕ) (half : Half) (table : Table) (why : OpenFault) → HasBody bytes half table → SegmentsAs bytes table (Err why) → RefusesOpening bytes why
+pub segments_refuse : (bytes : List ℕ) (half : Half) (table : Body) (why : OpenFault) → HasBody bytes half table → SegmentsAs bytes table (Err why) → JudgesFound bytes (Err why)
 segments_refuse bytes half table TooSmall current h = absurd h
-segments_refuse bytes half table AlreadyAStore current h = absurd h
 segments_refuse bytes half table NotAStore current h = absurd h
 segments_refuse bytes half table Damaged current h = record {
   half = half;
   in_force = current.in_force;
   none = λ other segments opens.
       let same = (one_body_in_force bytes half half table other current opens.current).1 in
-      h segments (subst (λ (t : Table). OpenAsSegments bytes 0 t.next_number t.entries segments) (sym same) opens.opened);
+      h segments (subst (λ (t : Body). OpenAsSegments bytes 0 t.next_number t.entries segments) (sym same) opens.opened);
 }
 segments_refuse bytes half table Disk current h = tt
 segments_refuse bytes half table Memory current h = tt
@@ -197,14 +201,14 @@ segment_of bytes docs size s opened is =
     }
 
 -- the segments are the documents that their entries spell
-pub are_segments : (bytes : List ℕ) (low next : ℕ) (es : List Entry) (ss : List Segment) (stored : List (List Doc)) → OpenAsSegments bytes low next es ss → SpellsEntries bytes es stored → AreSegments ss stored
+pub are_segments : (bytes : List ℕ) (low next : ℕ) (es : List Entry) (ss : List Segment) (stored : List Stored) → OpenAsSegments bytes low next es ss → SpellsEntries bytes es stored → AreSegments ss stored
 are_segments bytes low next [] [] [] opened spells = tt
-are_segments bytes low next [] [] (docs ∷ stored) opened spells = absurd spells
+are_segments bytes low next [] [] (x ∷ stored) opened spells = absurd spells
 are_segments bytes low next [] (s ∷ ss) stored opened spells = absurd opened
 are_segments bytes low next (e ∷ es) [] stored opened spells = absurd opened
 are_segments bytes low next (e ∷ es) (s ∷ ss) [] opened spells = absurd spells
-are_segments bytes low next (e ∷ es) (s ∷ ss) (docs ∷ stored) opened spells =
-    (segment_of (extent_bytes bytes e.extent) docs e.extent.bytes s opened.0.opened spells.0.segment.1, are_segments bytes (last_of s) next es ss stored opened.3 spells.1)
+are_segments bytes low next (e ∷ es) (s ∷ ss) (x ∷ stored) opened spells =
+    (segment_of (extent_bytes bytes e.extent) x.documents e.extent.bytes s opened.0.opened spells.0.segment.1, are_segments bytes (last_of s) next es ss stored opened.3 spells.1)
 
 -- ---- the numbers of a collection rise from entry to entry
 
@@ -235,11 +239,11 @@ rises next docs rising each = rises_from 0 next docs rising (first docs each) ea
     first (d ∷ xs) each some = omega (arith, (All-head (λ (x : Doc). (1 ≤ x.number) × (x.number < next)) d xs each).0)
 
 -- the documents of each entry rise, above those before them
-abbrev RiseThrough : ℕ → ℕ → List (List Doc) → Type 0
+abbrev RiseThrough : ℕ → ℕ → List Stored → Type 0
 RiseThrough low next [] = Unit {0}
-RiseThrough low next (docs ∷ stored) =
-    (low < slice_index (numbers_of docs) 0) × (slice_index (numbers_of docs) (length docs - 1) < next)
-    × RiseThrough (slice_index (numbers_of docs) (length docs - 1)) next stored
+RiseThrough low next (x ∷ stored) =
+    (low < slice_index (numbers_of x.documents) 0) × (slice_index (numbers_of x.documents) (length x.documents - 1) < next)
+    × RiseThrough (slice_index (numbers_of x.documents) (length x.documents - 1)) next stored
 
 rises_split : (low next : ℕ) (docs rest : List Doc) → 0 < length docs → Rises low next (docs ++ rest)
     → (low < slice_index (numbers_of docs) 0) × (slice_index (numbers_of docs) (length docs - 1) < next) × Rises (slice_index (numbers_of docs) (length docs - 1)) next rest
@@ -255,27 +259,28 @@ rises_split low next (d ∷ e ∷ docs) rest some h =
       subst (λ (n : ℕ). Rises n next rest) last more.2,
     )
 
-none_dead : (docs : List Doc) → filter (λ d. not (lists d.number [])) docs ≡ docs
-none_dead [] = refl
-none_dead (d ∷ docs) = ap (λ ds. d ∷ ds) (none_dead docs)
-
-rise_through : (bytes : List ℕ) (low next : ℕ) (es : List Entry) (stored : List (List Doc)) → SpellsEntries bytes es stored → Rises low next (flat_map live_of (parts_of es stored)) → RiseThrough low next stored
+rise_through : (bytes : List ℕ) (low next : ℕ) (es : List Entry) (stored : List Stored) → SpellsEntries bytes es stored → Rises low next (all_of stored) → RiseThrough low next stored
 rise_through bytes low next [] [] spells h = tt
-rise_through bytes low next [] (docs ∷ stored) spells h = absurd spells
+rise_through bytes low next [] (x ∷ stored) spells h = absurd spells
 rise_through bytes low next (e ∷ es) [] spells h = absurd spells
-rise_through bytes low next (e ∷ es) (docs ∷ stored) spells h =
-    let rest = flat_map live_of (parts_of es stored) in
-    let all : flat_map live_of (parts_of (e ∷ es) (docs ∷ stored)) ≡ docs ++ rest = flat_map-cons live_of (part_of e docs) (parts_of es stored) ∙ ap (λ ds. ds ++ rest) (none_dead docs) in
-    let parts = rises_split low next docs rest spells.0.segment.1.are.some (subst (Rises low next) all h) in
+rise_through bytes low next (e ∷ es) (x ∷ stored) spells h =
+    let docs = x.documents in
+    let parts = rises_split low next docs (all_of stored) spells.0.segment.1.are.some h in
     (parts.0, parts.1, rise_through bytes (slice_index (numbers_of docs) (length docs - 1)) next es stored spells.1 parts.2)
 
+-- so far an entry that spells something has no deletion list
+no_list : (bytes : List ℕ) (list : Option Extent) (dead : List ℕ) → ListSpells bytes list dead → list ≡ None
+no_list bytes None dead is = refl
+no_list bytes (Some e) dead is = absurd is
+
 -- entries that spell documents whose numbers rise open as segments
-entries_open : (bytes : List ℕ) (low next : ℕ) (es : List Entry) (stored : List (List Doc)) → LieInside (length bytes) es → SpellsEntries bytes es stored → RiseThrough low next stored
+entries_open : (bytes : List ℕ) (low next : ℕ) (es : List Entry) (stored : List Stored) → LieInside (length bytes) es → SpellsEntries bytes es stored → RiseThrough low next stored
     → (ss : List Segment) × OpenAsSegments bytes low next es ss
 entries_open bytes low next [] [] inside spells rise = ([], tt)
-entries_open bytes low next [] (docs ∷ stored) inside spells rise = absurd spells
+entries_open bytes low next [] (x ∷ stored) inside spells rise = absurd spells
 entries_open bytes low next (e ∷ es) [] inside spells rise = absurd spells
-entries_open bytes low next (e ∷ es) (docs ∷ stored) inside spells rise =
+entries_open bytes low next (e ∷ es) (x ∷ stored) inside spells rise =
+    let docs = x.documents in
     let room = All-head (λ (d : Entry). start_of d.extent + d.extent.bytes ≤ length bytes) e es inside in
     let plain = spells.0.segment.1 in
     let long : length (extent_bytes bytes e.extent) ≡ e.extent.bytes = length-take-le e.extent.bytes (drop (start_of e.extent) bytes) (omega (arith, room, length-drop (start_of e.extent) bytes)) in
@@ -284,7 +289,7 @@ entries_open bytes low next (e ∷ es) (docs ∷ stored) inside spells rise =
     let more = entries_open bytes (last_of one.0) next es stored (All-tail (λ (d : Entry). start_of d.extent + d.extent.bytes ≤ length bytes) e es inside) spells.1 (subst (λ (n : ℕ). RiseThrough n next stored) (sym of.last_is) rise.2) in (
       one.0 ∷ more.0,
       (
-        record { kind = spells.0.kind; alive = spells.0.alive; opened = one.1 },
+        record { kind = spells.0.segment.0; alive = no_list bytes e.dead x.dead spells.0.list; opened = one.1 },
         subst (λ (n : ℕ). low < n) (sym of.first_is) rise.0,
         subst (λ (n : ℕ). n < next) (sym of.last_is) rise.1,
         more.1,
@@ -293,12 +298,14 @@ entries_open bytes low next (e ∷ es) (docs ∷ stored) inside spells rise =
 
 -- ---- bytes that hold a collection open as a store of it
 
-pub held_open : (bytes : List ℕ) (c : Collection) (holds : Holds bytes c) → (segments : List Segment) × OpensAs bytes holds.half holds.table segments
+pub held_open : (bytes : List ℕ) (c : Collection) (holds : Holds bytes c) → (segments : List Segment) × OpensAsStore bytes holds.half holds.committed.body segments
 held_open bytes c holds =
-    let of = holds.stands_for in
-    let numbers : IsCollection (collection_of (body_with holds.table holds.stored)) = subst IsCollection (sym of) holds.numbers in
-    let rise = rise_through bytes 0 holds.table.next_number holds.table.entries holds.stored holds.spelled (rises holds.table.next_number _ numbers.rising numbers.each) in
-    let found = entries_open bytes 0 holds.table.next_number holds.table.entries holds.stored (lie_inside bytes holds.table holds.current.sound) holds.spelled rise in
+    let b = holds.committed.body in
+    let stored = holds.committed.stored in
+    let numbers : IsCollection (collection_of holds.committed) = subst IsCollection (sym holds.stands_for) holds.numbers in
+    let live = live_documents bytes b.entries stored holds.spelled in
+    let rise = rise_through bytes 0 b.next_number b.entries stored holds.spelled (subst (Rises 0 b.next_number) live (rises b.next_number _ numbers.rising numbers.each)) in
+    let found = entries_open bytes 0 b.next_number b.entries stored (lie_inside bytes b holds.current.sound) holds.spelled rise in
     (found.0, record { current = holds.current; opened = found.1 })
 
 some_half : (a b : Half) → Some a ≡ Some b → a ≡ b
@@ -310,51 +317,48 @@ none_is_some a same = cc
 -- none of the refusals of opening is due, but a want of size, of the device or of memory
 pub held_fault : (bytes : List ℕ) (c : Collection) → Holds bytes c → (why : OpenFault) → RefusesOpening bytes why → IsNoStoreFault bytes why
 held_fault bytes c holds TooSmall h = h
-held_fault bytes c holds AlreadyAStore h = h
 held_fault bytes c holds NotAStore h = none_is_some holds.half (sym h ∙ holds.current.in_force)
 held_fault bytes c holds Damaged h =
     let found = held_open bytes c holds in
-    h.none holds.table found.0 (subst (λ (half : Half). OpensAs bytes half holds.table found.0) (some_half holds.half h.half (sym holds.current.in_force ∙ h.in_force)) found.1)
+    h.none holds.committed.body found.0 (subst (λ (half : Half). OpensAsStore bytes half holds.committed.body found.0) (some_half holds.half h.half (sym holds.current.in_force ∙ h.in_force)) found.1)
 held_fault bytes c holds Disk h = tt
 held_fault bytes c holds Memory h = tt
 
-flag_is_clear : (b : Bool) → b ≡ false → b ≡ true → ⊥
-flag_is_clear true clear flag = cc
-flag_is_clear false clear flag = cc
-
 -- what was opened means it
-pub means_held : {D : Type 0} (content : D → List ℕ) (is_open : D → ℕ → Bool) (bytes : List ℕ) (c : Collection) (s : Shown D) → Holds bytes c → OpensAs bytes (other s.spare) s.table s.segments
-    → content s.disk ≡ bytes → is_open s.disk ≡ nowhere → s.reopen ≡ false → s.buffer ≡ [] → s.next ≡ s.table.next_number → IsStoreOf content is_open s c
-means_held content is_open bytes c s holds opened same closed clear unbuffered next =
-    let tables : holds.table ≡ s.table = (one_body_in_force bytes holds.half (other s.spare) holds.table s.table holds.current opened.current).1 in
-    let spelled : SpellsEntries bytes s.table.entries holds.stored = subst (λ (t : Table). SpellsEntries bytes t.entries holds.stored) tables holds.spelled in
-    let stands : collection_of (body_with s.table holds.stored) ≡ c = subst (λ (t : Table). collection_of (body_with t holds.stored) ≡ c) tables holds.stands_for in
-    let docs = (collection_of (body_with s.table holds.stored)).documents in
-    let more : docs ++ s.buffer ≡ docs = ap (λ (buffer : List Doc). docs ++ buffer) unbuffered ∙ append-nil docs in
-    let now : (state_with s holds.stored).now ≡ c =
-    ap (λ (n : ℕ). let made : Collection = record { next = n; documents = docs ++ s.buffer } in made) next
-    ∙ ap (λ (ds : List Doc). let made : Collection = record { next = s.table.next_number; documents = ds } in made) more ∙ stands in
+pub means_held : {D : Type 0} (d : Ghosts D) (bytes : List ℕ) (c : Collection) (s : StoreView D) → Holds bytes c → OpensAsStore bytes (other s.volume.spare) s.volume.body s.volume.segments
+    → d.content s.volume.disk ≡ bytes → d.is_open s.volume.disk ≡ nowhere → IsFresh s → IsStoreOf d s c
+means_held d bytes c s holds opened same closed fresh =
+    let v = s.volume in
+    let stored = holds.committed.stored in
+    let bodies : holds.committed.body ≡ v.body = (one_body_in_force bytes holds.half (other v.spare) holds.committed.body v.body holds.current opened.current).1 in
+    let spelled : SpellsEntries bytes v.body.entries stored = subst (λ (b : Body). SpellsEntries bytes b.entries stored) bodies holds.spelled in
+    let stands : collection_of (committed_by v stored) ≡ c = subst (λ (b : Body). collection_of (record { body = b; stored = stored }) ≡ c) bodies holds.stands_for in
+    let more : live_in stored ++ s.buffer ≡ live_in stored = ap (λ (buffer : List Doc). live_in stored ++ buffer) fresh.buffer ∙ append-nil (live_in stored) in
+    let now : (state_with s stored).now ≡ c =
+    ap (λ (n : ℕ). collection n (live_in stored ++ s.buffer)) fresh.next ∙ ap (collection v.body.next_number) more ∙ stands in
     record {
-      state = state_with s holds.stored;
+      state = state_with s stored;
       means = record {
-        stored = holds.stored;
+        stored = stored;
         state_is = refl;
         numbers = subst IsCollection (sym now) holds.numbers;
         committed = subst IsCollection (sym stands) holds.numbers;
-        opened = are_segments bytes 0 s.table.next_number s.table.entries s.segments holds.stored opened.opened spelled;
-        kept = λ flag. kept_closed (content s.disk) (is_open s.disk) s.spare s.table holds.stored
-            (subst (λ (b : List ℕ). HasBody b (other s.spare) s.table) (sym same) opened.current)
-            (subst (λ (b : List ℕ). SpellsEntries b s.table.entries holds.stored) (sym same) spelled) closed;
-        left = λ flag. absurd (flag_is_clear s.reopen clear flag);
+        stand = record {
+          opened = are_segments bytes 0 v.body.next_number v.body.entries v.segments stored opened.opened spelled;
+          kept = λ flag. kept_closed (d.content v.disk) (d.is_open v.disk) v.spare (committed_by v stored)
+              (subst (λ (b : List ℕ). HasBody b (other v.spare) v.body) (sym same) opened.current)
+              (subst (λ (b : List ℕ). SpellsEntries b v.body.entries stored) (sym same) spelled) closed;
+        };
+        left = λ flag. absurd (clear_flag v.reopen fresh.clear flag);
       };
       marked_is = stands;
       now_is = now;
-      clear = clear;
+      clear = fresh.clear;
     }
 
 -- ---- the store's invariant
 
-least_next : (units : ℕ) (table : Table) → is_sound units table ≡ true → 1 ≤ table.next_number
+least_next : (units : ℕ) (table : Body) → is_sound units table ≡ true → 1 ≤ table.next_number
 least_next units b h =
     let a = and_parts (leb 1 b.generation && eqb b.units units && leb 1 b.next_number && leb 1 b.next_segment && leb (length b.entries) 64 && list_all (is_part units b.next_segment) b.entries && apart same_segment b.entries) (apart overlap (named b)) h in
     let c = and_parts (leb 1 b.generation && eqb b.units units && leb 1 b.next_number && leb 1 b.next_segment && leb (length b.entries) 64 && list_all (is_part units b.next_segment) b.entries) (apart same_segment b.entries) a.0 in
@@ -364,7 +368,7 @@ least_next units b h =
     leb-true 1 b.next_number (and_parts (leb 1 b.generation && eqb b.units units) (leb 1 b.next_number) f.0).1
 
 -- nothing is uncommitted
-pub unbuffered : (units : ℕ) (table : Table) → IsBody units table → IsBuffered table.next_number table.next_number []
+pub unbuffered : (units : ℕ) (table : Body) → IsBody units table → IsBuffered table.next_number table.next_number []
 unbuffered units table sound =
     let first : 1 ≤ table.next_number = least_next units table sound.sound in
     let last : table.next_number < 2 ^ 32 = sound.next_number in
@@ -377,13 +381,49 @@ unbuffered units table sound =
       small = omega arith;
     }
 
--- the store knows of its disk what its commands rest on
-pub ready : (honest : Type 0) (bytes : List ℕ) (is_open : ℕ → Bool) (spare : Half) (table : Table) (segments : List Segment) → 64 ≤ units_of_disk bytes → IsBody (units_of_disk bytes) table → length segments ≡ length table.entries
-    → (honest → HasBody bytes (other spare) table) → (honest → is_open ≡ nowhere) → IsReady honest bytes is_open spare table segments false
-ready honest bytes is_open spare table segments large sound count has closed = record {
-  ends = omega (arith, large, units_room (length bytes));
+-- what is known of a volume that was opened
+pub ready : {D : Type 0} (d : Ghosts D) (disk : D) (spare : Half) (b : Body) (segments : List Segment) → 64 ≤ units_of_disk (d.content disk) → IsBody (units_of_disk (d.content disk)) b → length segments ≡ length b.entries
+    → (d.honest → HasBody (d.content disk) (other spare) b) → (d.honest → d.is_open disk ≡ nowhere) → IsReady d (volume_of disk b segments spare)
+ready d disk spare b segments large sound count has closed = record {
+  ends = omega (arith, large, units_room (length (d.content disk)));
   sound = sound;
   opened = count;
-  firm = λ h clear. firm_shut bytes is_open spare (has h).in_force (closed h);
-  body = λ h clear. (has h).spelled;
+  firm = λ h clear. firm_shut (d.content disk) (d.is_open disk) spare (has h).in_force (closed h);
+  in_force = λ h clear. (has h).spelled;
 }
+
+-- ---- what is said after the first sync
+pub on_synced : {T : Type 0} (r : Result T OpenFault) {P : Type 0} → P → OnSynced r P
+on_synced (Ok v) p = p
+on_synced (Err TooSmall) p = tt
+on_synced (Err NotAStore) p = p
+on_synced (Err Damaged) p = p
+on_synced (Err Disk) p = tt
+on_synced (Err Memory) p = p
+
+pub found_refuses : (bytes : List ℕ) (why : OpenFault) → JudgesFound bytes (Err why) → RefusesOpening bytes why
+found_refuses bytes TooSmall h = absurd h
+found_refuses bytes NotAStore h = h
+found_refuses bytes Damaged h = h
+found_refuses bytes Disk h = tt
+found_refuses bytes Memory h = tt
+
+-- where the disk is large, the refusal isn't TooSmall
+pub refused_large : {D : Type 0} {n : ℕ} (why : OpenFault) → IsLarge {T = Found} (Err why) → 64 ≤ n → (old new : D) → IsUncalled {D = D} TooSmall old (Err (record { disk = new; why = why })) n
+refused_large TooSmall told large old new = absurd told
+refused_large NotAStore told large old new = ((λ same. absurd (is_other same), λ less. absurd (omega (arith, less, large))), λ same. absurd (is_other same))
+  where
+    is_other : NotAStore ≡ TooSmall → ⊥
+    is_other e = cc
+refused_large Damaged told large old new = ((λ same. absurd (is_other same), λ less. absurd (omega (arith, less, large))), λ same. absurd (is_other same))
+  where
+    is_other : Damaged ≡ TooSmall → ⊥
+    is_other e = cc
+refused_large Disk told large old new = ((λ same. absurd (is_other same), λ less. absurd (omega (arith, less, large))), λ same. absurd (is_other same))
+  where
+    is_other : Disk ≡ TooSmall → ⊥
+    is_other e = cc
+refused_large Memory told large old new = ((λ same. absurd (is_other same), λ less. absurd (omega (arith, less, large))), λ same. absurd (is_other same))
+  where
+    is_other : Memory ≡ TooSmall → ⊥
+    is_other e = cc

@@ -1,53 +1,35 @@
--- What planning a commit rests on: where the new segment lies, and the plan with and without one.
-use Rattle.std.proofs.Common.{◌≡◌, None, ℕ, ◌+◌, ◌<◌, ◌≤◌, Bool, not, ◌&&◌, List, [], ◌∷◌, ◌++◌, length, map, refl, sym, ◌∙◌, ap, subst, arith, Err, append-nil}
-use Rattle.pk_disk.specs.Disk.{in_range}
-use Rattle.pk_disk.specs.Units.{DiskExtent, IsFitted, start_of, units_for}
-use Rattle.pk_manifest.specs.declared.manifest.Manifest.{Manifest}
-use Rattle.pk_manifest.specs.declared.manifest.Part.{Part as Entry}
+-- What planning a commit rests on: how long a spelling is, where lengths are placed, and which plan that makes.
+use Rattle.std.proofs.Common.{◌≡◌, ℕ, zero, suc, ◌-◌, ◌^◌, ◌<◌, ◌≤◌, ◌++◌, Bool, true, false, nat_lt, List, [], ◌∷◌, length, get_or, map, refl, sym, ◌∙◌, ap, subst, arith, inl, inr, ⊎_elim, append-nil, append_assoc, Ok, Err, None}
+use Rattle.std.specs.Prelude.{All}
+use Rattle.std.proofs.lemmas.Bool.{le-ltb, lt-ltb, or_from, or_left}
+use Rattle.std.proofs.lemmas.List.{get_or-map, length-map}
+use Rattle.std.proofs.lemmas.List.Elements.{All-nil}
+use Rattle.pk_disk.specs.Units.{start_of, units_in}
+use Rattle.pk_disk.specs.declared.units.Extent.{Extent}
 use Rattle.pk_manifest.specs.Sound.{IsBody, named}
-use Rattle.pk_manifest.specs.Spelling.{Body as Table, spelling, view}
-use Rattle.pk_manifest.proofs.Fields.{extents_of_disk}
+use Rattle.pk_manifest.specs.Spelling.{Body}
 use Rattle.pk_model.specs.declared.commands.Refusal.{Refusal}
-use Rattle.pk_model.specs.declared.commands.Refusal.TheVariants.{Reopen, TextTooLong, BufferFull, NumbersUsedUp, NoSuchDocument, TooManySegments, SegmentTooLarge, Memory, Full, Damaged, Disk}
-use Rattle.pk_model.specs.Body.{IsFullAt}
+use Rattle.pk_model.specs.declared.commands.Refusal.TheVariants.{Reopen, TextTooLong, BufferFull, NumbersUsedUp, NoSuchDocument, TooManySegments, SegmentTooLarge, Memory, Full, Damaged, Disk as Device}
+use Rattle.pk_model.specs.declared.documents.Document.{Document}
 use Rattle.pk_model.specs.Collection.{Doc}
+use Rattle.pk_model.specs.Views.{doc_of}
+use Rattle.pk_posting.specs.declared.source.SourceFault.{SourceFault}
+use Rattle.pk_posting.specs.declared.source.SourceFault.TheVariants.{Damaged as Broken, Disk}
+use Rattle.pk_posting.specs.Source.{CountsFaults}
 use Rattle.pk_segment.specs.declared.segment.Segment.{Segment}
-use Rattle.pk_segment.specs.Plain.{SegmentSpells, plain_length, plain_spelling, longest}
 use Rattle.pk_segment.specs.Opened.{IsSegmentOf}
+use Rattle.pk_segment.specs.Plain.{SegmentSpells, plain_length, longest}
+use Rattle.pk_segment.specs.Reading.{IsNoDamage, read_of}
 use Rattle.pk_segment.proofs.PlainLemmas.{length_plain, parts_of}
-use Rattle.pk_space.specs.Free as space
+use Rattle.pk_space.specs.declared.runs.Full.{Full as NoRoom}
+use Rattle.pk_space.specs.Free.{free_at}
+use Rattle.pk_space.specs.Places.{FullAs, IsPlacedIn, PlacedAs}
+use Rattle.pk_space.proofs.CallerLemmas.{first_fit_same, free_more, full_at_same}
+use Rattle.pk_state.specs.Writing.{is_too_large}
 use Rattle.pk_store.specs.declared.planning.Plan.{Plan}
-use Rattle.pk_store.specs.Claims.{Claim, claim_of}
-use Rattle.pk_store.specs.Plan.{BuildsAs, IsNewSegment, IsPlaced, IsPlan, PlacesAs, PlansAs, new_entry, table_after}
-use Rattle.pk_store.specs.Stored.{extent_of}
-use Rattle.pk_store.proofs.ExtentLemmas.{place_next}
-use Rattle.pk_store.proofs.PlaceLemmas.{first_fit, full_at}
-
--- so many bytes take a unit
-pub some_units : (bytes : ℕ) → 1 ≤ bytes → 1 ≤ units_for bytes
-some_units bytes some = omega arith
-
--- the first run of free units, taken for an extent
-pub placed_in : (t : Table) (free free' : ℕ → Bool) (e : DiskExtent) (need first : ℕ) → IsBody t.units t → ((u : ℕ) → free u ≡ space.free_at t.units (named t) u) → IsFitted e → 1 ≤ e.bytes
-    → need ≡ e.units → e.first ≡ first
-    → space.IsFirstFit free need first × ((u : ℕ) → free' u ≡ (free u && not (in_range first need u))) → IsPlaced t e
-placed_in t free free' e need first sound is fitted some need_is first_is taken =
-    let extents = extents_of_disk t.units t sound in
-    let units : 1 ≤ e.units = subst (λ n. 1 ≤ n) (sym fitted) (some_units e.bytes some) in
-    let here : space.IsFirstFit free e.units e.first × ((u : ℕ) → free' u ≡ (free u && not (in_range e.first e.units u))) =
-    subst (λ n. space.IsFirstFit free n e.first × ((u : ℕ) → free' u ≡ (free u && not (in_range e.first n u)))) need_is
-    (subst (λ f. space.IsFirstFit free need f × ((u : ℕ) → free' u ≡ (free u && not (in_range f need u)))) (sym first_is) taken) in
-    record {
-      fitted = fitted;
-      free = free';
-      placed = place_next t.units free free' (named t) e (record { free_is = is; within = extents.1; apart = extents.2 }) units here.0 here.1;
-      first = first_fit t.units (named t) free is extents.1 e.units e.first units here.0;
-    }
-
--- no run is long enough
-pub full_in : (t : Table) (free : ℕ → Bool) (need largest : ℕ) → IsBody t.units t → ((u : ℕ) → free u ≡ space.free_at t.units (named t) u) → 1 ≤ need
-    → space.IsFullAt free need largest → IsFullAt t.units (map extent_of (named t)) need largest
-full_in t free need largest sound is some full = full_at t.units (named t) free is (extents_of_disk t.units t sound).1 need largest some full
+use Rattle.pk_store.specs.Plan.{BuildsAs, DueAs, IsPlanOf, IsTaken, PlacesAs, PlansAs, one_claim}
+use Rattle.pk_store.specs.View.{IsBuffered}
+use Rattle.pk_store.proofs.BodyLemmas.{goes_with, goes_without, plan_with, plan_without}
 
 -- the length of a spelling
 pub spelled_length : (bytes : List ℕ) (docs : List Doc) → SegmentSpells bytes docs 1 → (length bytes ≡ plain_length docs) × (length bytes ≤ longest)
@@ -55,82 +37,140 @@ spelled_length bytes docs spells =
     let long = ap length spells.1.same ∙ length_plain docs in
     (long, subst (λ n. n ≤ longest) (sym long) spells.1.fits)
 
--- a segment that is not built, or not placed, is not planned
-pub not_built : (t : Table) (segments : List Segment) (docs : List Doc) (next : ℕ) (why : Refusal) → 0 < length docs → BuildsAs docs (Err why) → PlansAs t segments docs next (Err why)
-not_built t segments docs next SegmentTooLarge some h = (some, h)
-not_built t segments docs next Memory some h = tt
-not_built t segments docs next Reopen some h = absurd h
-not_built t segments docs next TextTooLong some h = absurd h
-not_built t segments docs next BufferFull some h = absurd h
-not_built t segments docs next NumbersUsedUp some h = absurd h
-not_built t segments docs next NoSuchDocument some h = absurd h
-not_built t segments docs next TooManySegments some h = absurd h
-not_built t segments docs next (Full need largest) some h = absurd h
-not_built t segments docs next Damaged some h = absurd h
-not_built t segments docs next Disk some h = absurd h
-
-pub not_placed : (t : Table) (segments : List Segment) (docs : List Doc) (next bytes : ℕ) (why : Refusal) → 0 < length docs → bytes ≡ plain_length docs → plain_length docs ≤ longest → PlacesAs t bytes (Err why) → PlansAs t segments docs next (Err why)
-not_placed t segments docs next bytes (Full need largest) some long fits h = (some, fits, h.0 ∙ ap units_for long, h.1)
-not_placed t segments docs next bytes Memory some long fits h = tt
-not_placed t segments docs next bytes SegmentTooLarge some long fits h = absurd h
-not_placed t segments docs next bytes Reopen some long fits h = absurd h
-not_placed t segments docs next bytes TextTooLong some long fits h = absurd h
-not_placed t segments docs next bytes BufferFull some long fits h = absurd h
-not_placed t segments docs next bytes NumbersUsedUp some long fits h = absurd h
-not_placed t segments docs next bytes NoSuchDocument some long fits h = absurd h
-not_placed t segments docs next bytes TooManySegments some long fits h = absurd h
-not_placed t segments docs next bytes Damaged some long fits h = absurd h
-not_placed t segments docs next bytes Disk some long fits h = absurd h
-
--- a plan of one new segment
-pub one_segment : (t : Table) (segments : List Segment) (docs : List Doc) (next : ℕ) (e : DiskExtent) (s : Segment) (p : Plan) → 0 < length docs → IsNewSegment t docs e s
-    → view p.manifest ≡ table_after t next (e ∷ []) → p.segments.items ≡ segments ++ s ∷ [] → map claim_of p.pieces.items ≡ record { at = start_of e; bytes = plain_spelling docs } ∷ []
-    → p.body.items ≡ spelling (view p.manifest) → IsPlan t segments docs next p
-one_segment t segments [] next e s p some new table opened pieces body = absurd (omega arith)
-one_segment t segments (d ∷ docs) next e s p some new table opened pieces body = record {
-  places = e ∷ [];
-  opened = s ∷ [];
-  placed = (refl, refl, new);
-  table_is = table;
-  segments_is = opened;
-  pieces_are = pieces;
-  body_is = body;
-}
-
--- the body that follows, with one more entry
-abbrev table_of : ℕ → ℕ → ℕ → ℕ → List Entry → Table
-table_of g u n s es = record { generation = g; units = u; next_number = n; next_segment = s; entries = es }
-
-same_table : (g g' u u' n n' s s' : ℕ) (es es' : List Entry) → g ≡ g' → u ≡ u' → n ≡ n' → s ≡ s' → es ≡ es' → table_of g u n s es ≡ table_of g' u' n' s' es'
-same_table g g' u u' n n' s s' es es' eg eu en es_is e =
-    ap (λ x. table_of x u n s es) eg ∙ ap (λ x. table_of g' x n s es) eu ∙ ap (λ x. table_of g' u' x s es) en ∙ ap (λ x. table_of g' u' n' x es) es_is ∙ ap (λ x. table_of g' u' n' s' x) e
-
-abbrev entry_with : ℕ → DiskExtent → Entry
-entry_with n e = record { segment = n; extent = e; kind = 1; dead = None }
-
-pub table_more : (m m' : Manifest) (t : Table) (next : ℕ) (e : DiskExtent) → view m ≡ table_after t next []
-    → (m'.generation ≡ m.generation) × (m'.units ≡ m.units) × (m'.next_number ≡ m.next_number) × (m'.next_segment ≡ m.next_segment + 1)
-    → m'.entries.items ≡ m.entries.items ++ new_entry (view m) e ∷ [] → view m' ≡ table_after t next (e ∷ [])
-table_more m m' t next e is numbers more =
-    same_table m'.generation (t.generation + 1) m'.units t.units m'.next_number next m'.next_segment (t.next_segment + 1) m'.entries.items (t.entries ++ new_entry t e ∷ [])
-    (numbers.0 ∙ ap (λ (b : Table). b.generation) is) (numbers.1 ∙ ap (λ (b : Table). b.units) is) (numbers.2 ∙ ap (λ (b : Table). b.next_number) is)
-    (numbers.3 ∙ ap (λ (b : Table). b.next_segment + 1) is ∙ ap (λ n. n + 1) (omega arith))
-    (more ∙ ap (λ (b : Table). b.entries ++ new_entry b e ∷ []) is ∙ ap (λ n. (t.entries ++ []) ++ entry_with n e ∷ []) same ∙ ap (λ es. es ++ new_entry t e ∷ []) (append-nil t.entries))
-  where
-    same : t.next_segment + 0 ≡ t.next_segment
-    same = omega arith
-
--- one claim, of these bytes
-abbrev pub one_claim : ℕ → List ℕ → List Claim
-one_claim at bytes = record { at = at; bytes = bytes } ∷ []
-
--- a spelling is of some documents, and has some bytes
-pub some_docs : (bytes : List ℕ) (docs : List Doc) → SegmentSpells bytes docs 1 → 0 < length docs
-some_docs bytes docs spells = spells.1.are.some
-
+-- a spelling has some bytes
 pub some_bytes : (bytes : List ℕ) (docs : List Doc) → SegmentSpells bytes docs 1 → 1 ≤ length bytes
 some_bytes bytes docs spells = let l = (spelled_length bytes docs spells).0 in omega (arith, l, parts_of docs)
 
--- what is built and placed is a new segment
-pub new_segment : (t : Table) (bytes : List ℕ) (docs : List Doc) (e : DiskExtent) (s : Segment) → SegmentSpells bytes docs 1 → IsSegmentOf s docs → e.bytes ≡ plain_length docs → IsPlaced t e → IsNewSegment t docs e s
-new_segment t bytes docs e s spells opened long place = record { are = spells.1.are; fits = spells.1.fits; long = long; opened = opened; place = place }
+-- a slice as a source meets no fault of a device
+pub no_fault : {T : Type 0} (fault : SourceFault) → IsNoDamage (read_of fault) → CountsFaults {T = T} 0 0 (Err fault) → ⊥
+no_fault Broken cause counts = cause
+no_fault Disk cause counts = ⊎_elim (λ (rose : 0 < 0). absurd (omega (arith, rose))) (λ (full : 0 ≡ 2 ^ 64 - 1). absurd (omega (arith, full))) (counts.disk refl)
+
+-- documents of a buffer, in the words of those that are built
+pub as_many : (documents : List Document) (buffer : List Doc) → map doc_of documents ≡ buffer → length documents ≡ length buffer
+as_many documents buffer same = sym (length-map documents doc_of) ∙ ap length same
+
+pub least_of : (documents : List Document) → All (λ (d : Doc). 1 ≤ d.number) (map doc_of documents) → All (λ (d : Document). 1 ≤ d.number.0) documents
+least_of documents each k d lt = subst (λ (x : Doc). 1 ≤ x.number) (get_or-map doc_of documents k d (doc_of d) lt) (each k (doc_of d) (subst (λ n. k < n) (sym (length-map documents doc_of)) lt))
+
+-- nothing is uncommitted once it is written
+pub none_buffered : (next : ℕ) → 1 ≤ next → next ≤ 4294967295 → IsBuffered next next []
+none_buffered next some most = record {
+  each = All-nil (λ (d : Doc). (next ≤ d.number) × (d.number < next));
+  later = omega arith;
+  first = some;
+  last = most;
+  few = omega arith;
+  small = omega arith;
+}
+
+-- ---- lengths, one after the other
+
+-- So far these extents are placed: what is placed and what is full from here on is so for all.
+pub record IsPlacing (units : ℕ) (named : List Extent) (lengths left : List ℕ) (extents : List Extent) (free : ℕ → Bool) : Type 0 where
+  pub taken : List Extent
+  pub free_is : (u : ℕ) → free u ≡ free_at units taken u
+  pub onward : (rest : List Extent) → PlacedAs units taken left rest → PlacedAs units named lengths (extents ++ rest)
+  pub full : (need largest : ℕ) → FullAs units taken left need largest → FullAs units named lengths need largest
+
+pub none_placed : (units : ℕ) (named : List Extent) (lengths : List ℕ) (free : ℕ → Bool) → ((u : ℕ) → free u ≡ free_at units named u) → IsPlacing units named lengths lengths [] free
+none_placed units named lengths free is = record { taken = named; free_is = is; onward = λ rest placed. placed; full = λ need largest is_full. is_full }
+
+module _ (units : ℕ) (named : List Extent) (lengths : List ℕ) (bytes : ℕ) (left : List ℕ) (extents : List Extent) (free free' : ℕ → Bool) (so_far : IsPlacing units named lengths (bytes ∷ left) extents free) where
+  placed_in : (e : Extent) → IsTaken free free' bytes (Ok e) → IsPlacedIn units so_far.taken bytes e
+  placed_in e is = record { long = is.0; fitted = is.1; first = first_fit_same free (free_at units so_far.taken) so_far.free_is e.units e.first is.2 }
+
+  pub one_placed : (e : Extent) → IsTaken free free' bytes (Ok e) → IsPlacing units named lengths left (extents ++ e ∷ []) free'
+  one_placed e is = record {
+    taken = e ∷ so_far.taken;
+    free_is = free_more units so_far.taken e free free' so_far.free_is is.3;
+    onward = λ rest placed. subst (PlacedAs units named lengths) (sym (append_assoc extents (e ∷ []) rest)) (so_far.onward (e ∷ rest) (placed_in e is, placed));
+    full = λ need largest is_full. so_far.full need largest (inr (e, placed_in e is, is_full));
+  }
+
+  pub one_full : (full : NoRoom) → IsTaken free free' bytes (Err full) → FullAs units named lengths full.need full.largest
+  one_full full is = so_far.full full.need full.largest (inl (is.0, full_at_same free (free_at units so_far.taken) so_far.free_is full.need full.largest is.1))
+
+pub all_placed : (units : ℕ) (named : List Extent) (lengths : List ℕ) (extents : List Extent) (free : ℕ → Bool) → IsPlacing units named lengths [] extents free → PlacedAs units named lengths extents
+all_placed units named lengths extents free so_far = subst (PlacedAs units named lengths) (append-nil extents) (so_far.onward [] tt)
+
+-- ---- THE PLAN
+
+-- of no document
+pub planned_without : (size : ℕ) (b : Body) (segments : List Segment) (docs : List Doc) (next : ℕ) (p : Plan) → docs ≡ [] → IsBody (units_in size) b → IsPlanOf b segments next [] [] [] p → length segments ≡ length b.entries
+    → DueAs b (length docs) None → 1 ≤ next → next ≤ 4294967295 → PlansAs size b segments docs next (Ok p)
+planned_without size b segments docs next p none is plan count due some most =
+    let none_due : DueAs b 0 None = subst (λ (ds : List Doc). DueAs b (length ds) None) none due in
+    subst (λ (ds : List Doc). PlansAs size b segments ds next (Ok p)) (sym none) (
+      plan_without size b is segments next p plan count none_due some most,
+      record { next_is = ap (λ (x : Body). x.next_number) plan.manifest_is; places = []; placed = tt; fits = refl; goes = goes_without size b is segments next p plan count none_due some most },
+    )
+
+-- a segment that fits
+fits_limit : (d : Doc) (docs : List Doc) → plain_length (d ∷ docs) ≤ longest → is_too_large (d ∷ docs) ≡ false
+fits_limit d docs short = or_from (nat_lt longest (plain_length (d ∷ docs))) false (le-ltb longest (plain_length (d ∷ docs)) short) refl
+
+-- and one that doesn't
+pub passes_limit : (docs : List Doc) → longest < plain_length docs → 0 < length docs → is_too_large docs ≡ true
+passes_limit [] long some = absurd (omega (arith, some))
+passes_limit (d ∷ docs) long some = or_left (nat_lt longest (plain_length (d ∷ docs))) false (lt-ltb longest (plain_length (d ∷ docs)) long)
+
+-- of some documents, with their segment
+pub planned_with : (size : ℕ) (b : Body) (segments : List Segment) (docs : List Doc) (next : ℕ) (p : Plan) (bytes : List ℕ) (o : Segment) (e : Extent) (extents : List Extent) (len : ℕ)
+    → SegmentSpells bytes docs 1 → IsSegmentOf o docs → len ≡ plain_length docs → PlacedAs b.units (named b) (len ∷ []) extents → e ≡ get_or extents 0 e
+    → IsBody (units_in size) b → IsPlanOf b segments next (e ∷ []) (o ∷ []) (one_claim (start_of e) bytes) p → length segments ≡ length b.entries
+    → DueAs b (length docs) None → 1 ≤ next → next ≤ 4294967295 → PlansAs size b segments docs next (Ok p)
+planned_with size b segments [] next p bytes o e extents len spells opened long placed at is plan count due some most = let h : 0 < 0 = spells.1.are.some in absurd (omega (arith, h))
+planned_with size b segments (d ∷ docs) next p bytes o e [] len spells opened long placed at is plan count due some most = absurd placed
+planned_with size b segments (d ∷ docs) next p bytes o e (x ∷ extents) len spells opened long placed at is plan count due some most =
+    let here : IsPlacedIn b.units (named b) (plain_length (d ∷ docs)) e =
+    subst (λ y. IsPlacedIn b.units (named b) (plain_length (d ∷ docs)) y) (sym at) (subst (λ n. IsPlacedIn b.units (named b) n x) long placed.0) in (
+      plan_with size b is segments next (d ∷ docs) bytes spells o opened e here p plan count due some most,
+      record {
+        next_is = ap (λ (x : Body). x.next_number) plan.manifest_is;
+        places = e ∷ [];
+        placed = (here, tt);
+        fits = fits_limit d docs spells.1.fits;
+        goes = goes_with size b is segments next (d ∷ docs) bytes spells o opened e here p plan count due some most;
+      },
+    )
+
+-- what finds no place is not planned
+pub not_placed : (size : ℕ) (b : Body) (segments : List Segment) (docs : List Doc) (next len : ℕ) (why : Refusal) → 0 < length docs → len ≡ plain_length docs → plain_length docs ≤ longest
+    → PlacesAs b (len ∷ []) (Err why) → PlansAs size b segments docs next (Err why)
+not_placed size b segments [] next len why some long fits h = absurd (omega (arith, some))
+not_placed size b segments (d ∷ docs) next len (Full need largest) some long fits h = (fits_limit d docs fits, subst (λ n. FullAs b.units (named b) (n ∷ []) need largest) long h)
+not_placed size b segments (d ∷ docs) next len Memory some long fits h = tt
+not_placed size b segments (d ∷ docs) next len SegmentTooLarge some long fits h = absurd h
+not_placed size b segments (d ∷ docs) next len Reopen some long fits h = absurd h
+not_placed size b segments (d ∷ docs) next len TextTooLong some long fits h = absurd h
+not_placed size b segments (d ∷ docs) next len BufferFull some long fits h = absurd h
+not_placed size b segments (d ∷ docs) next len NumbersUsedUp some long fits h = absurd h
+not_placed size b segments (d ∷ docs) next len NoSuchDocument some long fits h = absurd h
+not_placed size b segments (d ∷ docs) next len TooManySegments some long fits h = absurd h
+not_placed size b segments (d ∷ docs) next len Damaged some long fits h = absurd h
+not_placed size b segments (d ∷ docs) next len Device some long fits h = absurd h
+
+-- nor is what isn't built
+pub not_built : (size : ℕ) (b : Body) (segments : List Segment) (docs : List Doc) (next : ℕ) (why : Refusal) → 0 < length docs → BuildsAs docs (Err why) → PlansAs size b segments docs next (Err why)
+not_built size b segments docs next SegmentTooLarge some h = passes_limit docs h some
+not_built size b segments docs next Memory some h = tt
+not_built size b segments docs next (Full need largest) some h = absurd h
+not_built size b segments docs next Reopen some h = absurd h
+not_built size b segments docs next TextTooLong some h = absurd h
+not_built size b segments docs next BufferFull some h = absurd h
+not_built size b segments docs next NumbersUsedUp some h = absurd h
+not_built size b segments docs next NoSuchDocument some h = absurd h
+not_built size b segments docs next TooManySegments some h = absurd h
+not_built size b segments docs next Damaged some h = absurd h
+not_built size b segments docs next Device some h = absurd h
+
+-- no documents, in the words of those that are built
+pub no_documents : (documents : List Document) → length documents ≡ 0 → map doc_of documents ≡ []
+no_documents [] none = refl
+no_documents (d ∷ documents) none = absurd (omega (arith, none))
+
+-- one length of at least a byte
+pub one_least : (n : ℕ) → 1 ≤ n → All (λ m. 1 ≤ m) (n ∷ [])
+one_least n least zero d lt = least
+one_least n least (suc k) d lt = absurd (omega (arith, lt))

@@ -1,174 +1,179 @@
 -- The legal steps of a store whose disk was only read, over plain values.
-use Rattle.std.proofs.Common.{◌≡◌, inl, ℕ, ◌+◌, ◌<◌, ◌≤◌, Bool, true, false, List, [], ◌++◌, length, length-append, get_or, sum_by, arith, refl, ap, sym, ◌∙◌, subst, Result, Ok, Err, Some, None}
-use Rattle.std.specs.Prelude.{All, MatchBool, if◌then◌else◌}
-use Rattle.std.specs.List.{AllByRecursion}
-use Rattle.std.specs.List.Sorted.{IsStrictlyIncreasing}
-use Rattle.std.proofs.lemmas.List.Elements.{recursion_from_All}
-use Rattle.pk_disk.specs.Units.{extent_bytes}
-use Rattle.pk_disk.specs.Since.{IsOnlyRead}
+use Rattle.std.proofs.Common.{◌≡◌, ℕ, ◌+◌, Bool, true, false, List, ◌++◌, length, length-append, refl, ap, sym, ◌∙◌, subst, Result, Ok, Err, Some, None}
+use Rattle.std.specs.Prelude.{filter, if◌then◌else◌}
+use Rattle.std.proofs.lemmas.List.{map-append}
+use Rattle.std.proofs.lemmas.List.Elements.{filter-append}
+use Rattle.pk_disk.specs.declared.disk.Disk.{Ghosts}
+use Rattle.pk_disk.specs.Disk.{IsImage}
+use Rattle.pk_disk.proofs.FrameLemmas.{keeps_disk_none}
 use Rattle.pk_disk.proofs.Moments.{none_only}
-use Rattle.pk_manifest.specs.declared.manifest.Part.{Part as Entry}
 use Rattle.pk_model.specs.declared.commands.Refusal.{Refusal}
-use Rattle.pk_model.specs.declared.commands.Refusal.TheVariants.{NoSuchDocument, Memory, Disk, Reopen}
-use Rattle.pk_model.specs.Body.{collection_of}
-use Rattle.pk_model.specs.Collection.{Doc, IsCollection, answer, is_live, numbers_of}
-use Rattle.pk_model.specs.Legal.{State, LegalStep, RefusesDue, due, marked}
+use Rattle.pk_model.specs.declared.commands.Refusal.TheVariants.{NoSuchDocument, Memory, Disk}
+use Rattle.pk_model.specs.Collection.{Doc, IsCollection, answer, is_hit, is_live, numbers_of}
 use Rattle.pk_model.specs.Steps.{Request, Answer, find, show, count, found, text_is, text_of, counted}
 use Rattle.pk_model.specs.Tree.{Tree}
+use Rattle.pk_search.proofs.LookUpLemmas.{live-found, live-second}
 use Rattle.pk_segment.specs.declared.fault.ReadFault.{ReadFault}
 use Rattle.pk_segment.specs.declared.fault.ReadFault.TheVariants as fault
-use Rattle.pk_segment.specs.declared.segment.Segment.{Segment}
-use Rattle.pk_segment.specs.Extent.{KeepsDisk}
-use Rattle.pk_segment.specs.Opened.{IsSegmentOf, count_of, last_of}
-use Rattle.pk_segment.specs.Plain.{SegmentSpells}
-use Rattle.pk_segment.specs.Reading as reading
-use Rattle.pk_segment.specs.Reading.{CountsReads, IsCause}
-use Rattle.pk_store.specs.Finding.{Spans, all_of, refusal_for}
-use Rattle.pk_store.specs.Kept.{AreSegments}
-use Rattle.pk_store.specs.Store.{IsBuffered, IsCauseOf, IsUndamaged, Means, Shown, Steps, StepsTo, may_refuse, state_with}
-use Rattle.pk_store.specs.Stored.{SpellsEntries, body_with, plain_formats, HoldsOne}
-use Rattle.pk_store.proofs.FindingLemmas.{answer-append, count_all, entries_long, entry_at, live_documents, segment_at, segments_long}
-use Rattle.pk_store.proofs.LiveLemmas.{Rise, dead_below, has_text, in_none, in_one, last_in, live-first, live-found, live-second, live_below, no_text, rises, spelled_some}
-use Rattle.pk_store.proofs.StoredLemmas.{kept_read, kept_spelled}
+use Rattle.pk_segment.specs.Reading.{CountsReads, IsNoDamage}
+use Rattle.pk_state.specs.Committed.{Stored, live_in}
+use Rattle.pk_state.specs.Legal.{State, LegalStep, RefusesDue, due, marked}
+use Rattle.pk_state.specs.Kept.{AreSegments, IsKept}
+use Rattle.pk_state.specs.Holds.{Holds}
+use Rattle.pk_state.proofs.HoldsLemmas.{kept_holds, kept_read, kept_spelled, one_stored}
+use Rattle.pk_store.specs.Refusing.{refusal_for}
+use Rattle.pk_store.specs.Steps.{HoldsIn, IsCauseOf, IsRightly, IsUndamaged, Steps, StepsTo, may_refuse}
+use Rattle.pk_store.specs.View.{KeepsVolume, Means, StandFor, StoreView, VolumeView, committed_by, state_with}
+use Rattle.pk_store.proofs.StoreSteps.{IsNoCommit, clear_flag, clear_refusal, marked_with, not_idle}
 
--- the store on another disk
-abbrev pub on_disk : {D : Type 0} → Shown D → D → Shown D
-on_disk s disk = record { disk = disk; table = s.table; segments = s.segments; spare = s.spare; buffer = s.buffer; next = s.next; reopen = s.reopen }
+-- the store with another volume
+abbrev pub on_volume : {D : Type 0} → StoreView D → VolumeView D → StoreView D
+on_volume s v = record { volume = v; buffer = s.buffer; next = s.next }
 
--- What is known of the documents of a store's entries where nothing has to be opened again.
-pub record AreKnown {D : Type 0} (content : D → List ℕ) (s : Shown D) (stored : List (List Doc)) : Type 0 where
-  pub spelled : SpellsEntries (content s.disk) s.table.entries stored
-  pub opened : AreSegments s.segments stored
+-- no call keeps a volume
+pub keeps_volume_none : {D : Type 0} (d : Ghosts D) (v : VolumeView D) → KeepsVolume d v v
+keeps_volume_none d v = record { body = refl; segments = refl; spare = refl; reopen = refl; disk = keeps_disk_none d v.disk }
+
+-- What is known of a store where nothing has to be opened again.
+pub record AreKnown {D : Type 0} (d : Ghosts D) (s : StoreView D) (stored : List Stored) : Type 0 where
+  pub stand : StandFor d s.volume stored
   pub numbers : IsCollection (state_with s stored).now
-  pub committed : IsCollection (collection_of (body_with s.table stored))
-
--- a set flag is not clear
-set_flag : (b : Bool) → b ≡ false → b ≡ true → ⊥
-set_flag b clear flag = false_is_true (sym clear ∙ flag)
-  where
-    false_is_true : false ≡ true → ⊥
-    false_is_true e = cc
-
-module _ {D : Type 0} (content : D → List ℕ) (is_open : D → ℕ → Bool) (s : Shown D) (clear : s.reopen ≡ false) where
-  known : (state : State) (m : Means content is_open s state) → AreKnown content s m.stored
-  known state m = record {
-    spelled = kept_spelled (content s.disk) (is_open s.disk) s.spare s.table m.stored (m.kept clear);
-    opened = m.opened;
-    numbers = subst (λ (x : State). IsCollection x.now) m.state_is m.numbers;
-    committed = subst (λ (x : State). IsCollection (marked x)) m.state_is m.committed;
-  }
-
-module _ {D : Type 0} (content : D → List ℕ) (is_open : D → ℕ → Bool) (moment : D → ℕ) (images_since : D → ℕ → List ℕ → Type 0) (s : Shown D) (clear : s.reopen ≡ false) where
-  -- it means the same states after reads
-  means_read : (disk : D) → IsOnlyRead content is_open moment images_since s.disk disk → (state : State) → Means content is_open s state → Means content is_open (on_disk s disk) state
-  means_read disk read state m = record {
-    stored = m.stored;
-    state_is = m.state_is;
-    numbers = m.numbers;
-    committed = m.committed;
-    opened = m.opened;
-    kept = λ _. kept_read content is_open moment images_since s.disk disk s.spare s.table m.stored read (m.kept clear);
-    left = λ flag. absurd (set_flag s.reopen clear flag);
-  }
-
-  reads_to : (disk : D) (request : Request) (reply : Result Answer Refusal) → IsOnlyRead content is_open moment images_since s.disk disk
-      → ((stored : List (List Doc)) → AreKnown content s stored → LegalStep plain_formats (state_with s stored) request reply (state_with s stored))
-      → StepsTo content is_open s request reply (on_disk s disk)
-  reads_to disk request reply read legal state m =
-      (state, means_read disk read state m, subst (λ (x : State). LegalStep plain_formats x request reply x) (sym m.state_is) (legal m.stored (known content is_open s clear state m)))
+  pub committed : IsCollection (marked_with s stored)
 
 -- a reader's fault, as a refusal
-undamaged_by : (why : ReadFault) → IsCause why → IsUndamaged (Err (refusal_for why))
+undamaged_by : (why : ReadFault) → IsNoDamage why → IsUndamaged (Err (refusal_for why))
 undamaged_by fault.Damaged cause = absurd cause
 undamaged_by fault.Disk cause = tt
 undamaged_by fault.Memory cause = tt
 
-cause_of : {T : Type 0} (why : ReadFault) (r r' w w' : ℕ) (flag : Bool) → w' ≡ w → CountsReads {T = T} r r' (Err why) → IsCauseOf (Err (refusal_for why)) r r' w w' flag flag
-cause_of fault.Damaged r r' w w' flag writes counts = (counts.damaged refl, writes, refl)
-cause_of fault.Disk r r' w w' flag writes counts = inl (counts.disk refl, writes, refl)
-cause_of fault.Memory r r' w w' flag writes counts = (counts.memory refl, writes, refl)
+rightly_by : (why : ReadFault) → IsRightly (refusal_for why)
+rightly_by fault.Damaged = tt
+rightly_by fault.Disk = tt
+rightly_by fault.Memory = tt
 
--- WHAT A COMMAND OWES that only reads
-module _ {D : Type 0} {honest : Type 0} {content : D → List ℕ} {is_open : D → ℕ → Bool} {moment : D → ℕ} {images_since : D → ℕ → List ℕ → Type 0} {failed_reads failed_writes : D → ℕ}
-    (s : Shown D) (disk : D) (clear : s.reopen ≡ false) (keeps : KeepsDisk honest content is_open moment images_since failed_writes s.disk disk) where
-  -- an answer
-  pub answers_read : (request : Request) (answer : Answer) → failed_reads disk ≡ failed_reads s.disk
-      → (honest → (stored : List (List Doc)) → AreKnown content s stored → LegalStep plain_formats (state_with s stored) request (Ok answer) (state_with s stored))
-      → Steps honest content is_open moment images_since failed_reads failed_writes s request (Ok answer) (on_disk s disk)
-  answers_read request answer reads legal = record {
-    legal = λ h. reads_to content is_open moment images_since s clear disk request (Ok answer) (keeps.read h) (legal h);
-    undamaged = λ _ state m. tt;
-    any_moment = λ h state m. none_only moment images_since s.disk disk (HoldsOne (marked state) state.now) (keeps.read h).images;
-    size = keeps.size;
-    named = tt;
-    cause = (reads, keeps.writes, refl);
-    still = tt;
+module _ {D : Type 0} (d : Ghosts D) (s : StoreView D) (clear : s.volume.reopen ≡ false) where
+  known : (state : State) (m : Means d s state) → AreKnown d s m.stored
+  known state m = record {
+    stand = m.stand;
+    numbers = subst (λ (x : State). IsCollection x.now) m.state_is m.numbers;
+    committed = subst (λ (x : State). IsCollection (marked x)) m.state_is m.committed;
   }
 
-  -- a refusal
-  pub refuses_read : (request : Request) (why : Refusal)
-      → (honest → (stored : List (List Doc)) → AreKnown content s stored → LegalStep plain_formats (state_with s stored) request (Err why) (state_with s stored) × IsUndamaged (Err why))
-      → may_refuse request why ≡ true → IsCauseOf (Err why) (failed_reads s.disk) (failed_reads disk) (failed_writes s.disk) (failed_writes disk) s.reopen s.reopen
-      → Steps honest content is_open moment images_since failed_reads failed_writes s request (Err why) (on_disk s disk)
-  refuses_read request why legal named cause = record {
-    legal = λ h. reads_to content is_open moment images_since s clear disk request (Err why) (keeps.read h) (λ stored is. (legal h stored is).0);
-    undamaged = λ h state m. (legal h m.stored (known content is_open s clear state m)).1;
-    any_moment = λ h state m. none_only moment images_since s.disk disk (HoldsOne (marked state) state.now) (keeps.read h).images;
-    size = keeps.size;
-    named = named;
-    cause = cause;
-    still = record { table = refl; segments = refl; spare = refl; buffer = refl; next = refl };
-  }
+  module _ (v : VolumeView D) (keeps : KeepsVolume d s.volume v) where
+    same_state : (stored : List Stored) → state_with s stored ≡ state_with (on_volume s v) stored
+    same_state stored = λ i. record {
+      committed = record { body = sym keeps.body i; stored = stored };
+      now = record { next = s.next; documents = live_in stored ++ s.buffer };
+      reopen = sym keeps.reopen i;
+    }
 
-  -- a reader's fault
-  pub refuses_fault : {T : Type 0} (request : Request) (why : ReadFault) → CountsReads {T = T} (failed_reads s.disk) (failed_reads disk) (Err why)
-      → (honest → (stored : List (List Doc)) → AreKnown content s stored → IsCause why)
-      → ((state : State) → state.reopen ≡ false → IsCause why → LegalStep plain_formats state request (Err (refusal_for why)) state) → may_refuse request (refusal_for why) ≡ true
-      → Steps honest content is_open moment images_since failed_reads failed_writes s request (Err (refusal_for why)) (on_disk s disk)
-  refuses_fault {T} request why counts cause legal named = refuses_read request (refusal_for why)
-      (λ h stored is. (legal (state_with s stored) clear (cause h stored is), undamaged_by why (cause h stored is))) named
-      (cause_of {T = T} why (failed_reads s.disk) (failed_reads disk) (failed_writes s.disk) (failed_writes disk) s.reopen keeps.writes counts)
+    -- it means the same states after reads
+    means_read : d.honest → (state : State) → Means d s state → Means d (on_volume s v) state
+    means_read h state m = record {
+      stored = m.stored;
+      state_is = m.state_is ∙ same_state m.stored;
+      numbers = m.numbers;
+      committed = m.committed;
+      stand = record {
+        opened = subst (λ os. AreSegments os m.stored) (sym keeps.segments) m.stand.opened;
+        kept = λ _. subst (λ b. IsKept (d.content v.disk) (d.is_open v.disk) v.spare (record { body = b; stored = m.stored })) (sym keeps.body)
+            (subst (λ half. IsKept (d.content v.disk) (d.is_open v.disk) half (record { body = s.volume.body; stored = m.stored })) (sym keeps.spare)
+            (kept_read d s.volume.disk v.disk s.volume.spare (record { body = s.volume.body; stored = m.stored }) (keeps.disk.read h) (m.stand.kept clear)));
+      };
+      left = λ flag. absurd (clear_flag v.reopen (keeps.reopen ∙ clear) flag);
+    }
 
--- a failure of a command that nothing else refuses
-fails : (state : State) (request : Request) (why : Refusal) → state.reopen ≡ false → RefusesDue (due plain_formats state request) plain_formats state request why state
-    → LegalStep plain_formats state request (Err why) state
-unfolding LegalStep
-fails state request why clear r = subst (λ b. MatchBool b ((why ≡ Reopen) × (state ≡ state)) (RefusesDue (due plain_formats state request) plain_formats state request why state)) (sym clear) r
+    pub reads_to : d.honest → (request : Request) (reply : Result Answer Refusal)
+        → ((stored : List Stored) → AreKnown d s stored → LegalStep false (state_with s stored) request reply (state_with s stored))
+        → StepsTo d false s request reply (on_volume s v)
+    reads_to h request reply legal state m =
+        (state, means_read h state m, subst (λ (x : State). LegalStep false x request reply x) (sym m.state_is) (legal m.stored (known state m)))
+
+    -- WHAT A COMMAND OWES that only reads: an answer
+    pub answers_read : (request : Request) (answer : Answer) → d.failed_reads v.disk ≡ d.failed_reads s.volume.disk → IsNoCommit request
+        → (d.honest → (stored : List Stored) → AreKnown d s stored → LegalStep false (state_with s stored) request (Ok answer) (state_with s stored))
+        → Steps d s request (Ok answer) (on_volume s v)
+    answers_read request answer reads none legal = record {
+      failed = false;
+      legal = λ h. reads_to h request (Ok answer) (legal h);
+      undamaged = λ _ state m. tt;
+      any_moment = λ h state m. none_only d.moment d.images_since s.volume.disk v.disk (HoldsIn request state) (keeps.disk.read h).images;
+      size = keeps.disk.size;
+      cause = (refl, record { reads = reads; writes = keeps.disk.writes }, keeps.reopen);
+      refused = tt;
+      idle = λ idle. absurd (not_idle s request none idle);
+    }
+
+    -- a refusal
+    pub refuses_read : (request : Request) (why : Refusal) → IsNoCommit request
+        → (d.honest → (stored : List Stored) → AreKnown d s stored → LegalStep false (state_with s stored) request (Err why) (state_with s stored) × IsUndamaged (Err why))
+        → may_refuse request why ≡ true → IsRightly why → IsCauseOf d (Err why) false s.volume v → Steps d s request (Err why) (on_volume s v)
+    refuses_read request why none legal named rightly cause = record {
+      failed = false;
+      legal = λ h. reads_to h request (Err why) (λ stored is. (legal h stored is).0);
+      undamaged = λ h state m. (legal h m.stored (known state m)).1;
+      any_moment = λ h state m. none_only d.moment d.images_since s.volume.disk v.disk (HoldsIn request state) (keeps.disk.read h).images;
+      size = keeps.disk.size;
+      cause = cause;
+      refused = record {
+        named = named;
+        rightly = rightly;
+        same = record { body = keeps.body; segments = keeps.segments; spare = keeps.spare; buffer = refl; next = refl };
+        looked_at = λ _. keeps.disk;
+      };
+      idle = λ idle. absurd (not_idle s request none idle);
+    }
+
+    cause_of : {T : Type 0} (why : ReadFault) → CountsReads {T = T} (d.failed_reads s.volume.disk) (d.failed_reads v.disk) (Err why) → IsCauseOf d (Err (refusal_for why)) false s.volume v
+    cause_of fault.Damaged counts = (refl, record { reads = counts.damaged refl; writes = keeps.disk.writes }, keeps.reopen)
+    cause_of fault.Disk counts = (record { reads = counts.disk refl; writes = keeps.disk.writes }, keeps.reopen)
+    cause_of fault.Memory counts = (refl, record { reads = counts.memory refl; writes = keeps.disk.writes }, keeps.reopen)
+
+    -- a reader's fault
+    pub refuses_fault : {T : Type 0} (request : Request) (why : ReadFault) → IsNoCommit request → CountsReads {T = T} (d.failed_reads s.volume.disk) (d.failed_reads v.disk) (Err why)
+        → (d.honest → (stored : List Stored) → AreKnown d s stored → IsNoDamage why)
+        → ((state : State) → state.reopen ≡ false → IsNoDamage why → LegalStep false state request (Err (refusal_for why)) state) → may_refuse request (refusal_for why) ≡ true
+        → Steps d s request (Err (refusal_for why)) (on_volume s v)
+    refuses_fault {T} request why none counts cause legal named = refuses_read request (refusal_for why) none
+        (λ h stored is. (legal (state_with s stored) clear (cause h stored is), undamaged_by why (cause h stored is))) named (rightly_by why)
+        (cause_of {T = T} why counts)
 
 -- FIND
-pub find_fails : (state : State) (query : Tree) (why : ReadFault) → state.reopen ≡ false → IsCause why → LegalStep plain_formats state (find query) (Err (refusal_for why)) state
+pub find_fails : (state : State) (query : Tree) (why : ReadFault) → state.reopen ≡ false → IsNoDamage why → LegalStep false state (find query) (Err (refusal_for why)) state
 find_fails state query fault.Damaged clear cause = absurd cause
-find_fails state query fault.Disk clear cause = fails state (find query) Disk clear (refl, inl refl)
-find_fails state query fault.Memory clear cause = fails state (find query) Memory clear (refl, refl)
+find_fails state query fault.Disk clear cause = clear_refusal false state state (find query) None Disk clear refl (refl, refl)
+find_fails state query fault.Memory clear cause = clear_refusal false state state (find query) None Memory clear refl (refl, refl)
 
 pub find_named : (query : Tree) (why : ReadFault) → may_refuse (find query) (refusal_for why) ≡ true
 find_named query fault.Damaged = refl
 find_named query fault.Disk = refl
 find_named query fault.Memory = refl
 
--- what the segments and the buffer answer is what the live documents do
-pub finds : {D : Type 0} (content : D → List ℕ) (s : Shown D) (stored : List (List Doc)) (query : Tree) (numbers : List ℕ) → AreKnown content s stored → s.reopen ≡ false
-    → numbers ≡ answer query (all_of stored) ++ answer query s.buffer → LegalStep plain_formats (state_with s stored) (find query) (Ok (found numbers)) (state_with s stored)
+-- what is found in two lists is found in the one and then in the other
+answer-append : (query : Tree) (xs ys : List Doc) → answer query (xs ++ ys) ≡ answer query xs ++ answer query ys
+answer-append query xs ys = ap numbers_of (filter-append (is_hit query) xs ys) ∙ map-append (λ (d : Doc). d.number) (filter (is_hit query) xs) (filter (is_hit query) ys)
+
+-- what is committed and the buffer answer is what the live documents do
+pub finds : {D : Type 0} (s : StoreView D) (stored : List Stored) (query : Tree) (numbers : List ℕ) → s.volume.reopen ≡ false
+    → numbers ≡ answer query (live_in stored) ++ answer query s.buffer → LegalStep false (state_with s stored) (find query) (Ok (found numbers)) (state_with s stored)
 unfolding LegalStep
-finds content s stored query numbers is clear e =
-    let live = live_documents (content s.disk) s.table.entries stored is.spelled in
-    record {
-      clear = clear;
-      due = refl;
-      reply = ap found (e ∙ sym (answer-append query (all_of stored) s.buffer) ∙ ap (λ docs. answer query (docs ++ s.buffer)) (sym live));
-      now = refl;
-      still_clear = clear;
-      mark = refl;
-      body = refl;
-    }
+finds s stored query numbers clear e = record {
+  clear = clear;
+  due = refl;
+  reply = ap found (e ∙ sym (answer-append query (live_in stored) s.buffer));
+  now = refl;
+  still_clear = clear;
+  mark = refl;
+  goes_on = refl;
+}
 
 -- SHOW. A look-up may fail before it knows whether the document lives.
-pub show_fails : (state : State) (n : ℕ) (why : ReadFault) → state.reopen ≡ false → IsCause why → LegalStep plain_formats state (show n) (Err (refusal_for why)) state
-show_fails state n why clear cause = fails state (show n) (refusal_for why) clear (by (is_live n state.now.documents) why cause)
+pub show_fails : (state : State) (n : ℕ) (why : ReadFault) → state.reopen ≡ false → IsNoDamage why → LegalStep false state (show n) (Err (refusal_for why)) state
+show_fails state n why clear cause = clear_refusal false state state (show n) (due state (show n)) (refusal_for why) clear refl (by (is_live n state.now.documents) why cause)
   where
-    by : (b : Bool) (why : ReadFault) → IsCause why → RefusesDue (if b then None else Some NoSuchDocument) plain_formats state (show n) (refusal_for why) state
+    by : (b : Bool) (why : ReadFault) → IsNoDamage why → RefusesDue (if b then None else Some NoSuchDocument) false state (show n) (refusal_for why) state
     by b fault.Damaged cause = absurd cause
-    by true fault.Disk cause = (refl, inl refl)
+    by true fault.Disk cause = (refl, refl)
     by false fault.Disk cause = (tt, refl)
     by true fault.Memory cause = (refl, refl)
     by false fault.Memory cause = (tt, refl)
@@ -178,81 +183,59 @@ show_named n fault.Damaged = refl
 show_named n fault.Disk = refl
 show_named n fault.Memory = refl
 
-module _ {D : Type 0} (content : D → List ℕ) (s : Shown D) (stored : List (List Doc)) (n : ℕ) (is : AreKnown content s stored) (clear : s.reopen ≡ false) where
-  now_is : (state_with s stored).now.documents ≡ all_of stored ++ s.buffer
-  now_is = ap (λ docs. docs ++ s.buffer) (live_documents (content s.disk) s.table.entries stored is.spelled)
-
-  rise_all : Rise (all_of stored)
-  rise_all = rises (all_of stored) (subst (λ docs. IsStrictlyIncreasing (numbers_of docs)) (live_documents (content s.disk) s.table.entries stored is.spelled) is.committed.rising)
-
-  shows : (t : List ℕ) → is_live n (all_of stored ++ s.buffer) ≡ true → text_of n (all_of stored ++ s.buffer) ≡ t
-      → LegalStep plain_formats (state_with s stored) (show n) (Ok (text_is t)) (state_with s stored)
+module _ {D : Type 0} (s : StoreView D) (stored : List Stored) (n : ℕ) (clear : s.volume.reopen ≡ false) where
+  shows : (t : List ℕ) → is_live n (live_in stored ++ s.buffer) ≡ true → text_of n (live_in stored ++ s.buffer) ≡ t
+      → LegalStep false (state_with s stored) (show n) (Ok (text_is t)) (state_with s stored)
   unfolding LegalStep
   shows t live e = record {
     clear = clear;
-    due = ap (λ b. if b then None else Some NoSuchDocument) (ap (is_live n) now_is ∙ live);
-    reply = ap text_is (sym e ∙ sym (ap (text_of n) now_is));
+    due = ap (λ b. if b then None else Some NoSuchDocument) live;
+    reply = ap text_is (sym e);
     now = refl;
     still_clear = clear;
     mark = refl;
-    body = refl;
+    goes_on = refl;
   }
 
-  shows_none : is_live n (all_of stored ++ s.buffer) ≡ false → LegalStep plain_formats (state_with s stored) (show n) (Err NoSuchDocument) (state_with s stored)
-  shows_none dead = fails (state_with s stored) (show n) NoSuchDocument clear
-      (subst (λ b. RefusesDue (if b then None else Some NoSuchDocument) plain_formats (state_with s stored) (show n) NoSuchDocument (state_with s stored)) (sym (ap (is_live n) now_is ∙ dead)) (tt, refl))
+  -- it is committed
+  pub shown_stored : (t : List ℕ) → is_live n (live_in stored) ≡ true → text_of n (live_in stored) ≡ t → LegalStep false (state_with s stored) (show n) (Ok (text_is t)) (state_with s stored)
+  shown_stored t live e = let found = live-found n (live_in stored) s.buffer live in shows t found.0 (found.1 ∙ e)
 
-  -- where the number lies in no segment's span, the buffer says it
-  module _ (none : All (λ (x : Segment). Spans x n → ⊥) s.segments) where
-    dead_before : is_live n (all_of stored) ≡ false
-    dead_before = in_none n s.segments stored is.opened rise_all (recursion_from_All _ s.segments none)
+  -- or the buffer says it
+  module _ (dead : is_live n (live_in stored) ≡ false) where
+    pub shown_buffered : (t : List ℕ) → is_live n s.buffer ≡ true → t ≡ text_of n s.buffer → LegalStep false (state_with s stored) (show n) (Ok (text_is t)) (state_with s stored)
+    shown_buffered t live e = let rest = live-second n (live_in stored) s.buffer dead in shows t (rest.0 ∙ live) (rest.1 ∙ sym e)
 
-    pub shown_buffered : (t : List ℕ) → is_live n s.buffer ≡ true → t ≡ text_of n s.buffer → LegalStep plain_formats (state_with s stored) (show n) (Ok (text_is t)) (state_with s stored)
-    shown_buffered t live e = let rest = live-second n (all_of stored) s.buffer dead_before in shows t (rest.0 ∙ live) (rest.1 ∙ sym e)
-
-    pub missing_buffered : is_live n s.buffer ≡ false → LegalStep plain_formats (state_with s stored) (show n) (Err NoSuchDocument) (state_with s stored)
-    missing_buffered dead = shows_none ((live-second n (all_of stored) s.buffer dead_before).0 ∙ dead)
-
-  -- where it lies in the span of one, that one says it
-  module _ (i : ℕ) (e : Entry) (x : Segment) (lt : i < length s.segments) (at_entry : e ≡ get_or s.table.entries i e) (at_segment : x ≡ get_or s.segments i x) where
-    pub spelled_here : SegmentSpells (extent_bytes (content s.disk) e.extent) (get_or stored i []) 1
-    spelled_here = entry_at (content s.disk) s.table.entries stored i e is.spelled
-        (omega (arith, lt, segments_long s.segments stored is.opened, entries_long (content s.disk) s.table.entries stored is.spelled)) at_entry
-
-    pub opened_here : IsSegmentOf x (get_or stored i [])
-    opened_here = segment_at s.segments stored i x is.opened lt at_segment
-
-    module _ (span : Spans x n) where
-      one : (is_live n (all_of stored) ≡ is_live n (get_or stored i [])) × (text_of n (all_of stored) ≡ text_of n (get_or stored i []))
-      one = in_one s.segments stored i x n is.opened (spelled_some (content s.disk) s.table.entries stored is.spelled) rise_all lt at_segment span
-
-      pub shown_here : (t : List ℕ) → reading.text_of (get_or stored i []) n ≡ Some t → LegalStep plain_formats (state_with s stored) (show n) (Ok (text_is t)) (state_with s stored)
-      shown_here t e =
-          let here = has_text n (get_or stored i []) t e in
-          let found = live-found n (all_of stored) s.buffer (one.0 ∙ here.0) in
-          shows t found.0 (found.1 ∙ one.1 ∙ here.1)
-
-      -- the committed numbers lie below those of the buffer
-      pub missing_here : IsBuffered s.table.next_number s.next s.buffer → reading.text_of (get_or stored i []) n ≡ None
-          → LegalStep plain_formats (state_with s stored) (show n) (Err NoSuchDocument) (state_with s stored)
-      missing_here kept e =
-          let last = last_in s.segments stored i x is.opened (spelled_some (content s.disk) s.table.entries stored is.spelled) lt at_segment in
-          let before = live_below (last_of x) 1 s.table.next_number (all_of stored)
-          (subst (λ docs. AllByRecursion (λ (d : Doc). (1 ≤ d.number) × (d.number < s.table.next_number)) docs) (live_documents (content s.disk) s.table.entries stored is.spelled)
-          (recursion_from_All _ _ is.committed.each)) last in
-          let none = dead_below n s.table.next_number s.next s.buffer (recursion_from_All _ s.buffer kept.each) (omega (arith, span.1, before)) in
-          shows_none ((live-first n (all_of stored) s.buffer none).0 ∙ one.0 ∙ no_text n (get_or stored i []) e)
+    pub missing : is_live n s.buffer ≡ false → LegalStep false (state_with s stored) (show n) (Err NoSuchDocument) (state_with s stored)
+    missing gone = clear_refusal false (state_with s stored) (state_with s stored) (show n) (Some NoSuchDocument) NoSuchDocument clear
+        (ap (λ b. if b then None else Some NoSuchDocument) ((live-second n (live_in stored) s.buffer dead).0 ∙ gone)) (tt, refl)
 
 -- COUNTS
-pub counts : {D : Type 0} (content : D → List ℕ) (s : Shown D) (stored : List (List Doc)) (k : ℕ) → AreKnown content s stored → s.reopen ≡ false
-    → k ≡ sum_by count_of s.segments + length s.buffer → LegalStep plain_formats (state_with s stored) count (Ok (counted k s.next)) (state_with s stored)
+pub counts : {D : Type 0} (s : StoreView D) (stored : List Stored) (k : ℕ) → s.volume.reopen ≡ false
+    → k ≡ length (live_in stored) + length s.buffer → LegalStep false (state_with s stored) count (Ok (counted k s.next)) (state_with s stored)
 unfolding LegalStep
-counts content s stored k is clear e = record {
+counts s stored k clear e = record {
   clear = clear;
   due = refl;
-  reply = ap (λ m. counted m s.next) (e ∙ ap (λ m. m + length s.buffer) (count_all s.segments stored is.opened) ∙ sym (length-append (all_of stored) s.buffer) ∙ sym (ap length (now_is content s stored 0 is clear)));
+  reply = ap (λ m. counted m s.next) (e ∙ sym (length-append (live_in stored) s.buffer));
   now = refl;
   still_clear = clear;
   mark = refl;
-  body = refl;
+  goes_on = refl;
 }
+
+-- ---- what a store means, its disk holds
+module _ {D : Type 0} (d : Ghosts D) (s : StoreView D) where
+  pub marked_holds : (state : State) → Means d s state → s.volume.reopen ≡ false → (image : List ℕ) → IsImage (d.content s.volume.disk) (d.is_open s.volume.disk) image → Holds image (marked state)
+  marked_holds state m clear image is = subst (λ (x : State). Holds image (marked x)) (sym m.state_is)
+      (kept_holds (d.content s.volume.disk) (d.is_open s.volume.disk) s.volume.spare (committed_by s.volume m.stored) (m.stand.kept clear) (subst (λ (x : State). IsCollection (marked x)) m.state_is m.committed) image is)
+
+  -- the bytes are an image of their own
+  pub marked_now : (state : State) → Means d s state → s.volume.reopen ≡ false → Holds (d.content s.volume.disk) (marked state)
+  marked_now state m clear = marked_holds state m clear (d.content s.volume.disk) (record { size = refl; same = λ p shut. refl })
+
+  pub one_state : (a b : State) → Means d s a → Means d s b → s.volume.reopen ≡ false → a ≡ b
+  one_state a b m n clear =
+      let spelled = kept_spelled (d.content s.volume.disk) (d.is_open s.volume.disk) s.volume.spare (committed_by s.volume m.stored) (m.stand.kept clear) in
+      let others = kept_spelled (d.content s.volume.disk) (d.is_open s.volume.disk) s.volume.spare (committed_by s.volume n.stored) (n.stand.kept clear) in
+      m.state_is ∙ ap (state_with s) (one_stored (d.content s.volume.disk) s.volume.body.entries m.stored n.stored spelled others) ∙ sym n.state_is

@@ -5,15 +5,14 @@ use Rattle.pk_disk.specs.Disk.{Rose}
 use Rattle.pk_manifest.specs.declared.fault.ManifestFault.{ManifestFault}
 use Rattle.pk_manifest.specs.declared.fault.ManifestFault.TheVariants as manifest
 use Rattle.pk_manifest.specs.declared.manifest.Part.{Part as Entry}
-use Rattle.pk_manifest.specs.Spelling.{Body as Table, view}
+use Rattle.pk_manifest.specs.Spelling.{Body, view}
 use Rattle.pk_segment.specs.declared.segment.Segment.{Segment}
 use Rattle.pk_segment.specs.Opened.{first_of, last_of}
 use Rattle.pk_store.specs.declared.opening.Found.{Found}
 use Rattle.pk_store.specs.declared.refused.OpenFault.{OpenFault}
-use Rattle.pk_store.specs.declared.refused.OpenFault.TheVariants.{TooSmall, AlreadyAStore}
-use Rattle.pk_store.specs.declared.refused.OpenFault.TheVariants.{NotAStore, Damaged, Disk, Memory}
-use Rattle.pk_store.specs.Opening.{FaultCause, OpenAsSegments, OpensAs, OpensAsSegment}
-use Rattle.pk_store.specs.Opening.{RefusesOpening}
+use Rattle.pk_store.specs.declared.refused.OpenFault.TheVariants.{TooSmall, NotAStore, Damaged}
+use Rattle.pk_store.specs.declared.refused.OpenFault.TheVariants.{Disk, Memory}
+use Rattle.pk_store.specs.Opening.{OpenAsSegments, OpensAsStore, OpensAsSegment, RefusesOpening}
 
 -- what a fault of the body in force means to opening
 abbrev pub body_fault : ManifestFault → OpenFault
@@ -27,7 +26,6 @@ body_fault manifest.Memory = Memory
 abbrev pub SegmentCause : {T : Type 0} → Result T OpenFault → ℕ → ℕ → Type 0
 SegmentCause (Ok v) reads reads' = reads' ≡ reads
 SegmentCause (Err TooSmall) reads reads' = ⊥
-SegmentCause (Err AlreadyAStore) reads reads' = ⊥
 SegmentCause (Err NotAStore) reads reads' = ⊥
 SegmentCause (Err Damaged) reads reads' = reads' ≡ reads
 SegmentCause (Err Disk) reads reads' = Rose reads reads'
@@ -42,22 +40,20 @@ OpensNext bytes low next e s =
 abbrev pub SegmentAs : (Segment → Type 0) → Result Segment OpenFault → Type 0
 SegmentAs P (Ok s) = P s
 SegmentAs P (Err TooSmall) = ⊥
-SegmentAs P (Err AlreadyAStore) = ⊥
 SegmentAs P (Err NotAStore) = ⊥
 SegmentAs P (Err Damaged) = (s : Segment) → P s → ⊥
 SegmentAs P (Err Disk) = Unit {0}
 SegmentAs P (Err Memory) = Unit {0}
 
 -- the entries open as those segments, or, where one is damaged, as none
-abbrev pub SegmentsAs : List ℕ → Table → Result (Vec Segment) OpenFault → Type 0
-SegmentsAs bytes table (Ok v) = OpenAsSegments bytes 0 table.next_number table.entries v.items
-SegmentsAs bytes table (Err TooSmall) = ⊥
-SegmentsAs bytes table (Err AlreadyAStore) = ⊥
-SegmentsAs bytes table (Err NotAStore) = ⊥
-SegmentsAs bytes table (Err Damaged) = (segments : List Segment)
-    → OpenAsSegments bytes 0 table.next_number table.entries segments → ⊥
-SegmentsAs bytes table (Err Disk) = Unit {0}
-SegmentsAs bytes table (Err Memory) = Unit {0}
+abbrev pub SegmentsAs : List ℕ → Body → Result (Vec Segment) OpenFault → Type 0
+SegmentsAs bytes b (Ok v) = OpenAsSegments bytes 0 b.next_number b.entries v.items
+SegmentsAs bytes b (Err TooSmall) = ⊥
+SegmentsAs bytes b (Err NotAStore) = ⊥
+SegmentsAs bytes b (Err Damaged) = (segments : List Segment)
+    → OpenAsSegments bytes 0 b.next_number b.entries segments → ⊥
+SegmentsAs bytes b (Err Disk) = Unit {0}
+SegmentsAs bytes b (Err Memory) = Unit {0}
 
 -- So far these segments are open, the last of their numbers is low, and those entries are left.
 pub record IsOpenSoFar (bytes : List ℕ) (next : ℕ) (entries : List Entry) (low : ℕ)
@@ -67,17 +63,14 @@ pub record IsOpenSoFar (bytes : List ℕ) (next : ℕ) (entries : List Entry) (l
   pub back : (all : List Segment) → OpenAsSegments bytes 0 next entries all
       → (rest : List Segment) × OpenAsSegments bytes low next left rest
 
--- what was found on the disk, by its bytes
-abbrev pub FoundAs : List ℕ → Result Found OpenFault → Type 0
-FoundAs bytes (Ok found) = OpensAs bytes found.half (view found.manifest) found.segments.items
-FoundAs bytes (Err why) = RefusesOpening bytes why
+-- what was found on the disk, by its bytes; the size was told before
+abbrev pub JudgesFound : List ℕ → Result Found OpenFault → Type 0
+JudgesFound bytes (Ok found) =
+    OpensAsStore bytes found.half (view found.manifest) found.segments.items
+JudgesFound bytes (Err TooSmall) = ⊥
+JudgesFound bytes (Err why) = RefusesOpening bytes why
 
--- Disk is answered exactly where a read, or the sync, failed; the size was told before
-abbrev pub FoundCause : {T : Type 0} → Result T OpenFault → ℕ → ℕ → ℕ → ℕ → Type 0
-FoundCause (Ok v) r r' w w' = (r' ≡ r) × (w' ≡ w)
-FoundCause (Err TooSmall) r r' w w' = ⊥
-FoundCause (Err AlreadyAStore) r r' w w' = ⊥
-FoundCause (Err NotAStore) r r' w w' = FaultCause NotAStore r r' w w'
-FoundCause (Err Damaged) r r' w w' = FaultCause Damaged r r' w w'
-FoundCause (Err Disk) r r' w w' = FaultCause Disk r r' w w'
-FoundCause (Err Memory) r r' w w' = FaultCause Memory r r' w w'
+-- the size was told before
+abbrev pub IsLarge : {T : Type 0} → Result T OpenFault → Type 0
+IsLarge (Err TooSmall) = ⊥
+IsLarge r = Unit {0}

@@ -1,21 +1,16 @@
 //! The commit: what is uncommitted goes to the disk, so that it outlives a crash.
 //!
 //! 1. All memory is taken and all places are (`planning`). Nothing of the disk was touched.
-//! 2. The new segment and the next body are put in force (`replacing`).
-ghost use Rattle.std.specs.Prelude.{◌≡◌, ◌==◌, ◌&&◌, false, not};
-ghost use Rattle.pk_manifest.specs.Spelling.{view};
+//! 2. The new segment and the next body are put in force (`Volume::carry_out`).
+//! 3. What was uncommitted leaves the buffer.
+ghost use Rattle.std.specs.Prelude.{◌≡◌, ◌==◌, ◌&&◌, not};
 ghost use Rattle.pk_model.specs.Steps.{commit, committed};
-ghost use Rattle.pk_model.specs.Legal.{answered};
-ghost use Rattle.pk_store.specs.Plan.{DueAs, IsPlan, MayCommit, is_new};
-ghost use Rattle.pk_store.specs.Store.{Steps};
+ghost use Rattle.pk_state.specs.Legal.{answered};
+ghost use Rattle.pk_store.specs.Steps.{Steps};
 
-use crate::planning::{Plan, plan_commit};
-use crate::replacing::{ReplaceFault, replace};
 use crate::store::Store;
 use pk_disk::Disk;
-use pk_manifest::Manifest;
 use pk_model::Refusal;
-use pk_model::limits::{END_OF_IDS, MAX_SEGMENTS};
 use std::alloc::Global;
 
 // Whether a commit has something to write: a document, or a next number that rose.
@@ -23,19 +18,6 @@ fn has_news(buffered: usize, next: u32, committed_next: u32) -> bool
     ensures { result ≡ not ((buffered == 0) && (next == committed_next)) }
 {
     buffered != 0 || next != committed_next
-}
-
-// The refusal that the body in force and so many documents fix, if any.
-fn due(manifest: &Manifest, buffered: usize) -> Option<Refusal>
-    ensures { DueAs (view manifest.now) buffered result }
-{
-    if manifest.generation == END_OF_IDS || manifest.next_segment == END_OF_IDS {
-        return Some(Refusal::NumbersUsedUp);
-    }
-    if buffered > 0 && manifest.entries.len() >= MAX_SEGMENTS {
-        return Some(Refusal::TooManySegments);
-    }
-    None
 }
 
 impl<D: Disk> Store<D> {
@@ -49,49 +31,29 @@ impl<D: Disk> Store<D> {
     /// large, as full or as memory, before anything is written. As disk where the device failed:
     /// after a write or a sync that failed the store has to be opened again.
     pub fn commit(&mut self, alloc: Global) -> Result<(), Refusal>
-        ensures step { Steps D.honest D.content D.is_open D.moment D.images_since D.failed_reads
-            D.failed_writes self.old commit (answered (λ _. committed) result) self.new }
-        // With nothing to do neither the store nor the disk is touched.
-        ensures untouched { is_new self.old ≡ false → self.new ≡ self.old }
+        ensures step { Steps D.Disk self.old commit (answered (λ _. committed) result) self.new }
     {
         let buffered = self.buffer.len();
-        if self.reopen {
+        if self.volume.must_reopen() {
             return Err(Refusal::Reopen);
         }
-        if !has_news(buffered, self.next, self.manifest.next_number) {
+        if !has_news(buffered, self.next, self.volume.next_number()) {
             return Ok(());
         }
-        if let Some(why) = due(&self.manifest, buffered) {
+        if let Some(why) = self.volume.due(buffered) {
             return Err(why);
         }
         let documents = self.buffer.documents();
-        match plan_commit(alloc, &self.manifest, &self.segments, documents, self.next) {
-            Ok(plan) => self.carry_out(plan),
-            Err(why) => Err(why),
-        }
-    }
-
-    // Puts the plan's body in force with its segment, and keeps what it says.
-    fn carry_out(&mut self, plan: Plan) -> Result<(), Refusal>
-        requires may { MayCommit self.old }
-        requires planned { IsPlan self.old.table self.old.segments self.old.buffer self.old.next plan }
-        ensures step { Steps D.honest D.content D.is_open D.moment D.images_since D.failed_reads
-            D.failed_writes self.old commit (answered (λ _. committed) result) self.new }
-    {
-        let spare = self.spare;
-        match replace(&mut self.disk, spare, &plan.pieces, &plan.body) {
+        let plan = match self.volume.plan_commit(alloc, documents, self.next) {
+            Ok(plan) => plan,
+            Err(why) => return Err(why),
+        };
+        match self.volume.carry_out(plan) {
             Ok(()) => {
-                self.manifest = plan.manifest;
-                self.segments = plan.segments;
-                self.spare = spare.other();
                 self.buffer.clear();
                 Ok(())
             }
-            Err(ReplaceFault::Read) => Err(Refusal::Disk),
-            Err(ReplaceFault::Write) => {
-                self.reopen = true;
-                Err(Refusal::Disk)
-            }
+            Err(why) => Err(why),
         }
     }
 }

@@ -6,25 +6,23 @@
 //!    of the directory are.
 //!
 //! Nothing is written, and what a text holds is not judged before it is read.
-ghost use Rattle.std.specs.Prelude.{◌≡◌, ◌≤◌, ◌+◌, [], false, length, IfOk};
+ghost use Rattle.std.specs.Prelude.{◌≡◌, ◌≤◌, ◌+◌, length, IfOk};
 ghost use Rattle.pk_disk.specs.Disk.{nowhere};
-ghost use Rattle.pk_disk.specs.Since.{IsOnlyRead, NoneNew};
+ghost use Rattle.pk_disk.specs.Frames.{KeepsDisk};
+ghost use Rattle.pk_disk.specs.Since.{NoneNew};
 ghost use Rattle.pk_disk.specs.Units.{start_of};
 ghost use Rattle.pk_manifest.specs.Bodies.{bodies_end};
 ghost use Rattle.pk_manifest.specs.Current.{units_of_disk};
 ghost use Rattle.pk_manifest.specs.Sound.{IsBody};
 ghost use Rattle.pk_manifest.specs.Spelling.{view};
-ghost use Rattle.pk_model.specs.Collection.{Collection};
-ghost use Rattle.pk_segment.specs.Extent.{KeepsDisk};
-ghost use Rattle.pk_store.specs.Judging.{FoundAs, FoundCause, OpensNext, SegmentAs};
+ghost use Rattle.pk_state.specs.Kept.{LieInside};
+ghost use Rattle.pk_store.specs.Judging.{JudgesFound, IsLarge, OpensNext, SegmentAs};
 ghost use Rattle.pk_store.specs.Judging.{SegmentCause, SegmentsAs};
-ghost use Rattle.pk_store.specs.Kept.{LieInside};
-ghost use Rattle.pk_store.specs.Opening.{Judges, OpenCause, OpensAsSegment, OpensTo};
-ghost use Rattle.pk_store.specs.Opening.{TellsTooSmall, disk_of};
-ghost use Rattle.pk_store.specs.Stored.{Holds};
+ghost use Rattle.pk_store.specs.Opening.{OnSynced, OpenCause, Opens, OpensAsSegment};
 
 use crate::refused::{OpenFault, Refused};
 use crate::store::Store;
+use crate::volume::Volume;
 use pk_buffer::Buffer;
 use pk_disk::{Disk, units_in};
 use pk_manifest::{Half, Manifest, ManifestFault, Part, read_current};
@@ -69,8 +67,7 @@ impl From<ManifestFault> for OpenFault {
 fn open_entry<D: Disk>(disk: &mut D, entry: Part) -> Result<Segment, OpenFault>
     requires { start_of entry.extent + entry.extent.bytes ≤ length (D.content disk.old) }
     ensures opened { D.honest → SegmentAs (OpensAsSegment (D.content disk.old) entry) result }
-    ensures keeps { KeepsDisk D.honest D.content D.is_open D.moment D.images_since
-        D.failed_writes disk.old disk.new }
+    ensures keeps { KeepsDisk D.Disk disk.old disk.new }
     ensures cause { SegmentCause result (D.failed_reads disk.old) (D.failed_reads disk.new) }
 {
     if entry.kind != PLAIN || entry.dead.is_some() {
@@ -88,8 +85,7 @@ fn open_entry<D: Disk>(disk: &mut D, entry: Part) -> Result<Segment, OpenFault>
 fn open_next<D: Disk>(disk: &mut D, entry: Part, low: u32, next: u32) -> Result<Segment, OpenFault>
     requires { start_of entry.extent + entry.extent.bytes ≤ length (D.content disk.old) }
     ensures opened { D.honest → SegmentAs (OpensNext (D.content disk.old) low next entry) result }
-    ensures keeps { KeepsDisk D.honest D.content D.is_open D.moment D.images_since
-        D.failed_writes disk.old disk.new }
+    ensures keeps { KeepsDisk D.Disk disk.old disk.new }
     ensures cause { SegmentCause result (D.failed_reads disk.old) (D.failed_reads disk.new) }
 {
     let segment = open_entry(disk, entry)?;
@@ -108,8 +104,7 @@ fn open_segments<D: Disk>(
     requires { LieInside (length (D.content disk.old)) manifest.now.entries.items }
     ensures opened { D.honest → SegmentsAs (D.content disk.old) (view manifest.now) result }
     ensures count { IfOk result (λ v. length v.items ≡ length manifest.now.entries.items) }
-    ensures keeps { KeepsDisk D.honest D.content D.is_open D.moment D.images_since
-        D.failed_writes disk.old disk.new }
+    ensures keeps { KeepsDisk D.Disk disk.old disk.new }
     ensures cause { SegmentCause result (D.failed_reads disk.old) (D.failed_reads disk.new) }
 {
     let mut segments = Vec::new(alloc);
@@ -127,15 +122,14 @@ fn open_segments<D: Disk>(
 // What the disk holds, by reads alone.
 fn look<D: Disk>(alloc: Global, disk: &mut D) -> Result<Found, OpenFault>
     requires { bodies_end ≤ length (D.content disk.old) }
-    ensures found { D.honest → FoundAs (D.content disk.old) result }
+    ensures found { D.honest → JudgesFound (D.content disk.old) result }
     ensures sound { IfOk result
         (λ found. IsBody (units_of_disk (D.content disk.old)) (view found.manifest)) }
     ensures count { IfOk result
         (λ found. length found.segments.items ≡ length found.manifest.entries.items) }
-    ensures keeps { KeepsDisk D.honest D.content D.is_open D.moment D.images_since
-        D.failed_writes disk.old disk.new }
-    ensures cause { FoundCause result (D.failed_reads disk.old) (D.failed_reads disk.new)
-        (D.failed_writes disk.old) (D.failed_writes disk.new) }
+    ensures keeps { KeepsDisk D.Disk disk.old disk.new }
+    ensures large { IsLarge result }
+    ensures cause { OpenCause D.Disk disk.old disk.new result }
 {
     let (manifest, half) = read_current(alloc, disk)?;
     let segments = open_segments(alloc, disk, &manifest)?;
@@ -149,17 +143,17 @@ fn look<D: Disk>(alloc: Global, disk: &mut D) -> Result<Found, OpenFault>
 // What the disk holds, once nothing is open.
 fn judge<D: Disk>(alloc: Global, disk: &mut D) -> Result<Found, OpenFault>
     requires { bodies_end ≤ length (D.content disk.old) }
-    ensures found { D.honest → FoundAs (D.content disk.old) result }
+    ensures found { D.honest → JudgesFound (D.content disk.old) result }
     ensures sound { IfOk result
         (λ found. IsBody (units_of_disk (D.content disk.old)) (view found.manifest)) }
     ensures count { IfOk result
         (λ found. length found.segments.items ≡ length found.manifest.entries.items) }
     ensures none_new { D.honest → NoneNew D.moment D.images_since disk.old disk.new }
     ensures content { D.honest → D.content disk.new ≡ D.content disk.old }
-    ensures closed { D.honest → IfOk result (λ _. D.is_open disk.new ≡ nowhere) }
+    ensures closed { D.honest → OnSynced result (D.is_open disk.new ≡ nowhere) }
     ensures size { length (D.content disk.new) ≡ length (D.content disk.old) }
-    ensures cause { FoundCause result (D.failed_reads disk.old) (D.failed_reads disk.new)
-        (D.failed_writes disk.old) (D.failed_writes disk.new) }
+    ensures large { IsLarge result }
+    ensures cause { OpenCause D.Disk disk.old disk.new result }
 {
     let Ok(()) = disk.sync() else {
         return Err(OpenFault::Disk);
@@ -178,26 +172,12 @@ impl<D: Disk> Store<D> {
     ///
     /// No more than `cache_blocks` decoded blocks will be kept, none with 0, at most 65,536. So far
     /// there are none to keep.
-    pub fn open_on(alloc: Global, mut disk: D, _cache_blocks: u32) -> Result<Store<D>, Refused<D>>
-        // What is answered, by the bytes.
-        ensures judged { D.honest → Judges (D.content disk) result }
-
-        // For every collection that the bytes hold, what is marked and now are that collection.
-        ensures opened { D.honest → (c : Collection) → Holds (D.content disk) c
-            → OpensTo D.content D.is_open (D.content disk) c result }
-
-        // No image is new, whatever is answered; after Ok nothing is open.
-        ensures none_new { D.honest → NoneNew D.moment D.images_since disk (disk_of result) }
-        ensures content { D.honest → D.content (disk_of result) ≡ D.content disk }
-        ensures closed { D.honest → IfOk result (λ s. D.is_open s.disk ≡ nowhere) }
-
-        // Sizes and causes, on every disk.
-        ensures clear { IfOk result (λ s. s.reopen ≡ false) }
-        ensures unbuffered { IfOk result (λ s. (s.buffer ≡ []) × (s.next ≡ s.table.next_number)) }
-        ensures too_small { TellsTooSmall (units_of_disk (D.content disk)) disk result }
-        ensures size { length (D.content (disk_of result)) ≡ length (D.content disk) }
-        ensures cause { OpenCause result (D.failed_reads disk) (D.failed_reads (disk_of result))
-            (D.failed_writes disk) (D.failed_writes (disk_of result)) }
+    pub fn open_on(
+        alloc: Global,
+        mut disk: D,
+        _cache_blocks: u32,
+    ) -> Result<Store<D>, Refused<D, OpenFault>>
+        ensures { Opens D.Disk disk result }
     {
         if units_in(disk.len()) < LEAST_UNITS {
             return Err(Refused {
@@ -209,14 +189,11 @@ impl<D: Disk> Store<D> {
             Err(why) => Err(Refused { disk, why }),
             Ok(found) => {
                 let next = found.manifest.next_number;
+                let spare = found.half.other();
                 Ok(Store {
-                    disk,
-                    manifest: found.manifest,
-                    segments: found.segments,
-                    spare: found.half.other(),
+                    volume: Volume::new(disk, found.manifest, found.segments, spare),
                     buffer: Buffer::new(alloc),
                     next,
-                    reopen: false,
                 })
             }
         }

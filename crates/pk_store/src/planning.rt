@@ -1,51 +1,33 @@
-//! What a commit is going to write: all its memory is taken and all its places are, and nothing of
-//! the disk was touched.
-ghost use Rattle.std.specs.Prelude.{
-  ◌≡◌,
-  ◌≤◌,
-  ◌<◌,
-  ◌+◌,
-  ◌++◌,
-  ◌∷◌,
-  [],
-  List,
-  length,
-  map,
-  All,
-  IfOk,
-  OnOk,
-};
+//! What is going to be written: all its memory is taken and all its places are, and nothing of the
+//! disk was touched.
+ghost use Rattle.std.specs.Prelude.{◌≡◌, ◌≤◌, ◌<◌, ◌+◌, ◌++◌, ◌∷◌, [], ℕ, List, length, All, IfOk};
+ghost use Rattle.std.specs.Prelude.{None, OnOk};
+ghost use Rattle.pk_disk.specs.Units.{start_of, units_in};
 ghost use Rattle.std.specs.List.Sorted.{IsStrictlyIncreasing};
 ghost use Rattle.pk_manifest.specs.Sound.{IsBody, entry_limit};
-ghost use Rattle.pk_manifest.specs.Spelling.{Body as Table, view};
-ghost use Rattle.pk_model.specs.declared.limits.TheConstants.{END_OF_IDS};
+ghost use Rattle.pk_manifest.specs.Spelling.{view};
+ghost use Rattle.pk_model.specs.Limits.{end_of_ids};
 ghost use Rattle.pk_model.specs.Collection.{Doc, numbers_of};
-ghost use Rattle.pk_model.specs.Views.{doc_of};
 ghost use Rattle.pk_segment.specs.Opened.{IsSegmentOf};
 ghost use Rattle.pk_segment.specs.Plain.{SegmentSpells, docs_of};
-ghost use Rattle.pk_store.specs.Plan.{
-  BuildsAs,
-  IsNewSegment,
-  IsPlan,
-  PlacesAs,
-  PlansAs,
-  new_entry,
-  table_after,
-};
+ghost use Rattle.pk_space.specs.Space.{is_free};
+ghost use Rattle.pk_state.specs.Writing.{new_entry};
+ghost use Rattle.pk_store.specs.Plan.{AreNext, BuildsAs, DueAs, IsPlanOf, PlacesAs, PlansAs};
+ghost use Rattle.pk_store.specs.Plan.{IsTaken, body_after, one_claim};
 
-use crate::pieces::Piece;
 use pk_disk::Extent;
 use pk_manifest::{Manifest, Part};
 use pk_model::{Document, Refusal};
 use pk_posting::SliceSource;
+use pk_replace::Piece;
 use pk_segment::{BuildFault, Segment, build};
-use pk_space::Space;
+use pk_space::{Full, Space};
 use std::alloc::{AllocError, Global};
 
-/// What a commit writes, and what the store keeps after it.
+/// What is written, and what is kept after it.
 #[derive(Drop)]
 pub(crate) struct Plan {
-    /// The bytes of the new segment, at their place; or none.
+    /// The bytes of what is new, each at its place.
     pub(crate) pieces: Vec<Piece>,
     /// The bytes of the next body.
     pub(crate) body: Vec<u8>,
@@ -83,31 +65,46 @@ fn new_segment(alloc: Global, documents: &[Document]) -> Result<(Vec<u8>, Segmen
     Ok((bytes, segment))
 }
 
-// The first run of free units that fits so many bytes.
-fn place(alloc: Global, manifest: &Manifest, bytes: u32) -> Result<Extent, Refusal>
-    requires some { 1 ≤ bytes }
-    requires sound { IsBody manifest.now.units (view manifest.now) }
-    ensures { PlacesAs (view manifest.now) bytes result }
+// The first run of free units that fits so many bytes, which are free no more.
+fn place(space: &mut Space, bytes: u32) -> Result<Extent, Full>
+    requires { 1 ≤ bytes }
+    ensures { IsTaken (is_free space.old) (is_free space.new) bytes result }
 {
-    let Ok(named) = manifest.extents(alloc) else {
-        return Err(Refusal::Memory);
-    };
-    let Ok(mut space) = Space::of(alloc, manifest.units, &named) else {
-        return Err(Refusal::Memory);
-    };
-    match space.take(Extent::of_bytes(0, bytes).units) {
-        Ok(first) => Ok(Extent::of_bytes(first, bytes)),
-        Err(full) => Err(Refusal::Full {
-            need: full.need,
-            largest: full.largest,
-        }),
+    let first = space.take(Extent::of_bytes(0, bytes).units)?;
+    Ok(Extent::of_bytes(first, bytes))
+}
+
+// Extents of these lengths in their order, each at the first run of free units that fits, beside
+// what the body names and what was placed before.
+fn place_all(alloc: Global, manifest: &Manifest, lengths: &[u32]) -> Result<Vec<Extent>, Refusal>
+    requires some { All (λ n. 1 ≤ n) lengths.now }
+    requires sound { IsBody manifest.now.units (view manifest.now) }
+    ensures { PlacesAs (view manifest.now) lengths.now result }
+{
+    let named = manifest.extents(alloc)?;
+    let mut space = Space::of(alloc, manifest.units, &named)?;
+    let mut extents = Vec::new(alloc);
+    for bytes in lengths {
+        match place(&mut space, *bytes) {
+            Ok(extent) => {
+                let Ok(()) = extents.push(extent) else {
+                    return Err(Refusal::Memory);
+                };
+            }
+            Err(Full { need, largest }) => return Err(Refusal::Full { need, largest }),
+        }
     }
+    Ok(extents)
 }
 
 // The body that follows, with the same segments.
-fn next_body(alloc: Global, manifest: &Manifest, next_number: u32) -> Result<Manifest, AllocError>
-    requires generation { manifest.now.generation < END_OF_IDS }
-    ensures { IfOk result (λ m. view m ≡ table_after (view manifest.now) next_number []) }
+fn next_manifest(
+    alloc: Global,
+    manifest: &Manifest,
+    next_number: u32,
+) -> Result<Manifest, AllocError>
+    requires generation { manifest.now.generation < end_of_ids }
+    ensures { IfOk result (λ m. view m ≡ body_after (view manifest.now) next_number []) }
 {
     Ok(Manifest {
         generation: manifest.generation + 1,
@@ -120,7 +117,7 @@ fn next_body(alloc: Global, manifest: &Manifest, next_number: u32) -> Result<Man
 
 // Names one more segment, in this extent.
 fn put_part(manifest: &mut Manifest, extent: Extent) -> Result<(), AllocError>
-    requires { manifest.old.next_segment < END_OF_IDS }
+    requires { manifest.old.next_segment < end_of_ids }
     ensures numbers { OnOk result ((manifest.new.generation ≡ manifest.old.generation)
         × (manifest.new.units ≡ manifest.old.units)
         × (manifest.new.next_number ≡ manifest.old.next_number)
@@ -145,11 +142,11 @@ fn plan_next_number(
     segments: &[Segment],
     next_number: u32,
 ) -> Result<Plan, AllocError>
-    requires generation { manifest.now.generation < END_OF_IDS }
+    requires generation { manifest.now.generation < end_of_ids }
     requires few { length manifest.now.entries.items ≤ entry_limit }
-    ensures { IfOk result (IsPlan (view manifest.now) segments.now [] next_number) }
+    ensures { IfOk result (IsPlanOf (view manifest.now) segments.now next_number [] [] []) }
 {
-    let manifest = next_body(alloc, manifest, next_number)?;
+    let manifest = next_manifest(alloc, manifest, next_number)?;
     let body = manifest.spell(alloc)?;
     Ok(Plan {
         pieces: Vec::new(alloc),
@@ -169,14 +166,13 @@ fn plan_segment(
     bytes: Vec<u8>,
     segment: Segment,
 ) -> Result<Plan, AllocError>
-    requires generation { manifest.now.generation < END_OF_IDS }
-    requires id { manifest.now.next_segment < END_OF_IDS }
+    requires generation { manifest.now.generation < end_of_ids }
+    requires id { manifest.now.next_segment < end_of_ids }
     requires room { length manifest.now.entries.items < entry_limit }
-    ensures { IfOk result (λ p. (docs : List Doc) → 0 < length docs
-        → SegmentSpells bytes.items docs 1 → IsNewSegment (view manifest.now) docs extent segment
-        → IsPlan (view manifest.now) segments.now docs next_number p) }
+    ensures { IfOk result (IsPlanOf (view manifest.now) segments.now next_number (extent ∷ [])
+        (segment ∷ []) (one_claim (start_of extent) bytes.items)) }
 {
-    let mut manifest = next_body(alloc, manifest, next_number)?;
+    let mut manifest = next_manifest(alloc, manifest, next_number)?;
     put_part(&mut manifest, extent)?;
     let body = manifest.spell(alloc)?;
     let mut segments = Vec::from_slice(alloc, segments)?;
@@ -205,28 +201,19 @@ pub(crate) fn plan_commit(
     next_number: u32,
 ) -> Result<Plan, Refusal>
     requires sound { IsBody manifest.now.units (view manifest.now) }
-    requires generation { manifest.now.generation < END_OF_IDS }
-    requires id { manifest.now.next_segment < END_OF_IDS }
-    requires room { 0 < length documents.now → length manifest.now.entries.items < entry_limit }
-    requires rising { IsStrictlyIncreasing (numbers_of (docs_of documents.now)) }
-    requires least { All (λ d. 1 ≤ d.number.0) documents.now }
-    ensures { PlansAs (view manifest.now) segments.now (docs_of documents.now) next_number result }
+    requires opened { length segments.now ≡ length manifest.now.entries.items }
+    requires due { DueAs (view manifest.now) (length documents.now) None }
+    requires next { AreNext (view manifest.now) (docs_of documents.now) next_number }
+    ensures { (size : ℕ) → IsBody (units_in size) (view manifest.now)
+        → PlansAs size (view manifest.now) segments.now (docs_of documents.now) next_number result }
 {
     if documents.is_empty() {
-        let Ok(plan) = plan_next_number(alloc, manifest, segments, next_number) else {
-            return Err(Refusal::Memory);
-        };
-        return Ok(plan);
+        return Ok(plan_next_number(alloc, manifest, segments, next_number)?);
     }
-    let (bytes, segment) = match new_segment(alloc, documents) {
-        Ok(built) => built,
-        Err(why) => return Err(why),
-    };
-    let extent = match place(alloc, manifest, bytes.len() as u32) {
-        Ok(extent) => extent,
-        Err(why) => return Err(why),
-    };
-    let Ok(plan) = plan_segment(
+    let (bytes, segment) = new_segment(alloc, documents)?;
+    let extents = place_all(alloc, manifest, &[bytes.len() as u32])?;
+    let extent = extents[0];
+    Ok(plan_segment(
         alloc,
         manifest,
         segments,
@@ -234,8 +221,5 @@ pub(crate) fn plan_commit(
         extent,
         bytes,
         segment,
-    ) else {
-        return Err(Refusal::Memory);
-    };
-    Ok(plan)
+    )?)
 }

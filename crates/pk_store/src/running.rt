@@ -3,7 +3,7 @@ ghost use Rattle.std.specs.Prelude.{◌≡◌, map, IfOk, OnErr};
 ghost use Rattle.pk_model.specs.Steps.{add, commit, count, delete, find, show};
 ghost use Rattle.pk_model.specs.Tree.{tree_of};
 ghost use Rattle.pk_model.specs.Views.{reply_of, request_of};
-ghost use Rattle.pk_store.specs.Store.{RunsTo, Steps};
+ghost use Rattle.pk_store.specs.Steps.{AreSteps, RunsTo, Steps};
 
 use crate::store::Store;
 use pk_disk::Disk;
@@ -14,7 +14,10 @@ impl<D: Disk> Store<D> {
     /// Carries out the commands in turn and answers each, a refusal too. The room for the replies
     /// is taken first: where there is none, no command was carried out.
     pub fn run(&mut self, alloc: Global, commands: &[Command]) -> Result<Vec<Reply>, AllocError>
-        ensures run { D.honest → IfOk result (λ replies. RunsTo D.content D.is_open self.old
+        // Each reply is that of its step, on every disk; on an honest one the run is legal.
+        ensures steps { IfOk result (λ replies. AreSteps D.Disk self.old
+            (map request_of commands.now) (map reply_of replies.items) self.new) }
+        ensures run { D.honest → IfOk result (λ replies. RunsTo D.Disk self.old
             (map request_of commands.now) (map reply_of replies.items) self.new) }
         ensures none { OnErr result (self.new ≡ self.old) }
     {
@@ -30,8 +33,7 @@ impl<D: Disk> Store<D> {
 
     // The reply to one command.
     fn reply_to(&mut self, alloc: Global, command: &Command) -> Reply
-        ensures { Steps D.honest D.content D.is_open D.moment D.images_since D.failed_reads
-            D.failed_writes self.old (request_of command.now) (reply_of result) self.new }
+        ensures { Steps D.Disk self.old (request_of command.now) (reply_of result) self.new }
     {
         match command {
             Command::Add(text) => self.reply_to_add(alloc, text.as_str()),
@@ -44,8 +46,7 @@ impl<D: Disk> Store<D> {
     }
 
     fn reply_to_add(&mut self, alloc: Global, text: &str) -> Reply
-        ensures { Steps D.honest D.content D.is_open D.moment D.images_since D.failed_reads
-            D.failed_writes self.old (add text.now) (reply_of result) self.new }
+        ensures { Steps D.Disk self.old (add text.now) (reply_of result) self.new }
     {
         match self.add(alloc, text) {
             Ok(number) => Reply::Added(number),
@@ -54,8 +55,7 @@ impl<D: Disk> Store<D> {
     }
 
     fn reply_to_delete(&mut self, alloc: Global, number: DocNo) -> Reply
-        ensures { Steps D.honest D.content D.is_open D.moment D.images_since D.failed_reads
-            D.failed_writes self.old (delete number.0) (reply_of result) self.new }
+        ensures { Steps D.Disk self.old (delete number.0) (reply_of result) self.new }
     {
         match self.delete(alloc, number) {
             Ok(()) => Reply::Deleted(number),
@@ -64,8 +64,7 @@ impl<D: Disk> Store<D> {
     }
 
     fn reply_to_find(&mut self, alloc: Global, query: &Query) -> Reply
-        ensures { Steps D.honest D.content D.is_open D.moment D.images_since D.failed_reads
-            D.failed_writes self.old (find (tree_of query.now)) (reply_of result) self.new }
+        ensures { Steps D.Disk self.old (find (tree_of query.now)) (reply_of result) self.new }
     {
         match self.find(alloc, query) {
             Ok(numbers) => Reply::Found(numbers),
@@ -74,8 +73,7 @@ impl<D: Disk> Store<D> {
     }
 
     fn reply_to_show(&mut self, alloc: Global, number: DocNo) -> Reply
-        ensures { Steps D.honest D.content D.is_open D.moment D.images_since D.failed_reads
-            D.failed_writes self.old (show number.0) (reply_of result) self.new }
+        ensures { Steps D.Disk self.old (show number.0) (reply_of result) self.new }
     {
         match self.show(alloc, number) {
             Ok(text) => Reply::Text(text),
@@ -84,8 +82,7 @@ impl<D: Disk> Store<D> {
     }
 
     fn reply_to_commit(&mut self, alloc: Global) -> Reply
-        ensures { Steps D.honest D.content D.is_open D.moment D.images_since D.failed_reads
-            D.failed_writes self.old (commit) (reply_of result) self.new }
+        ensures { Steps D.Disk self.old commit (reply_of result) self.new }
     {
         match self.commit(alloc) {
             Ok(()) => Reply::Committed,
@@ -94,8 +91,7 @@ impl<D: Disk> Store<D> {
     }
 
     fn reply_to_count(&mut self) -> Reply
-        ensures { Steps D.honest D.content D.is_open D.moment D.images_since D.failed_reads
-            D.failed_writes self.old (count) (reply_of result) self.new }
+        ensures { Steps D.Disk self.old count (reply_of result) self.new }
     {
         match self.counts() {
             Ok(counts) => Reply::Counted(counts),

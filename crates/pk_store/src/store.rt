@@ -1,17 +1,16 @@
 //! A store, and the commands that its disk has no part in.
 ghost use Rattle.std.specs.Prelude.{◌≡◌};
 ghost use Rattle.pk_model.specs.Steps.{add, added, delete, deleted};
-ghost use Rattle.pk_model.specs.Legal.{answered};
-ghost use Rattle.pk_store.specs.Store.{Steps};
+ghost use Rattle.pk_state.specs.Legal.{answered};
+ghost use Rattle.pk_store.specs.Steps.{Steps};
 
+use crate::volume::Volume;
 use pk_buffer::Buffer;
 use pk_disk::Disk;
-use pk_manifest::{Half, Manifest};
 use pk_model::limits::{
     END_OF_NUMBERS, MAX_BUFFERED_BYTES, MAX_BUFFERED_DOCUMENTS, MAX_TEXT_BYTES,
 };
 use pk_model::{DocNo, Refusal};
-use pk_segment::Segment;
 use std::alloc::Global;
 use std::marker::Model;
 
@@ -19,43 +18,22 @@ use std::marker::Model;
 /// uncommitted ones in a buffer.
 #[derive(Drop)]
 pub struct Store<D: Disk> {
-    /// The disk.
-    pub(crate) disk: D,
-    /// What the body in force says.
-    pub(crate) manifest: Manifest,
-    /// The segments that it names, each at the place of its entry.
-    pub(crate) segments: Vec<Segment>,
-    /// The half that the next body goes to.
-    pub(crate) spare: Half,
+    /// What is committed, on its disk.
+    pub(crate) volume: Volume<D>,
     /// The uncommitted documents.
     pub(crate) buffer: Buffer,
     /// The number that the next document gets.
     pub(crate) next: u32,
-    /// A write or a sync failed: the disk has to be opened again.
-    pub(crate) reopen: bool,
 }
 
 impl<D: Disk> Model for Store<D> {
-    ghost use Rattle.pk_manifest.specs.Spelling.{view as table_of};
-    ghost use Rattle.pk_store.specs.Kept.{IsReady};
-    ghost use Rattle.pk_store.specs.Store.{Shown, IsBuffered};
+    ghost use Rattle.pk_store.specs.View.{StoreView, IsBuffered};
 
-    ghost Value = { Shown D };
+    ghost Value = { StoreView D };
 
-    ghost view = { λ s. record {
-      disk = s.disk;
-      table = table_of s.manifest;
-      segments = s.segments.items;
-      spare = s.spare;
-      buffer = s.buffer;
-      next = s.next;
-      reopen = s.reopen;
-    } };
+    ghost view = { λ s. record { volume = s.volume; buffer = s.buffer; next = s.next } };
 
-    ghost invariant = { λ s.
-        IsBuffered s.manifest.next_number s.next s.buffer
-        × IsReady D.honest (D.content s.disk) (D.is_open s.disk) s.spare (table_of s.manifest)
-        s.segments.items s.reopen };
+    ghost invariant = { λ s. IsBuffered s.volume.body.next_number s.next s.buffer };
 }
 
 impl<D: Disk> Store<D> {
@@ -64,12 +42,12 @@ impl<D: Disk> Store<D> {
     ///
     /// Refused, in this order, as reopen, text too long, buffer full, numbers used up, or memory.
     pub fn add(&mut self, _alloc: Global, text: &str) -> Result<DocNo, Refusal>
-        ensures step { Steps D.honest D.content D.is_open D.moment D.images_since D.failed_reads
-            D.failed_writes self.old (add text.now) (answered (λ n. added n.0) result) self.new }
-        ensures disk { self.new.disk ≡ self.old.disk }
+        ensures step { Steps D.Disk self.old (add text.now) (answered (λ n. added n.0) result)
+            self.new }
+        ensures volume { self.new.volume ≡ self.old.volume }
     {
         let buffered = self.buffer.len();
-        if self.reopen {
+        if self.volume.must_reopen() {
             return Err(Refusal::Reopen);
         }
         if text.len() > MAX_TEXT_BYTES {
@@ -97,12 +75,11 @@ impl<D: Disk> Store<D> {
     ///
     /// Refused as reopen, or as no such document where no uncommitted document has the number.
     pub fn delete(&mut self, _alloc: Global, number: DocNo) -> Result<(), Refusal>
-        ensures step { Steps D.honest D.content D.is_open D.moment D.images_since D.failed_reads
-            D.failed_writes self.old (delete number.0) (answered (λ _. deleted number.0) result)
-            self.new }
-        ensures disk { self.new.disk ≡ self.old.disk }
+        ensures step { Steps D.Disk self.old (delete number.0) (answered (λ _. deleted number.0)
+            result) self.new }
+        ensures volume { self.new.volume ≡ self.old.volume }
     {
-        if self.reopen {
+        if self.volume.must_reopen() {
             return Err(Refusal::Reopen);
         }
         if !self.buffer.remove(number) {
@@ -113,8 +90,8 @@ impl<D: Disk> Store<D> {
 
     /// The disk, as it is. What is uncommitted is gone.
     pub fn close(self) -> D
-        ensures { result ≡ self.disk }
+        ensures { result ≡ self.volume.disk }
     {
-        self.disk
+        self.volume.into_disk()
     }
 }

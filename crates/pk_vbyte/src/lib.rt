@@ -20,6 +20,3 @@ pub mod laws;
 pub mod variable;
 
 pub use variable::{VFault, put, take};
-
-#[cfg(test)]
-mod tests;

@@ -1,6 +1,6 @@
 //! The folded words of a text, in its order.
 
-ghost use Rattle.std.specs.Prelude.{◌≡◌, map, IfOk, string_bytes};
+ghost use Rattle.std.specs.Prelude.{◌≡◌, [], map, IfOk, IsOk, string_bytes};
 ghost use Rattle.pk_model.specs.Words.{words_of};
 
 use caseless::default_case_fold_str;
@@ -10,7 +10,9 @@ use unicode_segmentation::UnicodeSegmentation;
 /// The folded words of the text in its order, repeats kept: of `E-mail e` the words `e`, `mail`
 /// and `e`.
 pub fn word_list(alloc: Global, text: &str) -> Result<Vec<String>, AllocError>
-    ensures { IfOk result (λ list. map string_bytes list.items ≡ words_of text.now) }
+    ensures list { IfOk result (λ list. map string_bytes list.items ≡ words_of text.now) }
+    // A text without a word takes no memory.
+    ensures none { words_of text.now ≡ [] → IsOk result }
 {
     let mut list = Vec::new(alloc);
     'words: for word in text.unicode_words() {

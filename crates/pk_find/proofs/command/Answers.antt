@@ -1,5 +1,5 @@
 -- What came of the command that the words ask for is what came of the words.
-use Rattle.std.proofs.Common.{inl, refl, subst}
+use Rattle.std.proofs.Common.{inl, inr, refl, subst}
 use Rattle.clap.specs.Words.{kind_of, subcommand_rows_of}
 use Rattle.pk_find.proofs.CommandLineLemmas.{words_ask, words_refused}
 use Rattle.pk_find.specs.CommandLine.{Asks}
@@ -21,4 +21,10 @@ returns-in-Some-Create g c =
     inl (_, words_ask _ _ _ _ c.in-Ok.ensures parsed.matches parsed.kinds asked, size, (refl, c.create.ensures))
 
 pub returns-in-Err : goal.returns-in-Err
-returns-in-Err g c = words_refused _ _ _ (kind_of c.in-Err.error) _ _ _ _ c.in-Ok.ensures c.in-Err.ensures.kinds c.refuse.ensures
+returns-in-Err g c = words_refused _ _ _ (kind_of c.in-Err.error) _ _ _ _ _ _ c.in-Ok.ensures c.in-Err.ensures.kinds c.refuse.ensures
+
+pub returns-in_default : goal.returns-in_default
+returns-in_default g c = inr (inr (inr (refl, refl, c.fail.ensures.status, c.fail.ensures.told)))
+
+pub returns : goal.returns
+returns g c = inr (inr (inr (refl, refl, c.fail-in-None.ensures.status, c.fail-in-None.ensures.told)))

@@ -14,13 +14,14 @@ joined out new old bytes at done size h k =
 
 pub loop-done-preserved : goal.loop-done-preserved
 loop-done-preserved g c =
-    let left = c.in_ok-append_piece.ensures.left in
+    let left = c.in_ok-append_stretch.ensures.left in
     record {
       same = λ h. left.same h ∙ c.loop-done.invariant.same h;
       size = left.size ∙ c.loop-done.invariant.size;
+      asks = omega (arith, c.loop-done.invariant.asks, c.in_ok-append_stretch.ensures.asks);
       kept = g.met.S.ByteSource.keeps_then _ _ _ c.loop-done.invariant.kept left.kept;
       failures = left.faults.ok ∙ c.loop-done.invariant.failures;
       below = omega arith;
       value = λ h. joined c.loop-done.out.items _ c.args.out.now.items _ c.args.at c.loop-done.done c.min-size.result (c.loop-done.invariant.value h)
-          (c.in_ok-append_piece.ensures.value h ∙ ap (λ (l : List ℕ). c.loop-done.out.items ++ take c.min-size.result (drop (c.args.at + c.loop-done.done) (bytes_at l c.args.place))) (c.loop-done.invariant.same h));
+          (c.in_ok-append_stretch.ensures.value h ∙ ap (λ (l : List ℕ). c.loop-done.out.items ++ take c.min-size.result (drop (c.args.at + c.loop-done.done) (bytes_at l c.args.place))) (c.loop-done.invariant.same h));
     }

@@ -1,9 +1,7 @@
--- What was found are those of the terms so far that begin with the prefix.
-use Rattle.std.proofs.Common.{◌≡◌, List, length}
-use Rattle.pk_dict.specs.Dictionary.{Item, DictSpells}
-use Rattle.pk_dict.specs.Entries.{IsStart, items_from}
+-- What is left of the collection gives what all of it gives, and asks for no more.
+use Rattle.std.proofs.Common.{◌≡◌, ◌≤◌, ◌+◌, ◌-◌, ◌*◌, [], length}
+use Rattle.pk_dict.specs.Entries.{asks_at, collect_at, items_from, items_from_group}
 use Rattle.pk_dict.specs.Place.{bytes_at}
-use Rattle.pk_dict.proofs.Collecting.{Collecting}
 use Rattle.pk_dict.proofs.entries.collect.Given as goal
 
 abbrev pub invariant-loop-i : goal.invariant-loop-i
@@ -12,7 +10,8 @@ invariant-loop-i g l = record {
   size : length (g.S.ByteSource.content l.source) ≡ length (g.S.ByteSource.content l.fn.source);
   kept : g.S.ByteSource.keeps l.fn.source l.source;
   failures : g.S.ByteSource.failures l.source ≡ g.S.ByteSource.failures l.fn.source;
-  found : g.S.ByteSource.honest → (es : List Item) → DictSpells (bytes_at (g.S.ByteSource.content l.fn.source) l.place) es → length es ≡ l.place.terms
-      → IsStart (bytes_at (g.S.ByteSource.content l.fn.source) l.place) es l.prefix l.group l.fn.at
-      → Collecting (bytes_at (g.S.ByteSource.content l.fn.source) l.place) es l.prefix l.i l.at l.term.items (items_from l.found.items);
+  value : g.S.ByteSource.honest → collect_at (l.place.terms - l.i) (bytes_at (g.S.ByteSource.content l.fn.source) l.place) l.prefix l.i l.term.items l.at (items_from l.found.items)
+      ≡ items_from_group (bytes_at (g.S.ByteSource.content l.fn.source) l.place) l.place.terms l.prefix l.group l.fn.at;
+  asks : g.S.ByteSource.honest → g.S.ByteSource.asked l.source + asks_at (l.place.terms - l.i) (bytes_at (g.S.ByteSource.content l.fn.source) l.place) l.prefix l.i l.term.items l.at
+      ≤ g.S.ByteSource.asked l.fn.source + asks_at (l.place.terms - 16 * l.group) (bytes_at (g.S.ByteSource.content l.fn.source) l.place) l.prefix (16 * l.group) [] l.fn.at;
 }

@@ -1,5 +1,5 @@
 -- The file is the disk that the store was opened on.
-use Rattle.std.proofs.Common.{inl}
+use Rattle.std.proofs.Common.{inl, inr, refl}
 use Rattle.pk_find.proofs.running.run.Goals as goal
 
 pub returns-in-Ok : goal.returns-in-Ok
@@ -9,3 +9,6 @@ returns-in-Ok g c = inl (record {
   long = c.in-Ok.ensures.size;
   session = c.run_on.ensures;
 })
+
+pub returns-in-Err : goal.returns-in-Err
+returns-in-Err g c = inr (c.in-Err.fault, c.fail.ensures.status, rw c.file_reason.ensures at c.fail.ensures.told, refl, refl)

@@ -1,5 +1,5 @@
 -- Each image of a creation has no half in force, or the first body.
-use Rattle.std.proofs.Common.{◌≡◌, ◌∙◌, ◌+◌, ℕ, [], ◌∷◌, inl, List, length, ap, sym, subst}
+use Rattle.std.proofs.Common.{◌∙◌, ℕ, [], ◌∷◌, inl, List, length, ap, sym, subst}
 use Rattle.pk_disk.specs.Disk.{IsImage, opened, written}
 use Rattle.pk_disk.proofs.Moments.{only_none, only_then, weaker}
 use Rattle.pk_manifest.specs.Bodies.{IsCurrent}

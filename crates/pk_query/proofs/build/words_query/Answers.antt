@@ -27,4 +27,4 @@ returns c =
     let items = c.in_ok-word-items.word-items.items in
     let end = YieldsList-end (YieldsList-from_vec {s = c.into_iter-word-iterator.result} items (search rules) (search rules)) c.words.yielded c.words.word-iterator c.words.yielded_by c.next.result c.next.new.self c.in-None.is c.next.ensures.steps in
     let all : c.words.yielded ≡ items = sym (map-id c.words.yielded) ∙ end.0 in
-    c.words.invariant ∙ ap (λ words. words_tree (map string_bytes words)) all ∙ ap words_tree c.in_ok-word-items.ensures
+    c.words.invariant ∙ ap (λ words. words_tree (map string_bytes words)) all ∙ ap words_tree c.in_ok-word-items.ensures.list

@@ -1,4 +1,4 @@
--- A chunk has a word where its first piece is there.
+-- A chunk has a word where its first lexeme is there.
 use Rattle.std.proofs.Common.{◌∙◌, ap, map}
 use Rattle.pk_model.specs.Words.{folded, words_of}
 use Rattle.unicode_segmentation.specs.Iter.{unicode_words_left}

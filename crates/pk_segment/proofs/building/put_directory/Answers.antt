@@ -10,7 +10,7 @@ use Rattle.pk_segment.proofs.building.put_directory.Goals as goal
 pub loop-d-preserved : goal.loop-d-preserved
 loop-d-preserved c = record {
   spelled = grind (arith, common_steps);
-  place = grind (arith, common_steps);
+  offset = grind (arith, common_steps);
   numbers =
       let lt : c.loop-d.d-index < length c.args.documents.now = omega arith in
       All-more (λ (d : Document). d.number.0 < 2 ^ 32) c.args.documents.now c.loop-d.d-index c.d-item.result lt c.loop-d.invariant.numbers

@@ -1,15 +1,14 @@
--- What is written, and the union of what is left.
-use Rattle.std.proofs.Common.{◌≡◌, ◌+◌, ◌-◌, ◌≤◌, ◌++◌, length, take, drop}
+-- The union of what is left stays behind what is written.
+use Rattle.std.proofs.Common.{◌+◌, ◌-◌, ◌≤◌, length}
 use Rattle.pk_sets.specs.Sets.{union}
+use Rattle.pk_sets.specs.Cursors.{Reaches}
 use Rattle.pk_sets.proofs.uniting.unite_runs.Given as goal
 
 abbrev pub invariant-runs : goal.invariant-runs
 invariant-runs l = record {
-  in_a : l.i ≤ length l.a;
-  in_b : l.j ≤ length l.b;
-  written : l.n ≤ l.i + l.j;
-  found : take l.n l.out ++ union (drop l.i l.a) (drop l.j l.b) ≡ union l.a l.b;
+  reaches : Reaches union l.a l.b l.initial.at l.initial.out l.at l.out;
+  written : l.at.written ≤ l.at.a + l.at.b;
 }
 
 abbrev pub decreases-runs : goal.decreases-runs
-decreases-runs l = (length l.a - l.i) + (length l.b - l.j)
+decreases-runs l = (length l.a - l.at.a) + (length l.b - l.at.b)

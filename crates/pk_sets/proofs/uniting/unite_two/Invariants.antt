@@ -1,19 +1,16 @@
--- Of both unions: what is written, and the union of what is left.
-use Rattle.std.proofs.Common.{◌≡◌, ◌+◌, ◌-◌, ◌≤◌, ◌++◌, length, take, drop}
+-- Of both unions: that of what is left stays behind what is written.
+use Rattle.std.proofs.Common.{◌+◌, ◌-◌, ◌≤◌, length}
 use Rattle.pk_sets.specs.Sets.{union}
+use Rattle.pk_sets.specs.Cursors.{Reaches}
 use Rattle.pk_sets.proofs.uniting.unite_two.Given as goal
 
 abbrev pub invariant-fours : goal.invariant-fours
 invariant-fours l = record {
-  in_low_a : l.i ≤ length l.low_a;
-  in_low_b : l.j ≤ length l.low_b;
-  in_high_a : l.k ≤ length l.high_a;
-  in_high_b : l.l ≤ length l.high_b;
-  written_low : l.n ≤ l.i + l.j;
-  written_high : l.n ≤ l.k + l.l;
-  found_low : take l.n l.low ++ union (drop l.i l.low_a) (drop l.j l.low_b) ≡ union l.low_a l.low_b;
-  found_high : take l.n l.high ++ union (drop l.k l.high_a) (drop l.l l.high_b) ≡ union l.high_a l.high_b;
+  low : Reaches union l.low_a l.low_b l.initial.in_low l.initial.low l.in_low l.low;
+  high : Reaches union l.high_a l.high_b l.initial.in_high l.initial.high l.in_high l.high;
+  written_low : l.in_low.written ≤ l.in_low.a + l.in_low.b;
+  written_high : l.in_high.written ≤ l.in_high.a + l.in_high.b;
 }
 
 abbrev pub decreases-fours : goal.decreases-fours
-decreases-fours l = (length l.low_a - l.i) + (length l.low_b - l.j)
+decreases-fours l = (length l.low_a - l.in_low.a) + (length l.low_b - l.in_low.b)

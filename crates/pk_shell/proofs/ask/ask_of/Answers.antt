@@ -1,3 +1,4 @@
+-- A line is parted at its first space, if it has one.
 use Rattle.std.proofs.Common.{sym, ◌∙◌}
 use Rattle.pk_shell.proofs.AskLemmas.{split_none, split_some}
 use Rattle.pk_shell.proofs.ask.ask_of.Goals as goal

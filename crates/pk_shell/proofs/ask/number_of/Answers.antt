@@ -1,3 +1,4 @@
+-- Digits that std reads as no number are 2^32 or more.
 use Rattle.std.proofs.Common.{sym, ◌∙◌}
 use Rattle.pk_shell.proofs.AskLemmas.{number_refused}
 use Rattle.pk_shell.proofs.ask.number_of.Goals as goal

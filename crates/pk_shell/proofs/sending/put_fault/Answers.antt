@@ -1,3 +1,4 @@
+-- The text of each fault.
 use Rattle.pk_shell.proofs.sending.put_fault.Goals as goal
 
 pub returns-in-TooLong : goal.returns-in-TooLong

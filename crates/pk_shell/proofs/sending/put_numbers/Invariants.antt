@@ -1,3 +1,4 @@
+-- The numbers so far are put.
 use Rattle.std.proofs.Common.{take}
 use Rattle.std.specs.List.{flat_map}
 use Rattle.pk_shell.specs.ReplyText.{spaced}

@@ -1,3 +1,4 @@
+-- The writer took more bytes, took none, or failed.
 use Rattle.std.proofs.Common.{arith, rules}
 use Rattle.pk_shell.proofs.Parts.{stopped, stopped_at, went_on}
 use Rattle.std.proofs.lemmas.Grind.{common_steps}

@@ -1,3 +1,4 @@
+-- What is done of the bytes is written.
 use Rattle.std.proofs.Common.{◌≤◌, ◌-◌, length, take}
 use Rattle.std.specs.Io.KnownBytes.{Appends}
 use Rattle.pk_shell.proofs.sending.write_all.Given as goal

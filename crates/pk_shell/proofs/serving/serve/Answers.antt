@@ -1,40 +1,57 @@
+-- Each ending, from what was read so far.
 use Rattle.std.proofs.Common.{◌<◌, ◌∙◌, sym, length, arith, rules}
 use Rattle.std.proofs.lemmas.Grind.{common_steps}
-use Rattle.pk_shell.proofs.Hearing.{p_start, p_read, p_quit, p_cut, p_end, p_last_quit, p_last_end, p_last_cut, read_end}
+use Rattle.std.proofs.lemmas.Result.{err_from_is_err_and}
+use Rattle.pk_shell.proofs.ReadLemmas.{started, came, some_came, read_end, goes_on, quits, is_cut, fails, too_many, ends, last_quits, last_ends, last_cut}
 use Rattle.pk_shell.proofs.serving.serve.Goals as goal
 
 pub loop-init : goal.loop-init
-loop-init g c = p_start _ _ _ _ _ c.in-Ok.ensures
+loop-init g c = started _ _ _ _ _ c.in_ok-line.ensures
+
+pub returns-in-Err : goal.returns-in-Err
+returns-in-Err g c = fails _ _ _ _ _ _ _ _ _ _ c.loop.invariant c.in-Err.ensures.bytes
 
 pub returns-then-is_blank : goal.returns-then-is_blank
 returns-then-is_blank g c =
     let room : 0 < length c.read.new.buf = search rules in
     let e = read_end _ _ _ _ c.in-Ok-eq0.field-0-test c.in-Ok-eq0.ensures.bytes room in
-    p_end _ _ _ _ _ _ _ _ _ c.loop.invariant e.0 e.1 (sym c.is_blank.ensures ∙ c.if-is_blank.true)
+    ends _ _ _ _ _ _ _ _ _ _ c.loop.invariant e.0 e.1 (sym c.is_blank.ensures ∙ c.if-is_blank.true)
 
-pub returns-in_default-answer : goal.returns-in_default-answer
-returns-in_default-answer g c =
+pub returns-in_err-quits-in-Ok-eq0 : goal.returns-in_err-quits-in-Ok-eq0
+returns-in_err-quits-in-Ok-eq0 g c =
     let room : 0 < length c.read.new.buf = search rules in
     let e = read_end _ _ _ _ c.in-Ok-eq0.field-0-test c.in-Ok-eq0.ensures.bytes room in
-    p_last_cut _ _ _ _ _ _ _ _ _ _ _ _ c.loop.invariant e.0 (sym c.is_blank.ensures ∙ c.if-is_blank.false) c.in_default-answer.ensures
+    let why = err_from_is_err_and c.from_residual-in_err-quits-in-Ok-eq0.result c.from_residual-in_err-quits-in-Ok-eq0.ensures.1 in
+    rw (why.1, why.2)
+    (last_cut _ _ _ _ _ _ _ _ _ _ c.loop.invariant e.0 e.1 _ _ (sym c.is_blank.ensures ∙ c.if-is_blank.false) _ c.in_err-quits-in-Ok-eq0.ensures)
 
 pub returns-then-quits : goal.returns-then-quits
 returns-then-quits g c =
     let room : 0 < length c.read.new.buf = search rules in
     let e = read_end _ _ _ _ c.in-Ok-eq0.field-0-test c.in-Ok-eq0.ensures.bytes room in
-    p_last_quit _ _ _ _ _ _ _ _ _ _ _ c.loop.invariant e.0 e.1 (sym c.is_blank.ensures ∙ c.if-is_blank.false) (rw c.if-quits.true at c.in-Ok-answer.ensures)
+    last_quits _ _ _ _ _ _ _ _ _ _ c.loop.invariant e.0 e.1 _ _ (sym c.is_blank.ensures ∙ c.if-is_blank.false) (rw c.if-quits.true at c.in_ok-quits-in-Ok-eq0.ensures)
 
 pub returns-in-Ok-eq0 : goal.returns-in-Ok-eq0
 returns-in-Ok-eq0 g c =
     let room : 0 < length c.read.new.buf = search rules in
     let e = read_end _ _ _ _ c.in-Ok-eq0.field-0-test c.in-Ok-eq0.ensures.bytes room in
-    p_last_end _ _ _ _ _ _ _ _ _ _ _ c.loop.invariant e.0 e.1 (sym c.is_blank.ensures ∙ c.if-is_blank.false) (rw c.if-quits.false at c.in-Ok-answer.ensures)
+    last_ends _ _ _ _ _ _ _ _ _ _ c.loop.invariant e.0 e.1 _ _ (sym c.is_blank.ensures ∙ c.if-is_blank.false) (rw c.if-quits.false at c.in_ok-quits-in-Ok-eq0.ensures)
 
-pub returns-in_default-feed : goal.returns-in_default-feed
-returns-in_default-feed g c = p_cut _ _ _ _ _ _ _ _ _ _ _ _ _ _ c.loop.invariant c.in-Ok-read.ensures.bytes.0 c.in_default-feed.ensures (grind (arith, common_steps))
+pub returns-in_err-answer_lines-in-Ok : goal.returns-in_err-answer_lines-in-Ok
+returns-in_err-answer_lines-in-Ok g c =
+    let why = err_from_is_err_and c.from_residual-in_err-answer_lines-in-Ok.result c.from_residual-in_err-answer_lines-in-Ok.ensures.1 in
+    rw (why.1, why.2)
+    (is_cut _ _ _ _ _ _ _ _ _ _ c.loop.invariant _ (came _ _ _ _ _ c.in-Ok.ensures.bytes.0 (grind (arith, common_steps))) _ _ c.in_err-answer_lines-in-Ok.ensures)
 
-pub returns-then-quit : goal.returns-then-quit
-returns-then-quit g c = p_quit _ _ _ _ _ _ _ _ _ _ _ _ _ _ c.loop.invariant c.in-Ok-read.ensures.bytes.0 (rw c.if-quit.true at c.in-Ok-feed.ensures) (grind (arith, common_steps))
+pub returns-then-branch : goal.returns-then-branch
+returns-then-branch g c =
+    quits _ _ _ _ _ _ _ _ _ _ c.loop.invariant _ (came _ _ _ _ _ c.in-Ok.ensures.bytes.0 (grind (arith, common_steps))) _ _ (rw c.if-branch.true at c.in_ok-answer_lines-in-Ok.ensures)
 
 pub loop-preserved : goal.loop-preserved
-loop-preserved g c = p_read _ _ _ _ _ _ _ _ _ _ _ _ _ _ _ c.loop.invariant c.in-Ok-read.ensures.bytes.0 (rw c.if-quit.false at c.in-Ok-feed.ensures) (grind (arith, common_steps))
+loop-preserved g c =
+    goes_on _ _ _ _ _ _ _ _ _ _ c.loop.invariant _ (came _ _ _ _ _ c.in-Ok.ensures.bytes.0 (grind (arith, common_steps))) _ _ _
+    (some_came _ _ _ c.in-Ok.ensures.bound.0 c.in-Ok.n-test.1 (grind (arith, common_steps)))
+    (rw c.if-branch.false at c.in_ok-answer_lines-in-Ok.ensures)
+
+pub returns : goal.returns
+returns g c = too_many _ _ _ _ _ _ _ _ _ c.loop.invariant (omega (arith, c.loop-test.false))

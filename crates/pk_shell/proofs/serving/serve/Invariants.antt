@@ -1,6 +1,8 @@
-use Rattle.pk_store.specs.Store.{Steps}
+-- What was read so far is answered, line by line, and each read gave a byte at least.
 use Rattle.pk_shell.specs.Progress.{Progress}
+use Rattle.pk_shell.specs.StoreStep.{StoreStep}
 use Rattle.pk_shell.proofs.serving.serve.Given as goal
 
 abbrev pub invariant-loop : goal.invariant-loop
-invariant-loop g l = Progress (Steps g.D.Disk.honest g.D.Disk.content g.D.Disk.is_open g.D.Disk.moment g.D.Disk.images_since g.D.Disk.failed_reads g.D.Disk.failed_writes) l.fn.store (g.R.Read.remaining l.fn.reader) (g.R.Read.remaining l.reader) (g.W.Write.contents l.fn.writer) l.line l.store (g.W.Write.contents l.writer)
+invariant-loop g l =
+    Progress (StoreStep g.D.Disk) l.fn.store (g.R.Read.remaining l.fn.reader) (g.R.Read.remaining l.reader) (g.W.Write.contents l.fn.writer) l.counter l.line l.store (g.W.Write.contents l.writer)

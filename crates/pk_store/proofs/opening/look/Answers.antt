@@ -4,17 +4,17 @@ use Rattle.std.proofs.lemmas.Result.{err_from_is_err_and}
 use Rattle.pk_manifest.specs.Spelling.{view}
 use Rattle.pk_store.specs.declared.opening.Found.{Found}
 use Rattle.pk_store.specs.declared.refused.OpenFault.{OpenFault}
-use Rattle.pk_store.specs.Judging.{FoundAs, SegmentsAs}
-use Rattle.pk_store.specs.Kept.{LieInside}
+use Rattle.pk_store.specs.Judging.{JudgesFound, SegmentsAs}
+use Rattle.pk_state.specs.Kept.{LieInside}
 use Rattle.pk_store.proofs.OpeningLemmas.{body_refuses, segments_refuse}
-use Rattle.pk_store.proofs.StoredLemmas.{lie_inside}
+use Rattle.pk_state.proofs.HoldsLemmas.{lie_inside}
 use Rattle.pk_store.proofs.opening.look.Goals as goal
 
 pub returns-in_err-manifest-clause-found : goal.returns-in_err-manifest-clause-found
 returns-in_err-manifest-clause-found g c = λ honest.
     let bytes = g.D.Disk.content c.args.disk.now in
     let found = err_from_is_err_and c.from_residual.result c.from_residual.ensures.1 in
-    subst (λ (r : Result Found OpenFault). FoundAs bytes r) (sym (found.1 ∙ ap Err found.2))
+    subst (λ (r : Result Found OpenFault). JudgesFound bytes r) (sym (found.1 ∙ ap Err found.2))
     (body_refuses bytes c.in_err-manifest.field-0.0 (c.in_err-manifest.ensures.answer honest))
 
 pub open_segments-requires : goal.open_segments-requires
@@ -28,6 +28,6 @@ returns-in_err-segments-clause-found g c = λ honest.
     let table = view c.in_ok-manifest.manifest in
     let found = err_from_is_err_and c.from_residual-in_err-segments.result c.from_residual-in_err-segments.ensures.1 in
     let why = c.in_err-segments.field-0.0 in
-    subst (λ (r : Result Found OpenFault). FoundAs bytes r) (sym (found.1 ∙ ap Err found.2))
+    subst (λ (r : Result Found OpenFault). JudgesFound bytes r) (sym (found.1 ∙ ap Err found.2))
     (segments_refuse bytes c.in_ok-manifest.half table why (c.in_ok-manifest.ensures.answer honest)
     (subst (λ (b : List ℕ). SegmentsAs b table (Err why)) (c.read_current.ensures.read honest).bytes (c.in_err-segments.ensures.opened honest)))

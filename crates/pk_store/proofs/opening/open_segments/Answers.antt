@@ -5,7 +5,7 @@ use Rattle.std.proofs.lemmas.Result.{err_from_is_err_and}
 use Rattle.std.proofs.lemmas.Grind.{common_steps}
 use Rattle.pk_manifest.specs.Spelling.{view}
 use Rattle.pk_segment.specs.declared.segment.Segment.{Segment}
-use Rattle.pk_segment.specs.Extent.{keeps_disk_then}
+use Rattle.pk_disk.proofs.FrameLemmas.{keeps_disk_then}
 use Rattle.pk_store.specs.declared.refused.OpenFault.{OpenFault}
 use Rattle.pk_store.specs.Judging.{SegmentsAs}
 use Rattle.pk_store.proofs.OpeningLemmas.{end_so_far, fault_so_far, next_so_far}
@@ -31,7 +31,7 @@ loop-entry-preserved g c =
     let l = c.loop-entry in
     let s = c.in_ok-segment.segment in
     record {
-      keeps = keeps_disk_then D.honest D.content D.is_open D.moment D.images_since D.failed_writes c.args.disk.now l.disk c.open_next.new.disk l.invariant.keeps c.open_next.ensures.keeps;
+      keeps = keeps_disk_then D c.args.disk.now l.disk c.open_next.new.disk l.invariant.keeps c.open_next.ensures.keeps;
       reads = c.in_ok-segment.ensures.cause ∙ l.invariant.reads;
       count = grind (arith, common_steps);
       open_so_far = λ honest. rw (c.last-low.ensures, c.in-Ok.ensures.items)

@@ -1,6 +1,6 @@
 -- The entries so far are open, and the disk was only read.
 use Rattle.std.proofs.Common.{◌≡◌, length, drop}
-use Rattle.pk_segment.specs.Extent.{KeepsDisk}
+use Rattle.pk_disk.specs.Frames.{KeepsDisk}
 use Rattle.pk_store.specs.Judging.{IsOpenSoFar}
 use Rattle.pk_store.proofs.opening.open_segments.Given as goal
 
@@ -8,7 +8,7 @@ abbrev pub invariant-loop-entry : goal.invariant-loop-entry
 invariant-loop-entry g l =
     let D = g.D.Disk in
     record {
-      keeps : KeepsDisk D.honest D.content D.is_open D.moment D.images_since D.failed_writes l.fn.disk l.disk;
+      keeps : KeepsDisk D l.fn.disk l.disk;
       reads : D.failed_reads l.disk ≡ D.failed_reads l.fn.disk;
       count : length l.segments.items ≡ l.entry-index;
       open_so_far : D.honest → IsOpenSoFar (D.content l.fn.disk) l.manifest.next_number l.manifest.entries.items l.low l.segments.items (drop l.entry-index l.manifest.entries.items);

@@ -6,4 +6,4 @@ use Rattle.pk_model.specs.Views.{numbers_in}
 use Rattle.pk_buffer.proofs.buffer.Buffer.find.Given as goal
 
 abbrev pub invariant-documents : goal.invariant-documents
-invariant-documents l = numbers_in l.found.items ≡ answer (tree_of l.query) (take l.place l.self)
+invariant-documents l = numbers_in l.found.items ≡ answer (tree_of l.query) (take l.index l.self)

@@ -11,17 +11,17 @@ use Rattle.pk_dict.proofs.writer.DictWriter.add.Goals.{then-self-eq0+in_ok-put_r
 use Rattle.pk_dict.proofs.writer.DictWriter.add.Goals as goal
 
 pub put_rest-requires : goal.put_rest-requires
-put_rest-requires c = omega (arith, last_within c.requires.items (item_of c.args.term.now c.args.frequency c.args.place), c.requires.size)
+put_rest-requires c = omega (arith, last_within c.requires.items (item_of c.args.term.now c.args.frequency c.args.place), c.requires.next.size)
 
 pub put_rest-requires-else-self-eq0 : goal.put_rest-requires-else-self-eq0
-put_rest-requires-else-self-eq0 c = omega (arith, last_within c.requires.items (item_of c.args.term.now c.args.frequency c.args.place), c.requires.size)
+put_rest-requires-else-self-eq0 c = omega (arith, last_within c.requires.items (item_of c.args.term.now c.args.frequency c.args.place), c.requires.next.size)
 
 pub overflow_cast-kept : goal.overflow_cast-kept
-overflow_cast-kept c = omega (arith, last_within c.requires.items (item_of c.args.term.now c.args.frequency c.args.place), c.requires.size)
+overflow_cast-kept c = omega (arith, last_within c.requires.items (item_of c.args.term.now c.args.frequency c.args.place), c.requires.next.size)
 
 pub overflow_cast-start : goal.overflow_cast-start
 overflow_cast-start c =
-    omega (arith, ap (λ (l : List ℕ). length l) c.requires.added.body, body_within c.requires.items (item_of c.args.term.now c.args.frequency c.args.place), c.requires.size)
+    omega (arith, ap (λ (l : List ℕ). length l) c.requires.added.body, body_within c.requires.items (item_of c.args.term.now c.args.frequency c.args.place), c.requires.next.size)
 
 pub returns-clause-ok : goal.returns-clause-ok
 returns-clause-ok c es d =
@@ -29,9 +29,9 @@ returns-clause-ok c es d =
     let m = c.requires in
     let whole : m.items ≡ es = same_added _ m.items es m.added d in
     let long = last_within m.items e in
-    let fits = λ (p : (c.args.place.at < 2 ^ 32) × (c.args.place.bytes < 2 ^ 32)). let f : Fits e = record { term = omega (arith, long, m.size); frequency = omega arith; at = p.0; bytes = p.1 } in fits_push es e d.fits f in
-    let rising : IsRising (es ++ e ∷ []) = subst (λ (l : List Item). IsRising (l ++ e ∷ [])) whole m.rising in
-    let size : length (spelling (es ++ e ∷ [])) < 2 ^ 32 = subst (λ (l : List Item). length (spelling (l ++ e ∷ [])) < 2 ^ 32) whole m.size in
+    let fits = λ (p : (c.args.place.at < 2 ^ 32) × (c.args.place.bytes < 2 ^ 32)). let f : Fits e = record { term = omega (arith, long, m.next.size); frequency = omega arith; at = p.0; bytes = p.1 } in fits_push es e d.fits f in
+    let rising : IsRising (es ++ e ∷ []) = subst (λ (l : List Item). IsRising (l ++ e ∷ [])) whole m.next.rising in
+    let size : length (spelling (es ++ e ∷ [])) < 2 ^ 32 = subst (λ (l : List Item). length (spelling (l ++ e ∷ [])) < 2 ^ 32) whole m.next.size in
     elim c.if-self-eq0.branch [
       | then-self-eq0+in_ok-put_rest+in_ok-extend_from_slice+in-Ok w ↦
           let h : length es % 16 ≡ 0 = omega (arith, d.count, w.if-self-eq0.true) in

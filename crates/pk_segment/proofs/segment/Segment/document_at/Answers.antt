@@ -4,7 +4,7 @@ use Rattle.std.proofs.lemmas.Result.{err_from_is_err_and}
 use Rattle.pk_model.specs.declared.documents.Document.{Document}
 use Rattle.pk_segment.specs.declared.fault.ReadFault.{ReadFault}
 use Rattle.pk_segment.specs.Plain.{SegmentSpells}
-use Rattle.pk_segment.specs.Reading.{DocumentAs, IsCause}
+use Rattle.pk_segment.specs.Reading.{DocumentAs, IsNoDamage}
 use Rattle.pk_segment.proofs.ReadLemmas.{cause_read, entry_within, says, document_is}
 use Rattle.pk_segment.proofs.segment.Segment.document_at.Goals as goal
 
@@ -25,7 +25,7 @@ returns-in_err-text-clause-spelled g c = λ honest docs kind is of.
     let says_it = says (content c.args.source.now) docs c.args.i c.in_ok-entry.entry is.1 lt (c.in_ok-entry.ensures.value honest) in
     let there = subst (λ (x : List ℕ). SegmentSpells x docs kind) (sym (c.in_ok-entry.ensures.content honest)) is in
     let cause = c.in_err-text.ensures.spelled honest docs kind c.args.i there of lt says_it in
-    subst (λ (r : Result Document ReadFault). DocumentAs docs c.args.i r) (sym found.1) (subst (λ (f : ReadFault). IsCause f) (sym found.2) cause)
+    subst (λ (r : Result Document ReadFault). DocumentAs docs c.args.i r) (sym found.1) (subst (λ (f : ReadFault). IsNoDamage f) (sym found.2) cause)
 
 pub returns-clause-spelled : goal.returns-clause-spelled
 returns-clause-spelled g c = λ honest docs kind is of.
@@ -33,4 +33,4 @@ returns-clause-spelled g c = λ honest docs kind is of.
     let lt : c.args.i < length docs = omega (arith, of.count_is, c.requires) in
     let says_it = says (content c.args.source.now) docs c.args.i c.in_ok-entry.entry is.1 lt (c.in_ok-entry.ensures.value honest) in
     let there = subst (λ (x : List ℕ). SegmentSpells x docs kind) (sym (c.in_ok-entry.ensures.content honest)) is in
-    document_is docs c.args.i _ _ lt says_it.number_is (c.in_ok-text.ensures.spelled honest docs kind c.args.i there of lt says_it)
+    document_is docs c.args.i _ _ lt (omega (arith, says_it.number_is)) (c.in_ok-text.ensures.spelled honest docs kind c.args.i there of lt says_it)

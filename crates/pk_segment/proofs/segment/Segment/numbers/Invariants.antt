@@ -1,7 +1,6 @@
--- The numbers so far are those of the first documents.
-use Rattle.std.proofs.Common.{◌≡◌, ◌≤◌, ◌+◌, List, length, take}
-use Rattle.pk_model.specs.Collection.{Doc, numbers_of}
-use Rattle.pk_segment.specs.Plain.{PlainSpells}
+-- The numbers so far are those of the first entries.
+use Rattle.std.proofs.Common.{◌≡◌, ◌≤◌, ◌+◌, length}
+use Rattle.pk_segment.specs.Fields.{entry_numbers}
 use Rattle.pk_segment.proofs.segment.Segment.numbers.Given as goal
 
 abbrev pub invariant-loop-i : goal.invariant-loop-i
@@ -13,6 +12,5 @@ invariant-loop-i g l =
       kept : g.S.ByteSource.keeps l.fn.source l.source;
       failures : g.S.ByteSource.failures l.source ≡ g.S.ByteSource.failures l.fn.source;
       asked : g.S.ByteSource.asked l.source ≤ g.S.ByteSource.asked l.fn.source + l.i;
-      read : g.S.ByteSource.honest → (docs : List Doc) → PlainSpells (content l.fn.source) docs → l.self.count ≡ length docs
-          → l.out.items ≡ take l.i (numbers_of docs);
+      read : g.S.ByteSource.honest → l.out.items ≡ entry_numbers (content l.fn.source) l.i;
     }

@@ -28,15 +28,15 @@ returns-in-Ok-clause-spelled g c = λ honest docs kind i is of lt says.
     let content = g.S.ByteSource.content in
     let e = c.args.entry in
     let there = (text_there (content c.args.source.now) docs i e.number e.at e.len is.1 lt says).1 in
-    let place = ap (λ (n : ℕ). take e.len (drop (24 + 12 * n + e.at) (content c.args.source.now))) of.count_is in
-    ap (λ (v : Vec ℕ). v.items) c.in-Ok.ensures.ok ∙ c.in_ok-bytes.ensures.value honest ∙ place ∙ there
+    let start = ap (λ (n : ℕ). take e.len (drop (24 + 12 * n + e.at) (content c.args.source.now))) of.count_is in
+    ap (λ (v : Vec ℕ). v.items) c.in-Ok.ensures.ok ∙ c.in_ok-bytes.ensures.value honest ∙ start ∙ there
 
 pub returns-clause-spelled : goal.returns-clause-spelled
 returns-clause-spelled g c = λ honest docs kind i is of lt says.
     let content = g.S.ByteSource.content in
     let e = c.args.entry in
     let there = (text_there (content c.args.source.now) docs i e.number e.at e.len is.1 lt says).1 in
-    let place = ap (λ (n : ℕ). take e.len (drop (24 + 12 * n + e.at) (content c.args.source.now))) of.count_is in
-    let text = c.in_ok-bytes.ensures.value honest ∙ place ∙ there in
+    let start = ap (λ (n : ℕ). take e.len (drop (24 + 12 * n + e.at) (content c.args.source.now))) of.count_is in
+    let text = c.in_ok-bytes.ensures.value honest ∙ start ∙ there in
     let read = c.in-Err.ensures.succeeds (subst (λ (x : List ℕ). IsUtf8 x) (sym text) (utf8_in docs i lt is.1.are.utf8)) in
     cc (read)

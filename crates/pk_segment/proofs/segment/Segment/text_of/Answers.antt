@@ -6,7 +6,7 @@ use Rattle.std.proofs.lemmas.Result.{err_from_is_err_and}
 use Rattle.pk_segment.specs.declared.fault.ReadFault.{ReadFault}
 use Rattle.pk_segment.specs.Plain.{SegmentSpells}
 use Rattle.pk_segment.specs.Fields.{IsEntry, entry_field}
-use Rattle.pk_segment.specs.Reading.{TextAs, IsCause}
+use Rattle.pk_segment.specs.Reading.{TextAs, IsNoDamage}
 use Rattle.pk_segment.proofs.ReadLemmas.{cause_read, entry_within, says, below_middle, above_middle, none_between, text_is, halved}
 use Rattle.pk_segment.proofs.segment.Segment.text_of.Goals as goal
 
@@ -30,7 +30,7 @@ returns-in_err-text-clause-spelled g c = λ honest docs kind is of.
     let says_it = says (content c.args.source.now) docs middle c.in_ok-entry.entry is.1 lt at in
     let there = subst (λ (x : List ℕ). SegmentSpells x docs kind) (sym (c.in_ok-entry.ensures.content honest ∙ c.loop-low.invariant.same honest)) is in
     let cause = c.in_err-text.ensures.spelled honest docs kind middle there of lt says_it in
-    subst (λ (r : Result (Option (String Global)) ReadFault). TextAs docs c.args.number r) (sym found.1) (subst (λ (f : ReadFault). IsCause f) (sym found.2) cause)
+    subst (λ (r : Result (Option (String Global)) ReadFault). TextAs docs c.args.number r) (sym found.1) (subst (λ (f : ReadFault). IsNoDamage f) (sym found.2) cause)
 
 pub returns-in_err-text-clause-keeps : goal.returns-in_err-text-clause-keeps
 returns-in_err-text-clause-keeps g c =

@@ -1,25 +1,23 @@
--- It answers the documents of all segments and of the buffer, or has to be opened again.
-use Rattle.std.proofs.Common.{◌≡◌, ◌+◌, ◌∙◌, sym, ap, refl, sum_by, List}
-use Rattle.pk_manifest.specs.Spelling.{view}
+-- It answers the documents that are committed and those of the buffer, or has to be opened again.
+use Rattle.std.proofs.Common.{◌+◌, ◌∙◌, sym, ap, refl, length}
 use Rattle.pk_model.specs.Steps.{count, counted}
 use Rattle.pk_model.specs.declared.commands.Refusal.TheVariants.{Reopen}
-use Rattle.pk_segment.specs.declared.segment.Segment.{Segment}
-use Rattle.pk_segment.specs.Extent.{keeps_disk_none}
-use Rattle.pk_segment.specs.Opened.{count_of}
-use Rattle.pk_store.specs.Store.{Shown}
-use Rattle.pk_store.proofs.ReadSteps.{answers_read, counts}
-use Rattle.pk_store.proofs.StoreSteps.{reopens, refuses}
+use Rattle.pk_state.specs.Committed.{live_in}
+use Rattle.pk_store.proofs.ReadSteps.{answers_read, counts, keeps_volume_none}
+use Rattle.pk_store.proofs.StoreSteps.{none_failed, reopens, refuses, view_of}
 use Rattle.pk_store.proofs.store.Store.counts.Goals as goal
 
-pub returns-then-self : goal.returns-then-self
-returns-then-self g c = record { step = rw (sym c.self.view_is) (refuses _ count Reopen (reopens _ _ _ _ c.if-self.true) tt refl (refl, refl, refl)) }
+pub returns-then-must_reopen : goal.returns-then-must_reopen
+returns-then-must_reopen g c =
+    let shown = view_of c.self.inside.volume c.self.inside.buffer c.self.inside.next in
+    record { step = rw (sym c.self.view_is) (refuses g.D.Disk shown count Reopen (reopens g.D.Disk shown count (sym c.must_reopen.ensures ∙ c.if-must_reopen.true)) tt refl tt (refl, none_failed g.D.Disk shown.volume, refl) (λ idle. idle)) }
 
 pub returns : goal.returns
 returns g c =
-    let shown : Shown _ = record { disk = c.self.inside.disk; table = view c.self.inside.manifest; segments = c.self.inside.segments.items; spare = c.self.inside.spare; buffer = c.self.inside.buffer; next = c.self.inside.next; reopen = c.self.inside.reopen } in
-    let all : c.committed_count.result + c.len.result ≡ _ =
-    ap (λ n. n + c.len.result) (c.committed_count.ensures.is ∙ ap (λ (ss : List Segment). sum_by count_of ss) c.deref.ensures.value) ∙ ap (λ n. sum_by count_of c.self.inside.segments.items + n) c.len.ensures in
+    let shown = view_of c.self.inside.volume c.self.inside.buffer c.self.inside.next in
+    let k = c.count.result + c.len.result in
     record {
-      step = rw (sym c.self.view_is) (answers_read shown c.self.inside.disk c.if-self.false (keeps_disk_none _ _ _ _ _ _ _) count (counted (c.committed_count.result + c.len.result) c.self.inside.next) refl
-          (λ h stored is. counts _ shown stored (c.committed_count.result + c.len.result) is c.if-self.false all));
+      step = rw (sym c.self.view_is) (answers_read g.D.Disk shown (sym c.must_reopen.ensures ∙ c.if-must_reopen.false) shown.volume (keeps_volume_none g.D.Disk shown.volume) count (counted k shown.next) refl tt
+          (λ h stored is. counts shown stored k (sym c.must_reopen.ensures ∙ c.if-must_reopen.false)
+          (ap (λ n. n + c.len.result) (c.count.ensures.is h stored is.stand (sym c.must_reopen.ensures ∙ c.if-must_reopen.false)) ∙ ap (λ n. length (live_in stored) + n) c.len.ensures)));
     }

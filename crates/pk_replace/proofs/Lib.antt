@@ -1,0 +1,6 @@
+-- The lemma pages.
+pub mod WritingLemmas
+pub mod ClaimLemmas
+pub mod CopyLemmas
+pub mod CourseLemmas
+pub mod HeldLemmas

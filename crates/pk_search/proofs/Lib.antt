@@ -1,0 +1,3 @@
+-- The lemma pages; those that callers cite are public.
+pub mod FindingLemmas
+pub mod LookUpLemmas

@@ -1,0 +1,64 @@
+-- Bytes that have the directory of a segment have its header and its entries.
+use Rattle.std.proofs.Common.{◌≡◌, ℕ, zero, suc, ◌+◌, ◌*◌, ◌<◌, ◌≤◌, List, [], ◌∷◌, ◌++◌, length, take, drop, refl, sym, ap, subst, ◌∙◌, arith}
+use Rattle.std.proofs.lemmas.List.{drop-take, take-take, take_all, length-map}
+use Rattle.pk_model.specs.Collection.{Doc, numbers_of}
+use Rattle.pk_segment.specs.declared.header.Header.{Header}
+use Rattle.pk_segment.specs.Fields.{IsHeader, header_field, entry_field, entry_numbers, number_at}
+use Rattle.pk_segment.specs.Plain.{SegmentSpells, DirectorySpells}
+use Rattle.pk_segment.proofs.PlainLemmas.{entry_number_at, numbers_more}
+use Rattle.pk_segment.proofs.OpeningLemmas.{long_enough}
+
+-- a segment has its own directory
+pub directory_of : (bytes : List ℕ) (docs : List Doc) (kind : ℕ) → SegmentSpells bytes docs kind
+    → DirectorySpells bytes docs kind
+directory_of bytes docs kind is = record { segment = bytes; spelled = is; long = refl; same = refl }
+
+-- the header and the directory are there
+pub within : (bytes : List ℕ) (docs : List Doc) (kind : ℕ) → DirectorySpells bytes docs kind
+    → 24 + 12 * length docs ≤ length bytes
+within bytes docs kind is = omega (arith, is.long, long_enough is.segment docs is.spelled.1)
+
+-- lists that agree in front have the same part there
+same_part : (n at end : ℕ) (xs ys : List ℕ) → at + n ≤ end → take end xs ≡ take end ys
+    → take n (drop at xs) ≡ take n (drop at ys)
+same_part n at end xs ys le same =
+    sym (drop-take at n xs) ∙ ap (drop at) (sym (take-take (at + n) end xs le))
+    ∙ ap (λ (zs : List ℕ). drop at (take (at + n) zs)) same
+    ∙ ap (drop at) (take-take (at + n) end ys le) ∙ drop-take at n ys
+
+-- what was read as the header is the segment's
+pub header_in : (bytes : List ℕ) (docs : List Doc) (kind : ℕ) (h : Header)
+    → (is : DirectorySpells bytes docs kind) → IsHeader (header_field bytes) h
+    → IsHeader (header_field is.segment) h
+header_in bytes docs kind h is read =
+    let same = same_part 24 0 (24 + 12 * length docs) bytes is.segment (omega arith) is.same in
+    subst (λ (field : List ℕ). IsHeader field h) same read
+
+-- so is the number of an entry
+pub number_in : (bytes : List ℕ) (docs : List Doc) (kind i number : ℕ)
+    → (is : DirectorySpells bytes docs kind) → i < length docs
+    → number ≡ number_at 0 (entry_field bytes i) → number ≡ number_at 0 (entry_field is.segment i)
+number_in bytes docs kind i number is lt read =
+    let same = same_part 12 (24 + 12 * i) (24 + 12 * length docs) bytes is.segment (omega (arith, lt)) is.same in
+    read ∙ ap (number_at 0) same
+
+-- the numbers of the first entries are those of the first documents
+pub first_numbers : (bytes : List ℕ) (docs : List Doc) (kind n : ℕ)
+    → DirectorySpells bytes docs kind → n ≤ length docs
+    → entry_numbers bytes n ≡ take n (numbers_of docs)
+first_numbers bytes docs kind zero is le = refl
+first_numbers bytes docs kind (suc n) is le =
+    let lt : n < length docs = omega arith in
+    let number = number_in bytes docs kind n _ is lt refl
+    ∙ entry_number_at is.segment docs n is.spelled.1 lt in
+    let k : n + 1 ≡ suc n = omega arith in
+    ap (λ (xs : List ℕ). xs ++ number_at 0 (entry_field bytes n) ∷ []) (first_numbers bytes docs kind n is (omega arith))
+    ∙ ap (λ (m : ℕ). take n (numbers_of docs) ++ m ∷ []) number
+    ∙ sym (numbers_more docs n lt) ∙ ap (λ (m : ℕ). take m (numbers_of docs)) k
+
+-- the numbers of all entries are those of the documents
+pub all_numbers : (bytes : List ℕ) (docs : List Doc) (kind n : ℕ) → DirectorySpells bytes docs kind
+    → n ≡ length docs → entry_numbers bytes n ≡ numbers_of docs
+all_numbers bytes docs kind n is same =
+    first_numbers bytes docs kind n is (omega (arith, same))
+    ∙ take_all n (numbers_of docs) (omega (arith, same, length-map docs (λ (d : Doc). d.number)))

@@ -1,0 +1,52 @@
+//! A stretch of a source, asked for part by part.
+
+ghost use Rattle.std.specs.Prelude.{
+  ◌≡◌,
+  ◌≤◌,
+  ◌<◌,
+  ◌+◌,
+  ◌^◌,
+  length,
+  take,
+  drop,
+  IfOk,
+  IsErrOf,
+};
+ghost use Rattle.pk_segment.specs.Reading.{CountsReads, asks_for};
+
+use crate::fault::ReadFault;
+use pk_posting::ByteSource;
+use std::alloc::Global;
+
+/// The most bytes that a source lends at once.
+const MOST_LENT: u32 = 4096;
+
+// The `len` bytes from an offset on, in memory that is taken once.
+pub fn stretch<S: ByteSource>(
+    alloc: Global,
+    source: &mut S,
+    at: u32,
+    len: u32,
+) -> Result<Vec<u8>, ReadFault>
+    requires { at + len < 2 ^ 32 }
+    ensures value { S.honest → IfOk result
+        (λ out. out.items ≡ take len (drop at (S.content source.old))) }
+    ensures len { IfOk result (λ out. length out.items ≡ len) }
+    ensures damaged { IsErrOf result ReadFault.Damaged
+        → length (S.content source.old) < at + len }
+    ensures content { S.honest → S.content source.new ≡ S.content source.old }
+    ensures size { length (S.content source.new) ≡ length (S.content source.old) }
+    ensures asked { S.asked source.new ≤ S.asked source.old + asks_for len }
+    ensures keeps { S.keeps source.old source.new }
+    ensures faults { CountsReads (S.failures source.old) (S.failures source.new) result }
+{
+    let mut out = Vec::with_capacity(alloc, len as usize)?;
+    let mut done = 0;
+    while done < len {
+        let n = (len - done).min(MOST_LENT);
+        let part = source.bytes(at + done, n)?;
+        out.extend_from_slice(part)?;
+        done += n;
+    }
+    Ok(out)
+}

@@ -1,0 +1,119 @@
+-- What a read does to what was read and done so far.
+use Rattle.std.proofs.Common.{◌≡◌, ℕ, ◌+◌, ◌<◌, ◌≤◌, ◌^◌, true, false, Option, Some, None, List, [], ◌++◌, length, take, refl, sym, ap, ◌∙◌, subst, append_assoc, length-append, arith, Result, Ok, Err}
+use Rattle.std.proofs.lemmas.Grind.{common_steps}
+use Rattle.std.proofs.lemmas.List.{append-nil}
+use Rattle.std.specs.Io.KnownBytes.{Consumes, Keeps, IsAtEnd}
+use Rattle.pk_model.specs.Steps.{Request, Answer}
+use Rattle.pk_model.specs.declared.commands.Refusal.{Refusal}
+use Rattle.pk_shell.specs.Asked.{asked_held, is_blank}
+use Rattle.pk_shell.specs.Transcript.{AnswersLine, Continues, Quits, IsCutOff}
+use Rattle.pk_shell.specs.Script.{Served, CutShort, Broken, Overlong}
+use Rattle.pk_shell.specs.Progress.{Progress}
+use Rattle.pk_shell.specs.declared.ending.Ended.TheVariants.{Quit, InputEnd}
+use Rattle.pk_shell.proofs.Transcripts.{begun, served_quit, served_end, served_last, cut_short, cut_last, broken, overlong}
+
+consumes_more : (r0 r r' : Option (List ℕ)) (a b : List ℕ) → Consumes r0 r a → Consumes r r' b
+    → Consumes r0 r' (a ++ b)
+consumes_more None r r' a b h k = tt
+consumes_more (Some xs) None r' a b h k = absurd h
+consumes_more (Some xs) (Some ys) None a b h k = absurd k
+consumes_more (Some xs) (Some ys) (Some zs) a b h k = h ∙ ap (λ t. a ++ t) k ∙ sym (append_assoc a b zs)
+
+consumes_kept : (r0 r r' : Option (List ℕ)) (a : List ℕ) → Consumes r0 r a → Keeps r r' → Consumes r0 r' a
+consumes_kept None r r' a h k = tt
+consumes_kept (Some xs) None r' a h k = absurd h
+consumes_kept (Some xs) (Some ys) None a h k = absurd k
+consumes_kept (Some xs) (Some ys) (Some zs) a h k = h ∙ ap (λ t. a ++ t) (sym k)
+
+consumes_none : (r0 r r' : Option (List ℕ)) (a : List ℕ) → Consumes r0 r a → Consumes r r' [] → Consumes r0 r' a
+consumes_none r0 r r' a h k = subst (λ t. Consumes r0 r' t) (append-nil a) (consumes_more r0 r r' a [] h k)
+
+consumes_start : (r : Option (List ℕ)) → Consumes r r []
+consumes_start None = tt
+consumes_start (Some xs) = refl
+
+-- one read more, of a byte at least
+reads_more : (reads : ℕ) (read chunk : List ℕ) → reads ≤ length read → 0 < length chunk
+    → reads + 1 ≤ length (read ++ chunk)
+reads_more reads read chunk many some =
+    let k : length (read ++ chunk) ≡ length read + length chunk = length-append read chunk in
+    rw k (omega (arith, many, some))
+
+-- the bytes that a read gave
+pub came : (r r' : Option (List ℕ)) (n : ℕ) (buffer chunk : List ℕ) → Consumes r r' (take n buffer)
+    → chunk ≡ take n buffer → Consumes r r' chunk
+came r r' n buffer chunk c e = rw e c
+
+pub some_came : (n : ℕ) (buffer chunk : List ℕ) → n ≤ length buffer → (n ≡ 0 → ⊥) → chunk ≡ take n buffer
+    → 0 < length chunk
+some_came n buffer chunk within not e = rw e (grind (arith, common_steps, within, not))
+
+-- a read that gave nothing
+pub read_end : (r r' : Option (List ℕ)) (n : ℕ) (buffer : List ℕ) → n ≡ 0
+    → Consumes r r' (take n buffer) × (n ≡ 0 → 0 < length buffer → IsAtEnd r') → 0 < length buffer
+    → Consumes r r' [] × IsAtEnd r'
+read_end r r' n buffer z p room = (rw z at p.0, p.1 z room)
+
+module _ {S : Type 0} (Step : S → Request → Result Answer Refusal → S → Type 0) where
+  pub started : (s : S) (r w h : Option (List ℕ)) → h ≡ Some [] → Progress Step s r r w 0 h s w
+  started s r w h e = rw e (record {
+    read = [];
+    consumed = consumes_start r;
+    many = omega arith;
+    transcript = begun Step s w;
+  })
+
+  -- no read more
+  pub too_many : (s0 s : S) (r0 r w0 w h : Option (List ℕ)) (reads : ℕ) → Progress Step s0 r0 r w0 reads h s w
+      → 2 ^ 40 ≤ reads → Overlong Step s0 r0 r w0 w s
+  too_many s0 s r0 r w0 w h reads p k =
+      overlong Step s0 s w0 w h p.read p.transcript r0 r p.consumed (omega (arith, k, p.many))
+
+  module _ (s0 s : S) (r0 r r' w0 w h : Option (List ℕ)) (reads : ℕ) (p : Progress Step s0 r0 r w0 reads h s w) where
+    -- a read that gave bytes
+    module _ (chunk : List ℕ) (came : Consumes r r' chunk) (s' : S) (w' : Option (List ℕ)) where
+      read_all : Consumes r0 r' (p.read ++ chunk)
+      read_all = consumes_more r0 r r' p.read chunk p.consumed came
+
+      pub goes_on : (h' : Option (List ℕ)) → 0 < length chunk → Continues Step h s w chunk h' s' w'
+          → Progress Step s0 r0 r' w0 (reads + 1) h' s' w'
+      goes_on h' some k = record {
+        read = p.read ++ chunk;
+        consumed = read_all;
+        many = reads_more reads p.read chunk p.many some;
+        transcript = k s0 w0 p.read p.transcript;
+      }
+
+      pub quits : Quits Step h s w chunk s' w' → Served Step s0 r0 r' w0 w' Quit s'
+      quits k = served_quit Step s0 s' r0 r' w0 w' (p.read ++ chunk) read_all (k s0 w0 p.read p.transcript)
+
+      pub is_cut : IsCutOff Step h s w chunk s' w' → CutShort Step s0 r0 r' w0 w' s'
+      is_cut k = cut_short Step s0 s' r0 r' w0 w' (p.read ++ chunk) read_all (k s0 w0 p.read p.transcript)
+
+    -- a read that failed
+    pub fails : Keeps r r' → Broken Step s0 r0 r' w0 w s
+    fails k = broken Step s0 s w0 w h p.read p.transcript r0 r' (consumes_kept r0 r r' p.read p.consumed k)
+
+    -- a read that gave nothing
+    module _ (none : Consumes r r' []) (at_end : IsAtEnd r') where
+      pub ends : is_blank h ≡ true → Served Step s0 r0 r' w0 w InputEnd s
+      ends k = served_end Step s0 s w0 w h p.read p.transcript r0 r' (consumes_none r0 r r' p.read p.consumed none) at_end k
+
+      module _ {E : Type 0} (s' : S) (w' : Option (List ℕ)) (begun : is_blank h ≡ false) where
+        pub last_quits : AnswersLine {S = S} {E = E} Step (asked_held h) s s' w w' (Ok true)
+            → Served Step s0 r0 r' w0 w' Quit s'
+        last_quits a =
+            served_last Step s0 s w0 w h p.read p.transcript s' w' a.reply a.is_reply r0 r' Quit
+            (consumes_none r0 r r' p.read p.consumed none) at_end begun (rw (sym a.quits) refl) a.sent
+
+        pub last_ends : AnswersLine {S = S} {E = E} Step (asked_held h) s s' w w' (Ok false)
+            → Served Step s0 r0 r' w0 w' InputEnd s'
+        last_ends a =
+            served_last Step s0 s w0 w h p.read p.transcript s' w' a.reply a.is_reply r0 r' InputEnd
+            (consumes_none r0 r r' p.read p.consumed none) at_end begun (rw (sym a.quits) refl) a.sent
+
+        pub last_cut : (x : E) → AnswersLine {S = S} {E = E} Step (asked_held h) s s' w w' (Err x)
+            → CutShort Step s0 r0 r' w0 w' s'
+        last_cut x a =
+            cut_last Step s0 s w0 w h p.read p.transcript s' w' a.reply a.is_reply r0 r'
+            (consumes_none r0 r r' p.read p.consumed none) begun a.sent

@@ -1,0 +1,285 @@
+-- What a disk keeps for a body, what its bytes hold, and that these say the same.
+use Rattle.std.proofs.Common.{◌≡◌, ℕ, ◌+◌, ◌*◌, ◌/◌, ◌<◌, ◌≤◌, ◌&&◌, Bool, true, false, eqb, leb, ltb, List, [], ◌∷◌, ◌++◌, length, take, drop, Option, Some, None, refl, sym, ◌∙◌, ap, subst, arith, length-drop}
+use Rattle.std.specs.List.{AllByRecursion, flat_map, list_all}
+use Rattle.std.proofs.Math.Nat.{lt-mul-div-succ, min-le_left, mul-div-le}
+use Rattle.std.proofs.lemmas.Bool.{and_parts, eqb-true, leb-true, ltb-true}
+use Rattle.std.proofs.lemmas.List.{length-take-le}
+use Rattle.std.proofs.lemmas.List.Concat.{flat_map-cons}
+use Rattle.std.proofs.lemmas.List.Elements.{All-cons, All-head, All-nil, All-tail, recursion_from_All}
+use Rattle.pk_disk.specs.Disk.{IsImage, nowhere}
+use Rattle.pk_disk.specs.Since.{IsOnlyRead}
+use Rattle.pk_disk.specs.Units.{IsFitted, end_of, extent_bytes, first_unit, lies_within, start_of, units_for, units_in}
+use Rattle.pk_disk.specs.declared.disk.Disk.{Ghosts}
+use Rattle.pk_disk.specs.declared.units.Extent.{Extent}
+use Rattle.pk_disk.proofs.Reading.{after_reads}
+use Rattle.pk_manifest.specs.declared.half.Half.{Half}
+use Rattle.pk_manifest.specs.declared.half.Half.TheVariants.{A, B}
+use Rattle.pk_manifest.specs.declared.manifest.Part.{Part as Entry}
+use Rattle.pk_manifest.specs.Bodies.{body_of, generation_of, half_in_force, half_of, has_open_gate, other}
+use Rattle.pk_manifest.specs.Current.{HasBody, units_of_disk}
+use Rattle.pk_manifest.specs.Sound.{IsBody, extents_of, is_dead, is_extent, is_part, named}
+use Rattle.pk_manifest.specs.Spelling.{Body, spelling}
+use Rattle.pk_manifest.proofs.Fields.{one_body_in_force, sound_says}
+use Rattle.pk_manifest.proofs.Firm.{in_force_open}
+use Rattle.pk_model.specs.Collection.{Collection, Doc, IsCollection}
+use Rattle.pk_replace.specs.Claims.{Claim, Each, IsThere}
+use Rattle.pk_replace.specs.Held.{Has}
+use Rattle.pk_segment.specs.Plain.{SegmentSpells, plain_length}
+use Rattle.pk_segment.proofs.PlainLemmas.{length_plain, one_plain}
+use Rattle.pk_state.specs.Committed.{Stored, Committed, collection_of}
+use Rattle.pk_state.specs.Holds.{AgreeWith, Holds, ListSpells, SpellsEntries, SpellsEntry}
+use Rattle.pk_state.specs.Kept.{AreEntries, IsKept, IsList, IsSegment, LieInside, claims_in, claims_of, list_claims, segment_claim}
+use Rattle.pk_state.proofs.CallerLemmas.{held_closed, held_has, held_now}
+
+-- ---- claims that are put together
+
+pub each_append : (P : Claim → Type 0) (cs ds : List Claim) → Each P cs → Each P ds → Each P (cs ++ ds)
+each_append P [] ds first second = second
+each_append P (c ∷ cs) ds first second = (first.0, each_append P cs ds first.1 second)
+
+pub each_front : (P : Claim → Type 0) (cs ds : List Claim) → Each P (cs ++ ds) → Each P cs
+each_front P [] ds both = tt
+each_front P (c ∷ cs) ds both = (both.0, each_front P cs ds both.1)
+
+pub each_back : (P : Claim → Type 0) (cs ds : List Claim) → Each P (cs ++ ds) → Each P ds
+each_back P [] ds both = both
+each_back P (c ∷ cs) ds both = each_back P cs ds both.1
+
+-- ---- a sound body's extents lie within its disk
+
+-- an extent within a disk, as inequalities
+pub within_parts : (units : ℕ) (e : Extent) → lies_within units e ≡ true → (34 ≤ e.first) × (0 < e.units) × (end_of e ≤ units)
+within_parts units e h =
+    let a = and_parts (leb first_unit e.first && ltb 0 e.units) (leb (end_of e) units) h in
+    let b = and_parts (leb first_unit e.first) (ltb 0 e.units) a.0 in
+    (leb-true _ _ b.0, ltb-true _ _ b.1, leb-true _ _ a.1)
+
+-- the units of a disk lie within it
+pub units_room : (size : ℕ) → 512 * units_in size ≤ size
+units_room size = omega (arith, min-le_left (size / 512) 2147483648, mul-div-le size 512)
+
+-- the units of the extent of a sound entry are those that its bytes take
+pub fitted_entry : (units next : ℕ) (e : Entry) → is_part units next e ≡ true → IsFitted e.extent × (lies_within units e.extent ≡ true)
+fitted_entry units next e h =
+    let a = and_parts (leb 1 e.segment && ltb e.segment next && leb 1 e.kind && leb e.kind 2 && is_extent units 1 e.extent) (is_dead units e.dead) h in
+    let b = and_parts (leb 1 e.segment && ltb e.segment next && leb 1 e.kind && leb e.kind 2) (is_extent units 1 e.extent) a.0 in
+    let c = and_parts (leb 1 e.extent.bytes && leb e.extent.bytes 1073741824 && eqb e.extent.units (units_for e.extent.bytes)) (lies_within units e.extent) b.1 in
+    let d = and_parts (leb 1 e.extent.bytes && leb e.extent.bytes 1073741824) (eqb e.extent.units (units_for e.extent.bytes)) c.0 in
+    (eqb-true _ _ d.1, c.1)
+
+-- so its bytes lie within the disk
+ends_inside : (units size : ℕ) → 512 * units ≤ size → (e : Extent) → IsFitted e → lies_within units e ≡ true → start_of e + e.bytes ≤ size
+ends_inside units size room e fitted h =
+    let some : 0 < 512 = omega arith in
+    let last : end_of e ≤ units = (within_parts units e h).2 in
+    omega (arith, room, fitted, last, lt-mul-div-succ (e.bytes + 511) some)
+
+lie_each : (units size next : ℕ) → 512 * units ≤ size → (es : List Entry) → list_all (is_part units next) es ≡ true → LieInside size es
+lie_each units size next room [] h = All-nil (λ (e : Entry). start_of e.extent + e.extent.bytes ≤ size)
+lie_each units size next room (e ∷ es) h =
+    let parts = and_parts (is_part units next e) (list_all (is_part units next) es) h in
+    let this = fitted_entry units next e parts.0 in
+    All-cons (λ (d : Entry). start_of d.extent + d.extent.bytes ≤ size) e es (ends_inside units size room e.extent this.0 this.1) (lie_each units size next room es parts.1)
+
+pub lie_inside : (bytes : List ℕ) (b : Body) → IsBody (units_of_disk bytes) b → LieInside (length bytes) b.entries
+lie_inside bytes b is = lie_each (units_of_disk bytes) (length bytes) b.next_segment (units_room (length bytes)) b.entries (sound_says (units_of_disk bytes) b is).parts
+
+-- ---- what entries spell, as claims
+
+-- an extent within a disk has all its bytes
+length_extent : (bytes : List ℕ) (e : Extent) → start_of e + e.bytes ≤ length bytes → length (extent_bytes bytes e) ≡ e.bytes
+length_extent bytes e room = length-take-le e.bytes (drop (start_of e) bytes) (omega (arith, room, length-drop (start_of e) bytes))
+
+spelled_segment : (bytes : List ℕ) (e : Entry) (s : Stored) → start_of e.extent + e.extent.bytes ≤ length bytes → SegmentSpells (extent_bytes bytes e.extent) s.documents e.kind → IsSegment e s × IsThere bytes (segment_claim e s)
+spelled_segment bytes e s room spells =
+    let plain = spells.1 in
+    let long : e.extent.bytes ≡ plain_length s.documents = sym (length_extent bytes e.extent room) ∙ ap length plain.same ∙ length_plain s.documents in (
+      record { kind = spells.0; are = plain.are; fits = plain.fits; long = long },
+      ap (λ (n : ℕ). take n (drop (start_of e.extent) bytes)) (length_plain s.documents ∙ sym long) ∙ plain.same,
+    )
+
+segment_spelled : (bytes : List ℕ) (e : Entry) (s : Stored) → IsSegment e s → IsThere bytes (segment_claim e s) → SegmentSpells (extent_bytes bytes e.extent) s.documents e.kind
+segment_spelled bytes e s is there = (
+  is.kind,
+  record {
+    are = is.are;
+    fits = is.fits;
+    same = ap (λ (n : ℕ). take n (drop (start_of e.extent) bytes)) (is.long ∙ sym (length_plain s.documents)) ∙ there;
+  },
+)
+
+spelled_list : (bytes : List ℕ) (list : Option Extent) (dead : List ℕ) → ListSpells bytes list dead → IsList list dead × Each (IsThere bytes) (list_claims list dead)
+spelled_list bytes None dead spells = (spells, tt)
+spelled_list bytes (Some e) dead spells = absurd spells
+
+list_spelled : (bytes : List ℕ) (list : Option Extent) (dead : List ℕ) → IsList list dead → Each (IsThere bytes) (list_claims list dead) → ListSpells bytes list dead
+list_spelled bytes None dead is there = is
+list_spelled bytes (Some e) dead is there = absurd is
+
+pub spelled_entries : (bytes : List ℕ) (es : List Entry) (stored : List Stored) → LieInside (length bytes) es → SpellsEntries bytes es stored → AreEntries es stored × Each (IsThere bytes) (claims_of es stored)
+spelled_entries bytes [] [] inside spells = (tt, tt)
+spelled_entries bytes [] (s ∷ stored) inside spells = absurd spells
+spelled_entries bytes (e ∷ es) [] inside spells = absurd spells
+spelled_entries bytes (e ∷ es) (s ∷ stored) inside spells =
+    let segment = spelled_segment bytes e s (All-head (λ (d : Entry). start_of d.extent + d.extent.bytes ≤ length bytes) e es inside) spells.0.segment in
+    let list = spelled_list bytes e.dead s.dead spells.0.list in
+    let more = spelled_entries bytes es stored (All-tail (λ (d : Entry). start_of d.extent + d.extent.bytes ≤ length bytes) e es inside) spells.1 in (
+      (record { segment = segment.0; list = list.0 }, more.0),
+      each_append (IsThere bytes) (claims_in e s) (claims_of es stored) (segment.1, list.1) more.1,
+    )
+
+pub entries_spelled : (bytes : List ℕ) (es : List Entry) (stored : List Stored) → AreEntries es stored → Each (IsThere bytes) (claims_of es stored) → SpellsEntries bytes es stored
+entries_spelled bytes [] [] are there = tt
+entries_spelled bytes [] (s ∷ stored) are there = absurd are
+entries_spelled bytes (e ∷ es) [] are there = absurd are
+entries_spelled bytes (e ∷ es) (s ∷ stored) are there =
+    let here = each_front (IsThere bytes) (claims_in e s) (claims_of es stored) there in (
+      record { segment = segment_spelled bytes e s are.0.segment here.0; list = list_spelled bytes e.dead s.dead are.0.list here.1 },
+      entries_spelled bytes es stored are.1 (each_back (IsThere bytes) (claims_in e s) (claims_of es stored) there),
+    )
+
+-- ---- what a disk keeps
+
+-- with nothing open, a body in force is kept with what its extents spell
+pub kept_closed : (bytes : List ℕ) (is_open : ℕ → Bool) (spare : Half) (c : Committed) → HasBody bytes (other spare) c.body → SpellsEntries bytes c.body.entries c.stored → is_open ≡ nowhere → IsKept bytes is_open spare c
+kept_closed bytes is_open spare c has spells closed =
+    let entries = spelled_entries bytes c.body.entries c.stored (lie_inside bytes c.body has.sound) spells in
+    record {
+      sound = has.sound;
+      entries = entries.0;
+      held = held_closed bytes is_open spare (spelling c.body) (claims_of c.body.entries c.stored) closed (record { in_force = has.in_force; has_body = has.spelled }) entries.1;
+    }
+
+-- an image that has the body and its claims holds its collection
+pub has_holds : (image : List ℕ) (committed : Committed) (c : Collection) → IsBody (units_of_disk image) committed.body → AreEntries committed.body.entries committed.stored
+    → Has image (spelling committed.body) (claims_of committed.body.entries committed.stored) → IsCollection c → collection_of committed ≡ c → Holds image c
+has_holds image committed c sound are has numbers is = record {
+  half = has.half;
+  committed = committed;
+  current = record { in_force = has.current.in_force; spelled = has.current.has_body; sound = sound };
+  spelled = entries_spelled image committed.body.entries committed.stored are has.there;
+  numbers = numbers;
+  stands_for = is;
+}
+
+-- a disk that keeps what is committed: each image holds its collection
+module _ (b : List ℕ) (o : ℕ → Bool) (s : Half) (c : Committed) (kept : IsKept b o s c) where
+  pub kept_holds : IsCollection (collection_of c) → (image : List ℕ) → IsImage b o image → Holds image (collection_of c)
+  kept_holds numbers image is = has_holds image c (collection_of c)
+      (subst (λ (n : ℕ). IsBody (units_in n) c.body) (sym is.size) kept.sound) kept.entries
+      (held_has b o s (spelling c.body) (claims_of c.body.entries c.stored) kept.held image is) numbers refl
+
+  -- and its entries spell what they stand for
+  pub kept_spelled : SpellsEntries b c.body.entries c.stored
+  kept_spelled = entries_spelled b c.body.entries c.stored kept.entries (held_now b o s (spelling c.body) (claims_of c.body.entries c.stored) kept.held).there
+
+-- what is kept stays kept in a run of reads
+pub kept_read : {D : Type 0} (d : Ghosts D) (old new : D) (s : Half) (c : Committed) → IsOnlyRead d.content d.is_open d.moment d.images_since old new
+    → IsKept (d.content old) (d.is_open old) s c → IsKept (d.content new) (d.is_open new) s c
+kept_read d old new s c read kept = after_reads d.content d.is_open d.moment d.images_since old new read (λ b o. IsKept b o s c) kept
+
+-- ---- bytes hold one collection
+
+abbrev stored_of : List Doc → List ℕ → Stored
+stored_of documents dead = record { documents = documents; dead = dead }
+
+one_list : (bytes : List ℕ) (list : Option Extent) (a b : List ℕ) → ListSpells bytes list a → ListSpells bytes list b → a ≡ b
+one_list bytes None a b x y = x ∙ sym y
+one_list bytes (Some e) a b x y = absurd x
+
+one_entry : (bytes : List ℕ) (e : Entry) (a b : Stored) → SpellsEntry bytes e a → SpellsEntry bytes e b → a ≡ b
+one_entry bytes e a b x y =
+    ap (λ ds. stored_of ds a.dead) (one_plain (extent_bytes bytes e.extent) a.documents b.documents x.segment.1 y.segment.1)
+    ∙ ap (λ ns. stored_of b.documents ns) (one_list bytes e.dead a.dead b.dead x.list y.list)
+
+pub one_stored : (bytes : List ℕ) (es : List Entry) (a b : List Stored) → SpellsEntries bytes es a → SpellsEntries bytes es b → a ≡ b
+one_stored bytes [] [] [] x y = refl
+one_stored bytes [] [] (s ∷ b) x y = absurd y
+one_stored bytes [] (s ∷ a) b x y = absurd x
+one_stored bytes (e ∷ es) [] b x y = absurd x
+one_stored bytes (e ∷ es) (s ∷ a) [] x y = absurd y
+one_stored bytes (e ∷ es) (s ∷ a) (t ∷ b) x y =
+    ap (λ u. u ∷ a) (one_entry bytes e s t x.0 y.0) ∙ ap (λ more. t ∷ more) (one_stored bytes es a b x.1 y.1)
+
+abbrev committed_of : Body → List Stored → Committed
+committed_of b stored = record { body = b; stored = stored }
+
+-- what is committed is one, where its body is
+pub one_committed : (bytes : List ℕ) (a b : Committed) → a.body ≡ b.body → SpellsEntries bytes a.body.entries a.stored → SpellsEntries bytes b.body.entries b.stored → a ≡ b
+one_committed bytes a b same x y =
+    let stored : a.stored ≡ b.stored = one_stored bytes b.body.entries a.stored b.stored (subst (λ (u : Body). SpellsEntries bytes u.entries a.stored) same x) y in
+    ap (λ u. committed_of u a.stored) same ∙ ap (committed_of b.body) stored
+
+pub holds_one : (bytes : List ℕ) (a b : Collection) → Holds bytes a → Holds bytes b → a ≡ b
+holds_one bytes a b x y =
+    let same = (one_body_in_force bytes x.half y.half x.committed.body y.committed.body x.current y.current).1 in
+    sym x.stands_for ∙ ap collection_of (one_committed bytes x.committed y.committed same x.spelled y.spelled) ∙ y.stands_for
+
+-- ---- only the gates, the bodies behind open ones, and the extents of the body in force count
+
+-- the half in force, by gates and bodies that agree
+same_half : (a b : Bool) (m n p q : ℕ) → (a ≡ true → m ≡ p) → (b ≡ true → n ≡ q) → half_of a b m n ≡ half_of a b p q
+same_half true true m n p q first second = λ i. half_of true true (first refl i) (second refl i)
+same_half true false m n p q first second = refl
+same_half false true m n p q first second = refl
+same_half false false m n p q first second = refl
+
+all_back : (P : Extent → Type 0) (xs ys : List Extent) → AllByRecursion P (xs ++ ys) → AllByRecursion P ys
+all_back P [] ys all = all
+all_back P (x ∷ xs) ys all = all_back P xs ys all.1
+
+list_agrees : (bytes image : List ℕ) (list : Option Extent) (dead : List ℕ) → ListSpells bytes list dead → ListSpells image list dead
+list_agrees bytes image None dead spells = spells
+list_agrees bytes image (Some e) dead spells = absurd spells
+
+entries_agree : (bytes image : List ℕ) (es : List Entry) (stored : List Stored) → AllByRecursion (λ (e : Extent). extent_bytes image e ≡ extent_bytes bytes e) (flat_map extents_of es) → SpellsEntries bytes es stored → SpellsEntries image es stored
+entries_agree bytes image [] [] agree spells = tt
+entries_agree bytes image [] (s ∷ stored) agree spells = absurd spells
+entries_agree bytes image (e ∷ es) [] agree spells = absurd spells
+entries_agree bytes image (e ∷ es) (s ∷ stored) agree spells =
+    let same : Extent → Type 0 = λ x. extent_bytes image x ≡ extent_bytes bytes x in
+    let each = subst (AllByRecursion same) (flat_map-cons extents_of e es) agree in (
+      record {
+        segment = subst (λ (bs : List ℕ). SegmentSpells bs s.documents e.kind) (sym each.0) spells.0.segment;
+        list = list_agrees bytes image e.dead s.dead spells.0.list;
+      },
+      entries_agree bytes image es stored (all_back same (extents_of e) (flat_map extents_of es) each) spells.1,
+    )
+
+module _ (bytes image : List ℕ) (b : Body) (agree : AgreeWith bytes image b) where
+  pub same_in_force : half_in_force image ≡ half_in_force bytes
+  same_in_force =
+      (λ i. half_of (agree.gates A i) (agree.gates B i) (generation_of (body_of image A)) (generation_of (body_of image B)))
+      ∙ same_half (has_open_gate bytes A) (has_open_gate bytes B) _ _ (generation_of (body_of bytes A)) (generation_of (body_of bytes B))
+      (λ is_open. ap generation_of (agree.bodies A is_open)) (λ is_open. ap generation_of (agree.bodies B is_open))
+
+  pub same_body : (half : Half) → HasBody bytes half b → HasBody image half b
+  same_body half has = record {
+    in_force = same_in_force ∙ has.in_force;
+    spelled = agree.bodies half (in_force_open bytes half has.in_force) ∙ has.spelled;
+    sound = subst (λ (n : ℕ). IsBody (units_in n) b) (sym agree.size) has.sound;
+  }
+
+  pub same_entries : (stored : List Stored) → SpellsEntries bytes b.entries stored → SpellsEntries image b.entries stored
+  same_entries stored spells = entries_agree bytes image b.entries stored (recursion_from_All (λ (e : Extent). extent_bytes image e ≡ extent_bytes bytes e) (named b) agree.extents) spells
+
+  pub agree_back : AgreeWith image bytes b
+  agree_back = record {
+    size = sym agree.size;
+    gates = λ half. sym (agree.gates half);
+    bodies = λ half is_open. sym (agree.bodies half (sym (agree.gates half) ∙ is_open));
+    extents = λ k e lt. sym (agree.extents k e lt);
+  }
+
+pub holds_frame : (bytes image : List ℕ) (half : Half) (b : Body) (c : Collection) → HasBody bytes half b → AgreeWith bytes image b → Holds bytes c → Holds image c
+holds_frame bytes image half b c has agree holds =
+    let same : holds.committed.body ≡ b = (one_body_in_force bytes holds.half half holds.committed.body b holds.current has).1 in
+    let spelled : SpellsEntries bytes b.entries holds.committed.stored = subst (λ (u : Body). SpellsEntries bytes u.entries holds.committed.stored) same holds.spelled in
+    record {
+      half = half;
+      committed = committed_of b holds.committed.stored;
+      current = same_body bytes image b agree half has;
+      spelled = same_entries bytes image b agree holds.committed.stored spelled;
+      numbers = holds.numbers;
+      stands_for = ap (λ (u : Body). collection_of (committed_of u holds.committed.stored)) (sym same) ∙ holds.stands_for;
+    }

@@ -1,0 +1,55 @@
+-- What a disk holds: the body in force with what its entries stand for, and the collection that
+-- this is.
+use Rattle.std.specs.Prelude.{◌≡◌, ◌⊎◌, ℕ, true, List, [], ◌∷◌, Option, Some, None, length, All}
+use Rattle.pk_disk.specs.declared.units.Extent.{Extent}
+use Rattle.pk_disk.specs.Units.{extent_bytes}
+use Rattle.pk_manifest.specs.declared.half.Half.{Half}
+use Rattle.pk_manifest.specs.declared.manifest.Part.{Part as Entry}
+use Rattle.pk_manifest.specs.Bodies.{body_of, has_open_gate}
+use Rattle.pk_manifest.specs.Current.{HasBody}
+use Rattle.pk_manifest.specs.Sound.{named}
+use Rattle.pk_manifest.specs.Spelling.{Body}
+use Rattle.pk_segment.specs.Plain.{SegmentSpells}
+use Rattle.pk_model.specs.Collection.{Collection, IsCollection}
+use Rattle.pk_state.specs.Committed.{Stored, Committed, collection_of}
+
+-- the numbers are those of the deletion list; so far there is none on a disk
+abbrev pub ListSpells : List ℕ → Option Extent → List ℕ → Type 0
+ListSpells bytes None dead = dead ≡ []
+ListSpells bytes (Some e) dead = ⊥
+
+-- The entry is a segment of kind 1, whose extent spells the documents, and its deletion list
+-- spells the dead numbers.
+pub record SpellsEntry (bytes : List ℕ) (e : Entry) (s : Stored) : Type 0 where
+  pub segment : SegmentSpells (extent_bytes bytes e.extent) s.documents e.kind
+  pub list : ListSpells bytes e.dead s.dead
+
+-- each entry spells what stands at its place
+abbrev pub SpellsEntries : List ℕ → List Entry → List Stored → Type 0
+SpellsEntries bytes [] [] = Unit {0}
+SpellsEntries bytes [] (s ∷ stored) = ⊥
+SpellsEntries bytes (e ∷ es) [] = ⊥
+SpellsEntries bytes (e ∷ es) (s ∷ stored) = SpellsEntry bytes e s × SpellsEntries bytes es stored
+
+-- THE BYTES HOLD THE COLLECTION: the body in force is sound, each of its entries spells what it
+-- stands for, and this is the collection's.
+pub record Holds (bytes : List ℕ) (c : Collection) : Type 0 where
+  pub half : Half
+  pub committed : Committed
+  pub current : HasBody bytes half committed.body
+  pub spelled : SpellsEntries bytes committed.body.entries committed.stored
+  pub numbers : IsCollection c
+  pub stands_for : collection_of committed ≡ c
+
+-- the image holds the one collection or the other
+abbrev pub HoldsOne : Collection → Collection → List ℕ → Type 0
+HoldsOne a b image = Holds image a ⊎ Holds image b
+
+-- WHAT COUNTS of a disk's bytes: the image is as long as the bytes, its gates are open where theirs
+-- are, and the bodies behind open gates and the extents that the body names are the same.
+pub record AgreeWith (bytes image : List ℕ) (b : Body) : Type 0 where
+  pub size : length image ≡ length bytes
+  pub gates : (half : Half) → has_open_gate image half ≡ has_open_gate bytes half
+  pub bodies : (half : Half) → has_open_gate bytes half ≡ true
+      → body_of image half ≡ body_of bytes half
+  pub extents : All (λ (e : Extent). extent_bytes image e ≡ extent_bytes bytes e) (named b)

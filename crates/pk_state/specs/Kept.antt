@@ -1,0 +1,73 @@
+-- What a disk keeps for a body: it stands fast, and so do the claims of its entries, so that each
+-- image has them.
+use Rattle.std.specs.Prelude.{◌≡◌, ◌+◌, ◌≤◌, ℕ, Bool, List, [], ◌∷◌, ◌++◌, Option, Some, None, All}
+use Rattle.pk_disk.specs.declared.units.Extent.{Extent}
+use Rattle.pk_disk.specs.Units.{start_of}
+use Rattle.pk_manifest.specs.declared.half.Half.{Half}
+use Rattle.pk_manifest.specs.declared.manifest.Part.{Part as Entry}
+use Rattle.pk_manifest.specs.Current.{units_of_disk}
+use Rattle.pk_manifest.specs.Sound.{IsBody}
+use Rattle.pk_manifest.specs.Spelling.{spelling}
+use Rattle.pk_replace.specs.Claims.{Claim}
+use Rattle.pk_replace.specs.Held.{IsHeld}
+use Rattle.pk_segment.specs.declared.segment.Segment.{Segment}
+use Rattle.pk_segment.specs.Opened.{IsSegmentOf}
+use Rattle.pk_segment.specs.Plain.{AreDocuments, longest, plain_length, plain_spelling}
+use Rattle.pk_state.specs.Committed.{Stored, Committed}
+
+-- THE ENTRY IS A SEGMENT of these documents, with a list of these dead numbers: all but the bytes.
+pub record IsSegment (e : Entry) (s : Stored) : Type 0 where
+  pub kind : e.kind ≡ 1
+  pub are : AreDocuments s.documents
+  pub fits : plain_length s.documents ≤ longest
+  pub long : e.extent.bytes ≡ plain_length s.documents
+
+abbrev pub IsList : Option Extent → List ℕ → Type 0
+IsList None dead = dead ≡ []
+IsList (Some e) dead = ⊥
+
+pub record IsEntry (e : Entry) (s : Stored) : Type 0 where
+  pub segment : IsSegment e s
+  pub list : IsList e.dead s.dead
+
+-- each entry is what stands at its place
+abbrev pub AreEntries : List Entry → List Stored → Type 0
+AreEntries [] [] = Unit {0}
+AreEntries [] (s ∷ stored) = ⊥
+AreEntries (e ∷ es) [] = ⊥
+AreEntries (e ∷ es) (s ∷ stored) = IsEntry e s × AreEntries es stored
+
+-- the extents of the entries end within a disk of so many bytes
+abbrev pub LieInside : ℕ → List Entry → Type 0
+LieInside size entries = All (λ (e : Entry). start_of e.extent + e.extent.bytes ≤ size) entries
+
+-- each open segment is one of the documents at its place
+abbrev pub AreSegments : List Segment → List Stored → Type 0
+AreSegments [] [] = Unit {0}
+AreSegments [] (s ∷ stored) = ⊥
+AreSegments (o ∷ opened) [] = ⊥
+AreSegments (o ∷ opened) (s ∷ stored) = IsSegmentOf o s.documents × AreSegments opened stored
+
+-- CLAIMS, by their kinds: the spelling of the documents in the entry's extent, and that of the dead
+-- numbers in its list's
+abbrev pub segment_claim : Entry → Stored → Claim
+segment_claim e s = record { at = start_of e.extent; bytes = plain_spelling s.documents }
+
+abbrev pub list_claims : Option Extent → List ℕ → List Claim
+list_claims None dead = []
+list_claims (Some e) dead = []
+
+abbrev pub claims_in : Entry → Stored → List Claim
+claims_in e s = segment_claim e s ∷ list_claims e.dead s.dead
+
+abbrev pub claims_of : List Entry → List Stored → List Claim
+claims_of [] stored = []
+claims_of (e ∷ es) [] = []
+claims_of (e ∷ es) (s ∷ stored) = claims_in e s ++ claims_of es stored
+
+-- THE DISK KEEPS what is committed.
+pub record IsKept (bytes : List ℕ) (is_open : ℕ → Bool) (spare : Half) (c : Committed)
+    : Type 0 where
+  pub sound : IsBody (units_of_disk bytes) c.body
+  pub entries : AreEntries c.body.entries c.stored
+  pub held : IsHeld bytes is_open spare (spelling c.body) (claims_of c.body.entries c.stored)

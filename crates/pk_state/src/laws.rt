@@ -1,0 +1,134 @@
+//! Laws of the definitions, each the contract of a function with nothing to do.
+ghost use Rattle.std.specs.Prelude.{◌≡◌, ◌↔◌, ◌⊎◌, ℕ, ◌≤◌, Bool, true, false, Err};
+ghost use Rattle.std.specs.Prelude.{[], All, List, Result, length};
+ghost use Rattle.pk_disk.specs.Disk.{IsImage};
+ghost use Rattle.pk_manifest.specs.declared.half.Half.{Half};
+ghost use Rattle.pk_manifest.specs.declared.manifest.Part.{Part as Entry};
+ghost use Rattle.pk_manifest.specs.Current.{HasBody};
+ghost use Rattle.pk_manifest.specs.Spelling.{Body};
+ghost use Rattle.pk_model.specs.declared.commands.Refusal.{Refusal};
+ghost use Rattle.pk_model.specs.Collection.{Collection, IsCollection};
+ghost use Rattle.pk_model.specs.Steps.{Answer, Request, commit, merge, tidy};
+ghost use Rattle.pk_state.specs.Committed.{Committed, Stored, collection_of};
+ghost use Rattle.pk_state.specs.Follows.{Commits, Replaces};
+ghost use Rattle.pk_state.specs.Holds.{AgreeWith, Holds};
+ghost use Rattle.pk_state.specs.Kept.{IsKept};
+ghost use Rattle.pk_state.specs.Legal.{Accepts, IsFull, IsPlaceOf, LegalStep, State};
+ghost use Rattle.pk_state.specs.Legal.{Writes, has_work, marked};
+ghost use Rattle.pk_state.specs.Merged.{HasNothingToMerge};
+ghost use Rattle.pk_state.specs.Session.{Session, Tells, next_session};
+ghost use Rattle.pk_state.specs.States.{IsState};
+ghost use Rattle.pk_state.specs.Writing.{IsTidyRun, is_merged};
+
+/// A legal step goes over to the sessions that give what the store means: the log gains what was
+/// accepted, an accepted commit moves the mark to its end, and nothing else changes.
+pub fn a_legal_step_is_told()
+    ensures { (failed : Bool) (s : Session) (old new : State) (request : Request)
+        (reply : Result Answer Refusal) → Tells s old → LegalStep failed old request reply new
+        → Tells (next_session s request reply) new }
+{}
+
+/// Bytes hold at most one collection.
+pub fn bytes_hold_one_collection()
+    ensures { (bytes : List ℕ) (a b : Collection) → Holds bytes a → Holds bytes b → a ≡ b }
+{}
+
+/// Bytes of one size, with the same gates open, the same bodies behind open gates and the same
+/// extents of the body in force hold the same collection, whatever the other bytes are.
+pub fn bytes_that_agree_hold_the_same()
+    ensures { (bytes image : List ℕ) (half : Half) (b : Body) (c : Collection)
+        → HasBody bytes half b → AgreeWith bytes image b
+        → (Holds bytes c → Holds image c) × (Holds image c → Holds bytes c) }
+{}
+
+/// A disk that keeps what is committed holds its collection, in each image that a crash may leave.
+pub fn what_is_kept_is_held()
+    ensures { (bytes image : List ℕ) (is_open : ℕ → Bool) (spare : Half) (c : Committed)
+        → IsKept bytes is_open spare c → IsCollection (collection_of c)
+        → IsImage bytes is_open image → Holds image (collection_of c) }
+{}
+
+/// A store just opened, in which what is there now is what is committed, is in a state such as a
+/// commit wants it, where no deletion list is committed.
+pub fn a_store_just_opened_is_in_a_state()
+    ensures { (s : State) → s.now ≡ marked s → IsCollection (marked s)
+        → All (λ (t : Stored). t.dead ≡ []) s.committed.stored → IsState s }
+{}
+
+/// A command that is refused, or that writes nothing, leaves a state such as a commit wants it.
+pub fn a_step_without_a_write_keeps_a_state()
+    ensures refused { (failed : Bool) (old new : State) (request : Request) (why : Refusal)
+        → IsState old → LegalStep failed old request (Err why) new → IsState new }
+    ensures idle { (old new : State) (request : Request) (answer : Answer) → IsState old
+        → has_work old request ≡ false → Accepts old request answer new → IsState new }
+{}
+
+/// What is committed after a commit stands for what is there now, its deletions too.
+pub fn a_commit_takes_what_is_there()
+    ensures { (s : State) (new : Committed) → IsState s → Writes s commit new
+        → collection_of new ≡ s.now }
+{}
+
+/// What is committed after a merge or a tidy stands for the same collection as before it.
+pub fn a_merge_changes_no_document()
+    ensures merge { (s : State) (new : Committed) → Writes s merge new
+        → collection_of new ≡ marked s }
+    ensures tidy { (s : State) (new : Committed) → Writes s tidy new
+        → collection_of new ≡ marked s }
+{}
+
+/// Entries have at most one run that a tidy merges.
+pub fn a_tidy_has_one_run()
+    ensures { (entries : List Entry) (a b : ℕ) → IsTidyRun entries a → IsTidyRun entries b
+        → a ≡ b }
+{}
+
+/// Nothing is left to merge just where there is no entry, or one alone, of the kind that is written
+/// and without a deletion list.
+pub fn what_is_merged()
+    ensures { (entries : List Entry) → (is_merged entries ≡ true) ↔ HasNothingToMerge entries }
+{}
+
+/// What is written when is said in plain words. Only a commit, a merge and a tidy write. A commit
+/// gives new lists to the entries that need them and adds the segment of what is uncommitted. A
+/// merge puts one segment in the place of all entries, so that none is left to merge, and a tidy in
+/// the place of its run of eight. All others stay. The body is the next one.
+pub fn what_follows()
+    ensures writers { (s : State) (request : Request) (new : Committed) → Writes s request new
+        → (request ≡ commit) ⊎ ((request ≡ merge) ⊎ (request ≡ tidy)) }
+    ensures commit { (s : State) (new : Committed)
+        → length s.committed.stored ≡ length s.committed.body.entries → Writes s commit new
+        → Commits s new }
+    ensures merge { (s : State) (new : Committed) → Writes s merge new
+        → Replaces s.committed new 0 (length s.committed.body.entries) }
+    ensures merged { (s : State) (new : Committed) → Writes s merge new
+        → HasNothingToMerge new.body.entries }
+    ensures tidy { (s : State) (new : Committed) → Writes s tidy new
+        → (at : ℕ) × IsTidyRun s.committed.body.entries at × Replaces s.committed new at 8 }
+{}
+
+/// When a command writes. A commit does unless what is committed stands already for what is there
+/// now, a merge unless nothing is left to merge, a tidy where there are eight entries.
+pub fn what_has_work()
+    ensures commit { (s : State) → IsState s
+        → (has_work s commit ≡ false) ↔ (marked s ≡ s.now) }
+    ensures merge { (s : State)
+        → (has_work s merge ≡ false) ↔ HasNothingToMerge s.committed.body.entries }
+    ensures tidy { (s : State)
+        → (has_work s tidy ≡ true) ↔ (8 ≤ length s.committed.body.entries) }
+{}
+
+/// A command that writes has one outcome: what it writes is placed or finds no room, never both,
+/// and then what is committed, or the numbers that say how much room is missing, are determined.
+pub fn a_write_has_one_outcome()
+    ensures either { (s : State) (request : Request) (at : ℕ) → IsPlaceOf s request at
+        → ((new : Committed) × Writes s request new)
+        ⊎ ((need : ℕ) × (largest : ℕ) × IsFull s request need largest) }
+    ensures never_both { (s : State) (request : Request) (new : Committed) (need largest : ℕ)
+        → Writes s request new → IsFull s request need largest → ⊥ }
+    ensures written { (s : State) (request : Request) (a b : Committed) → Writes s request a
+        → Writes s request b → a ≡ b }
+    ensures full { (s : State) (request : Request) (need largest need' largest' : ℕ)
+        → IsFull s request need largest → IsFull s request need' largest'
+        → (need ≡ need') × (largest ≡ largest') }
+{}

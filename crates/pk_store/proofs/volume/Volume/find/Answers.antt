@@ -1,0 +1,22 @@
+-- What is found is what the entries stand for.
+use Rattle.std.proofs.Common.{◌∙◌, List, sym, ap, subst}
+use Rattle.pk_manifest.specs.declared.manifest.Part.{Part as Entry}
+use Rattle.pk_manifest.specs.Spelling.{view}
+use Rattle.pk_segment.specs.declared.segment.Segment.{Segment}
+use Rattle.pk_state.specs.Holds.{SpellsEntries}
+use Rattle.pk_state.specs.Kept.{AreSegments}
+use Rattle.pk_state.proofs.HoldsLemmas.{kept_spelled, lie_inside}
+use Rattle.pk_store.specs.View.{StandFor, VolumeView, committed_by}
+use Rattle.pk_store.proofs.volume.Volume.find.Goals as goal
+
+pub find_stored-requires : goal.find_stored-requires
+find_stored-requires g c = rw c.deref.ensures.value (lie_inside (g.D.Disk.content c.self.inside.disk) (view c.self.inside.manifest) c.self.invariant.sound)
+
+pub returns-clause-found : goal.returns-clause-found
+returns-clause-found g c = λ h stored stand clear.
+    let v : VolumeView _ = record { disk = c.self.inside.disk; body = view c.self.inside.manifest; segments = c.self.inside.segments.items; spare = c.self.inside.spare; reopen = c.self.inside.reopen } in
+    let known : StandFor g.D.Disk v stored = subst (λ (x : VolumeView _). StandFor g.D.Disk x stored) (sym c.self.view_is) stand in
+    let kept = known.kept (ap (λ (x : VolumeView _). x.reopen) c.self.view_is ∙ clear) in
+    c.find_stored.ensures.found h stored
+    (subst (λ (es : List Entry). SpellsEntries (g.D.Disk.content c.self.inside.disk) es stored) (sym c.deref.ensures.value) (kept_spelled _ _ _ (committed_by v stored) kept))
+    (subst (λ (os : List Segment). AreSegments os stored) (sym c.deref-2.ensures.value) known.opened)

@@ -1,0 +1,522 @@
+//! The bytes of a body, what reading answers on damaged ones, and installations that are cut off.
+ghost use Rattle.std.specs.Prelude.{◌≡◌, ◌≤◌, ◌+◌, IfOk, length};
+ghost use Rattle.pk_disk.specs.Disk.{nowhere};
+ghost use Rattle.pk_manifest.specs.Bodies.{bodies_end};
+
+use pk_disk::{Disk, DiskFault, Extent, FaultDisk, LossyDisk, MemoryDisk};
+use pk_manifest::{
+    Half, Manifest, ManifestFault, Part, establish, gate_open, install, read_current,
+};
+use std::alloc::{AllocError, Global};
+use std::process::Abort;
+use std::test::Fail;
+
+// The bytes of a disk of 64 units.
+const SIZE: usize = 32_768;
+
+// Where body A begins.
+const BODY_A: usize = 1024;
+
+// A manifest without entries on 64 units. Of generation 1 it is that of a new store.
+fn empty(alloc: Global, generation: u64) -> Manifest
+    ensures few { length result.entries.items ≤ 64 }
+    ensures generation { result.generation ≡ generation }
+{
+    Manifest {
+        generation,
+        units: 64,
+        next_number: 1,
+        next_segment: 1,
+        entries: Vec::new(alloc),
+    }
+}
+
+// Three entries, two with deletion lists, on 64 units.
+fn three(alloc: Global) -> Result<Manifest, AllocError>
+    ensures { IfOk result (λ m. length m.entries.items ≤ 64) }
+{
+    let entries = Vec::from_array(
+        alloc,
+        [
+            Part {
+                segment: 3,
+                extent: Extent::of_bytes(40, 600),
+                kind: 2,
+                dead: Some(Extent::of_bytes(34, 5)),
+            },
+            Part {
+                segment: 5,
+                extent: Extent::of_bytes(35, 512),
+                kind: 1,
+                dead: None,
+            },
+            Part {
+                segment: 4,
+                extent: Extent::of_bytes(63, 1),
+                kind: 1,
+                dead: Some(Extent::of_bytes(42, 513)),
+            },
+        ],
+    )?;
+    Ok(Manifest {
+        generation: 258,
+        units: 64,
+        next_number: 77,
+        next_segment: 6,
+        entries,
+    })
+}
+
+// Opens gate A over these bytes of a body, and fills body B with one byte.
+fn lay_out(bytes: &mut [u8], body: &[u8], fill: u8)
+    requires size { length bytes.old ≡ 32768 }
+    requires body { length body.now ≤ 8192 }
+{
+    bytes[0] = 0xA7;
+    bytes[BODY_A..BODY_A + body.len()].copy_from_slice(body);
+    bytes[9216..17_408].fill(fill);
+}
+
+// 64 units so laid out, and all else zero.
+fn bytes_with(alloc: Global, body: &[u8], fill: u8) -> Result<Vec<u8>, AllocError>
+    requires { length body.now ≤ 8192 }
+    ensures { IfOk result (λ v. length v.items ≡ 32768) }
+{
+    let mut bytes = vec![in alloc; 0u8; SIZE]?;
+    lay_out(&mut bytes, body, fill);
+    Ok(bytes)
+}
+
+// The same as a disk.
+fn disk_with(alloc: Global, body: &[u8], fill: u8) -> Result<MemoryDisk, AllocError>
+    requires { length body.now ≤ 8192 }
+    ensures size { IfOk result (λ d. length (⟦<MemoryDisk as Disk>⟧.content d) ≡ 32768) }
+    ensures closed { IfOk result (λ d. ⟦<MemoryDisk as Disk>⟧.is_open d ≡ nowhere) }
+{
+    let bytes = bytes_with(alloc, body, fill)?;
+    Ok(MemoryDisk::of_bytes(alloc, bytes))
+}
+
+// A disk with a new store, but for body B.
+fn created(alloc: Global, fill: u8) -> Result<MemoryDisk, AllocError>
+    ensures size { IfOk result (λ d. length (⟦<MemoryDisk as Disk>⟧.content d) ≡ 32768) }
+    ensures closed { IfOk result (λ d. ⟦<MemoryDisk as Disk>⟧.is_open d ≡ nowhere) }
+{
+    let body = empty(alloc, 1).spell(alloc)?;
+    disk_with(alloc, &body, fill)
+}
+
+// A disk of zeros.
+fn zeros(alloc: Global) -> Result<MemoryDisk, AllocError>
+    ensures size { IfOk result (λ d. length (⟦<MemoryDisk as Disk>⟧.content d) ≡ 32768) }
+    ensures closed { IfOk result (λ d. ⟦<MemoryDisk as Disk>⟧.is_open d ≡ nowhere) }
+{
+    Ok(MemoryDisk::of_bytes(alloc, vec![in alloc; 0u8; SIZE]?))
+}
+
+// A disk with both gates open over bodies of these generations.
+fn both_open(alloc: Global, a: u64, b: u64) -> Result<MemoryDisk, AllocError>
+    ensures { IfOk result (λ d. length (⟦<MemoryDisk as Disk>⟧.content d) ≡ 32768) }
+{
+    let mut bytes = bytes_with(alloc, &empty(alloc, a).spell(alloc)?, 0)?;
+    bytes[512] = 0xA7;
+    bytes[9216..17_408].copy_from_slice(&empty(alloc, b).spell(alloc)?);
+    Ok(MemoryDisk::of_bytes(alloc, bytes))
+}
+
+#[test]
+fn the_body_of_a_new_store_has_these_bytes(rt: HostRuntime) -> Result<(), Fail> {
+    let body = empty(rt.alloc(), 1).spell(rt.alloc())?;
+    let front = [
+        0x50, 0x4B, 0x53, 0x52, 0x43, 0x48, 0x30, 0x31, 1, 0, 0, 0, 0, 0, 0, 0, 0x40, 0, 0, 0, 1,
+        0, 0, 0, 1, 0, 0, 0, 0, 0, 0, 0,
+    ];
+    assert_eq!(rt; body.len(), 8192);
+    assert!(rt; body.starts_with(&front));
+    assert!(rt; body.iter().skip(32).all(|b| *b == 0));
+    Ok(())
+}
+
+#[test]
+fn an_entry_has_these_bytes(rt: HostRuntime) -> Result<(), Fail> {
+    let body = three(rt.alloc())?.spell(rt.alloc())?;
+    let entry = [
+        3, 0, 0, 0, 0, 0, 0, 0, 40, 0, 0, 0, 2, 0, 0, 0, 0x58, 2, 0, 0, 2, 0, 0, 0, 34, 0, 0, 0, 1,
+        0, 0, 0, 5, 0, 0, 0, 0, 0, 0, 0,
+    ];
+    assert_eq!(rt; body.len(), 8192);
+    assert_eq!(rt; &body[8..10], [2, 1].as_slice());
+    assert_eq!(rt; &body[32..36], [3, 0, 0, 0].as_slice());
+    assert_eq!(rt; &body[36..76], entry.as_slice());
+    assert!(rt; body[156..].iter().all(|b| *b == 0));
+    Ok(())
+}
+
+#[test]
+fn a_body_is_read_as_it_was_spelled(rt: HostRuntime) -> Result<(), Fail> {
+    let alloc = rt.alloc();
+    let manifest = three(alloc)?;
+    let body = manifest.spell(alloc)?;
+    let mut disk = disk_with(alloc, &body, 0)?;
+    let (found, half) = read_current(alloc, &mut disk)?;
+    assert_eq!(rt; half, Half::A);
+    assert_eq!(rt; found.generation, 258);
+    assert_eq!(rt; found.units, 64);
+    assert_eq!(rt; found.next_number, 77);
+    assert_eq!(rt; found.next_segment, 6);
+    assert_eq!(rt; found.entries.as_slice(), manifest.entries.as_slice());
+    let firsts: Vec<u32> = found
+        .extents(alloc)?
+        .iter()
+        .map(|e| e.first)
+        .collect(alloc)?;
+    assert_eq!(rt; firsts.as_slice(), [40, 34, 35, 63, 42].as_slice());
+    Ok(())
+}
+
+// With no gate open there is no store; a read that fails is told, and the next one answers.
+#[test]
+fn what_is_no_store_and_what_failed(rt: HostRuntime) -> Result<(), Fail> {
+    let alloc = rt.alloc();
+    let none = read_current(alloc, &mut zeros(alloc)?);
+    assert_eq!(rt; none.err(), Some(ManifestFault::NotAStore));
+    let mut disk = FaultDisk::once(created(alloc, 0)?, 1);
+    let failed = read_current(alloc, &mut disk);
+    assert_eq!(rt; failed.err(), Some(ManifestFault::Disk));
+    let (found, half) = read_current(alloc, &mut disk)?;
+    assert_eq!(rt; found.generation, 1);
+    assert_eq!(rt; half, Half::A);
+    Ok(())
+}
+
+#[test]
+fn the_last_generation_has_none_after_it(rt: HostRuntime) {
+    for (generation, next) in [
+        (1, Ok(2)),
+        (u64::MAX - 1, Ok(u64::MAX)),
+        (u64::MAX, Err(ManifestFault::UsedUp)),
+    ] {
+        assert_eq!(rt; empty(rt.alloc(), generation).next_generation(), next);
+    }
+}
+
+// Of two open gates the one with the greater generation is in force, at equal ones A.
+#[test]
+fn the_greater_generation_is_in_force(rt: HostRuntime) -> Result<(), Fail> {
+    for (a, b, want) in [(3, 4, Half::B), (4, 4, Half::A), (5, 4, Half::A)] {
+        let mut disk = both_open(rt.alloc(), a, b)?;
+        let (found, half) = read_current(rt.alloc(), &mut disk)?;
+        assert_eq!(rt; half, want);
+        assert_eq!(rt; found.generation, a.max(b));
+    }
+    Ok(())
+}
+
+// What is answered of a disk with this body: Ok only where it is the very spelling.
+fn judge(rt: &impl Abort, alloc: Global, body: &[u8]) -> Result<bool, Fail>
+    requires { length body.now ≤ 8192 }
+{
+    let mut disk = disk_with(alloc, body, 0)?;
+    match read_current(alloc, &mut disk) {
+        Ok((found, half)) => {
+            let spelled = found.spell(alloc)?;
+            assert!(rt; spelled.as_slice() == body);
+            assert_eq!(rt; half, Half::A);
+            Ok(true)
+        }
+        Err(fault) => {
+            assert_eq!(rt; fault, ManifestFault::Damaged);
+            Ok(false)
+        }
+    }
+}
+
+// The bytes of a body, with another one at a place.
+fn changed(alloc: Global, body: &[u8], at: usize, to: u8) -> Result<Vec<u8>, AllocError>
+    ensures { IfOk result (λ v. length v.items ≡ length body.now) }
+{
+    let mut bytes = body.to_vec(alloc)?;
+    if at < bytes.len() {
+        bytes[at] = to;
+    }
+    Ok(bytes)
+}
+
+// Only the numbers that no other place repeats may be others: the generation, the next document
+// number, the next segment id, ids, kinds, places and lengths.
+#[test]
+fn another_byte_is_damage_or_another_number(rt: HostRuntime) -> Result<(), Fail> {
+    let alloc = rt.alloc();
+    let body = three(alloc)?.spell(alloc)?;
+    assert!(rt; judge(&rt, alloc, &body)?);
+    for (at, was) in body.iter().enumerate() {
+        let is_told = at < 8 || (16..20).contains(&at) || (32..36).contains(&at) || at >= 156;
+        for to in [0x00, 0xFF] {
+            if to != *was {
+                let is_read = judge(&rt, alloc, &changed(alloc, &body, at, to)?)?;
+                assert!(rt; !(is_told && is_read), "at {at}");
+            }
+        }
+    }
+    Ok(())
+}
+
+// The next byte of a fixed sequence without a pattern.
+fn random(state: &mut u64) -> u8 {
+    *state = state
+        .wrapping_mul(6_364_136_223_846_793_005)
+        .wrapping_add(1_442_695_040_888_963_407);
+    ((*state >> 40) & 0xFF) as u8
+}
+
+// So many bytes without a pattern.
+fn noise(alloc: Global, n: usize) -> Result<Vec<u8>, AllocError> {
+    let mut state = 1;
+    let mut bytes = Vec::new(alloc);
+    for _ in 0..n {
+        bytes.push(random(&mut state))?;
+    }
+    Ok(bytes)
+}
+
+// A spelling whose end, or whose front, is noise; and noise alone.
+#[test]
+fn a_body_cut_off_by_random_bytes_is_damage(rt: HostRuntime) -> Result<(), Fail> {
+    let alloc = rt.alloc();
+    let spelled = three(alloc)?.spell(alloc)?;
+    let noise = noise(alloc, 8192)?;
+    for n in (0..160).chain((160..8192).step_by(61)) {
+        let rest = noise.iter().skip(n);
+        let cut: Vec<u8> = spelled.iter().take(n).chain(rest).copied().collect(alloc)?;
+        assert!(rt;
+            !judge(&rt, alloc, &cut[..cut.len().min(8192)])?,
+            "{n} bytes"
+        );
+        let late = spelled.iter().skip(n);
+        let torn: Vec<u8> = noise.iter().take(n).chain(late).copied().collect(alloc)?;
+        let is_read = judge(&rt, alloc, &torn[..torn.len().min(8192)])?;
+        assert_eq!(rt; is_read, n == 0, "{n} bytes");
+    }
+    Ok(())
+}
+
+// A disk that passes so many calls, and fails the next one, once or for good.
+fn faulty(disk: MemoryDisk, passed: u32, once: bool) -> FaultDisk<MemoryDisk>
+    ensures { result.inner ≡ disk }
+{
+    let k = u64::from(passed) + 1;
+    if once {
+        return FaultDisk::once(disk, k);
+    }
+    FaultDisk::new(disk, k)
+}
+
+// Installs the next generation on the spare half of what is in force, over a faulty disk; and
+// whether it answered the fault.
+fn install_next(
+    alloc: Global,
+    mut disk: MemoryDisk,
+    passed: u32,
+    once: bool,
+) -> Result<(MemoryDisk, bool), Fail>
+    requires size { bodies_end ≤ length (⟦<MemoryDisk as Disk>⟧.content disk) }
+    requires closed { ⟦<MemoryDisk as Disk>⟧.is_open disk ≡ nowhere }
+    ensures { IfOk result (λ r. length (⟦<MemoryDisk as Disk>⟧.content r.0)
+        ≡ length (⟦<MemoryDisk as Disk>⟧.content disk)) }
+{
+    let (old, half) = read_current(alloc, &mut disk)?;
+    let next = empty(alloc, old.next_generation()?);
+    let mut over = faulty(disk, passed, once);
+    let answer = install(alloc, &mut over, &next, half.other());
+    Ok((over.into_inner(), answer == Err(ManifestFault::Disk)))
+}
+
+// Puts a first body in force, over a faulty disk; and whether it answered the fault. A disk that
+// is a store is handed back as it is.
+fn establish_on(
+    alloc: Global,
+    mut disk: MemoryDisk,
+    passed: u32,
+    once: bool,
+) -> Result<(MemoryDisk, bool), Fail>
+    requires size { length (⟦<MemoryDisk as Disk>⟧.content disk) ≡ 32768 }
+    requires closed { ⟦<MemoryDisk as Disk>⟧.is_open disk ≡ nowhere }
+    ensures { IfOk result (λ r. length (⟦<MemoryDisk as Disk>⟧.content r.0) ≡ 32768) }
+{
+    let body = empty(alloc, 1).spell(alloc)?;
+    let Err(ManifestFault::NotAStore) = read_current(alloc, &mut disk) else {
+        return Ok((disk, false));
+    };
+    let mut over = faulty(disk, passed, once);
+    let answer = establish(&mut over, &body);
+    Ok((over.into_inner(), answer == Err(DiskFault)))
+}
+
+// What is in force: the generation, and the half.
+#[derive(Clone, Copy, Debug, PartialEq, Eq)]
+struct InForce {
+    generation: u64,
+    half: Half,
+}
+
+const FIRST: InForce = InForce {
+    generation: 1,
+    half: Half::A,
+};
+
+const SECOND: InForce = InForce {
+    generation: 2,
+    half: Half::B,
+};
+
+const THIRD: InForce = InForce {
+    generation: 3,
+    half: Half::A,
+};
+
+// What is in force after a crash with every pick the same, if anything is.
+fn left_by(alloc: Global, disk: MemoryDisk, pick: u8) -> Result<Option<InForce>, Fail>
+    requires { length (⟦<MemoryDisk as Disk>⟧.content disk) ≡ 32768 }
+{
+    let picks = vec![in alloc; pick; SIZE]?;
+    let mut left = disk.crash(&picks);
+    match read_current(alloc, &mut left) {
+        Ok((found, half)) => {
+            let generation = found.generation;
+            Ok(Some(InForce { generation, half }))
+        }
+        Err(ManifestFault::NotAStore) => Ok(None),
+        Err(fault) => Err(fault)?,
+    }
+}
+
+// The disk on which a body is put in force.
+#[derive(Clone, Copy)]
+enum Start {
+    // A new store, with body B so filled: half B is installed.
+    Created(u8),
+    // Both halves were installed: now half A is again.
+    Installed,
+    // No store: the first body is put in force.
+    Zeros,
+}
+
+// Puts a body in force over a faulty disk: what it leaves, and whether it answered the fault.
+fn put_in_force(
+    alloc: Global,
+    start: Start,
+    passed: u32,
+    once: bool,
+) -> Result<(MemoryDisk, bool), Fail>
+    ensures { IfOk result (λ r. length (⟦<MemoryDisk as Disk>⟧.content r.0) ≡ 32768) }
+{
+    match start {
+        Start::Created(fill) => install_next(alloc, created(alloc, fill)?, passed, once),
+        Start::Installed => {
+            let (first, _) = install_next(alloc, created(alloc, 0)?, 5, false)?;
+            install_next(alloc, first.crash(&[]), passed, once)
+        }
+        Start::Zeros => establish_on(alloc, zeros(alloc)?, passed, once),
+    }
+}
+
+// What is put in force: from which disk, by how many calls, how many of them come before its gate
+// is written, and what is in force before and after it.
+#[derive(Clone, Copy)]
+struct Row {
+    start: Start,
+    calls: u32,
+    before_gate: u32,
+    old: Option<InForce>,
+    new: Option<InForce>,
+}
+
+// On a closed half five calls: the read of its gate, the body, a sync, the gate, a sync. On an open
+// one its gate is closed and synced first. For a first body no gate is read.
+const ROWS: [Row; 4] = [
+    Row {
+        start: Start::Created(0x00),
+        calls: 5,
+        before_gate: 3,
+        old: Some(FIRST),
+        new: Some(SECOND),
+    },
+    Row {
+        start: Start::Created(0xFF),
+        calls: 5,
+        before_gate: 3,
+        old: Some(FIRST),
+        new: Some(SECOND),
+    },
+    Row {
+        start: Start::Installed,
+        calls: 7,
+        before_gate: 5,
+        old: Some(SECOND),
+        new: Some(THIRD),
+    },
+    Row {
+        start: Start::Zeros,
+        calls: 4,
+        before_gate: 2,
+        old: None,
+        new: Some(FIRST),
+    },
+];
+
+// Each of its calls fails, once and for good, and then a crash: the old body is in force, but for
+// picks that open its gate once that was written.
+fn cut_off(rt: &impl Abort, alloc: Global, row: Row, once: bool) -> Result<(), Fail> {
+    for passed in 0..row.calls {
+        for pick in [0xA7, 0x00, 0xFF] {
+            let (disk, failed) = put_in_force(alloc, row.start, passed, once)?;
+            assert!(rt; failed, "{passed} calls passed");
+            let is_new = pick == 0xA7 && passed >= row.before_gate;
+            let want = if is_new { row.new } else { row.old };
+            assert_eq!(rt; left_by(alloc, disk, pick)?, want, "{passed} calls passed");
+        }
+    }
+    Ok(())
+}
+
+#[test]
+fn what_is_cut_off_leaves_the_old_body_or_the_new(rt: HostRuntime) -> Result<(), Fail> {
+    let alloc = rt.alloc();
+    for row in ROWS {
+        cut_off(&rt, alloc, row, true)?;
+        cut_off(&rt, alloc, row, false)?;
+        for pick in [0xA7, 0x00, 0xFF] {
+            let (disk, failed) = put_in_force(alloc, row.start, row.calls, false)?;
+            assert!(rt; !failed);
+            assert_eq!(rt; left_by(alloc, disk, pick)?, row.new);
+        }
+    }
+    Ok(())
+}
+
+// A refused read of the gate leaves the disk as it was.
+#[test]
+fn a_failed_read_writes_nothing(rt: HostRuntime) -> Result<(), Fail> {
+    let alloc = rt.alloc();
+    let before = created(alloc, 0)?.into_bytes();
+    let (disk, failed) = put_in_force(alloc, Start::Created(0), 0, false)?;
+    assert!(rt; failed);
+    let picks = vec![in alloc; 0xFFu8; SIZE]?;
+    let after = disk.crash(&picks).into_bytes();
+    assert!(rt; after.as_slice() == before.as_slice());
+    Ok(())
+}
+
+// What a lossy disk gives is answered too.
+#[test]
+fn a_disk_that_is_not_honest_is_answered(rt: HostRuntime) -> Result<(), Fail> {
+    let alloc = rt.alloc();
+    let manifest = three(alloc)?;
+    for seed in 0..200 {
+        let mut disk = LossyDisk::of_bytes(bytes_with(alloc, &[], 0)?, seed);
+        assert!(rt; read_current(alloc, &mut disk).is_err());
+        assert_eq!(rt; install(alloc, &mut disk, &manifest, Half::B), Ok(()));
+        assert!(rt; gate_open(&mut disk, Half::A).is_ok());
+    }
+    Ok(())
+}

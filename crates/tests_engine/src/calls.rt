@@ -1,0 +1,75 @@
+//! What is told by values alone: a list of commands, texts that no line can hold, and the longest
+//! texts, many at a time.
+
+use crate::player::told;
+use pk_disk::MemoryDisk;
+use pk_model::{Command, Counts, DocNo, Query, Refusal, Reply};
+use pk_store::{Refused, Store};
+use std::alloc::Global;
+use std::test::Fail;
+
+/// A new store on a disk of 64 units.
+pub fn new_store(alloc: Global) -> Result<Store<MemoryDisk>, Fail> {
+    let disk = MemoryDisk::of_bytes(alloc, vec![in alloc; 0u8; 32_768]?);
+    match Store::create(alloc, disk, 0) {
+        Ok(store) => Ok(store),
+        Err(Refused { why, .. }) => Err(Fail::from(why)),
+    }
+}
+
+#[test]
+fn a_list_of_commands_is_answered_in_turn(rt: HostRuntime) -> Result<(), Fail> {
+    let alloc = rt.alloc();
+    let mut commands = Vec::new(alloc);
+    commands.push(Command::Add(String::from_str(alloc, "a")?))?;
+    commands.push(Command::Commit)?;
+    commands.push(Command::Find(Query::Term(String::from_str(alloc, "a")?)))?;
+    commands.push(Command::Show(DocNo(1)))?;
+    commands.push(Command::Count)?;
+    commands.push(Command::Delete(DocNo(2)))?;
+    let replies = new_store(alloc)?.run(alloc, &commands)?;
+    let [added, committed, found, text, counts, deleted] = replies.as_slice() else {
+        return Err(Fail::new("as many replies as commands"));
+    };
+    assert!(rt; matches!(added, Reply::Added(DocNo(1))));
+    assert!(rt; matches!(committed, Reply::Committed));
+    assert!(rt; matches!(found, Reply::Found(n) if n.as_slice() == [DocNo(1)].as_slice()));
+    assert!(rt; matches!(text, Reply::Text(t) if t.as_str() == "a"));
+    let expected = Counts {
+        documents: 1,
+        next: 2,
+    };
+    assert!(rt; matches!(counts, Reply::Counted(c) if *c == expected));
+    assert!(rt; matches!(deleted, Reply::Refused(Refusal::NoSuchDocument)));
+    Ok(())
+}
+
+#[test]
+fn a_line_feed_and_a_backslash_are_spelled_out(rt: HostRuntime) -> Result<(), Fail> {
+    let alloc = rt.alloc();
+    let mut store = new_store(alloc)?;
+    assert_eq!(rt; store.add(alloc, "a\n\\b"), Ok(DocNo(1)));
+    assert!(rt; told(alloc, &mut store, "show 1")?.as_str() == "text a\\n\\\\b");
+    Ok(())
+}
+
+// 64 of the longest texts fill the buffer, and an empty text fits beside them.
+#[test]
+fn the_buffer_has_its_bytes(rt: HostRuntime) -> Result<(), Fail> {
+    let alloc = rt.alloc();
+    let text = "-".repeat(alloc, 1_048_576)?;
+    let mut store = new_store(alloc)?;
+    for n in 1..=64u32 {
+        assert_eq!(rt; store.add(alloc, text.as_str()), Ok(DocNo(n)));
+    }
+    let longer = "-".repeat(alloc, 1_048_577)?;
+    assert_eq!(rt; store.add(alloc, "-"), Err(Refusal::BufferFull));
+    assert_eq!(rt; store.add(alloc, ""), Ok(DocNo(65)));
+    assert_eq!(rt;
+        store.add(alloc, longer.as_str()),
+        Err(Refusal::TextTooLong)
+    );
+    assert_eq!(rt; store.delete(alloc, DocNo(1)), Ok(()));
+    assert_eq!(rt; store.add(alloc, "-"), Ok(DocNo(66)));
+    Ok(())
+}

@@ -1,0 +1,27 @@
+//! Tests of the engine by its public calls: a store, and the shell over it.
+//!
+//! Most of them are scripts, played by `script`: each line is one for the shell, or a step of the
+//! device, with what it is to answer. What no line can say, as a reader that fails or a disk that
+//! lies, is told in Rust.
+#![tactic(auto)]
+
+#[cfg(test)]
+mod buffer;
+#[cfg(test)]
+mod calls;
+#[cfg(test)]
+mod faults;
+#[cfg(test)]
+mod lying;
+#[cfg(test)]
+mod opening;
+#[cfg(test)]
+mod player;
+#[cfg(test)]
+mod reading;
+#[cfg(test)]
+mod script;
+#[cfg(test)]
+mod serving;
+#[cfg(test)]
+mod sessions;

@@ -1,0 +1,297 @@
+//! What scripts are played on: a disk in memory, and the store that was opened on it.
+
+use pk_disk::{Disk, FaultDisk, MemoryDisk};
+use pk_shell::serve;
+use pk_store::{CreateFault, OpenFault, Refused, Store};
+use std::alloc::{AllocError, Global};
+use std::str;
+
+/// The most bytes of a disk that scripts speak of.
+const MOST_BYTES: u64 = 1_048_576;
+
+/// A disk in memory of which a call can fail.
+type Device = FaultDisk<MemoryDisk>;
+
+/// A disk, or the store that is open on it.
+#[derive(Drop)]
+pub struct Player {
+    alloc: Global,
+    /// The disk, where no store is open.
+    disk: Option<MemoryDisk>,
+    /// The open store.
+    store: Option<Store<Device>>,
+    /// The call that fails once the next store is opened or created.
+    failing: u64,
+    /// Whether that one fails alone, or all later ones too.
+    is_once: bool,
+    /// How many bytes were read between the last opening and the closing behind it.
+    bytes_read: u64,
+}
+
+/// The number that the text writes, or none.
+fn number(text: &str) -> u64 {
+    text.trim().parse::<u64>().unwrap_or(0)
+}
+
+/// The number of bytes of a disk or of a part of it, so many at the most.
+fn size(text: &str) -> usize {
+    number(text).min(MOST_BYTES) as usize
+}
+
+/// Bytes as pairs of hexadecimal digits.
+fn shown(alloc: Global, bytes: &[u8]) -> Result<String, AllocError> {
+    let mut text = String::new(alloc);
+    for byte in bytes {
+        if !text.is_empty() {
+            text.push_str(" ")?;
+        }
+        write!(text, "{byte:02X}")?;
+    }
+    Ok(text)
+}
+
+/// The bytes that pairs of hexadecimal digits write.
+fn bytes_of(alloc: Global, text: &str) -> Result<Vec<u8>, AllocError> {
+    let mut bytes = Vec::new(alloc);
+    for pair in text.split_whitespace() {
+        bytes.push(u8::from_str_radix(pair, 16).unwrap_or(0))?;
+    }
+    Ok(bytes)
+}
+
+/// The bytes of a disk from a place on, so many, as far as it has them.
+fn part(alloc: Global, disk: &mut MemoryDisk, at: u64, n: usize) -> Result<Vec<u8>, AllocError> {
+    let mut bytes = vec![in alloc; 0u8; n]?;
+    if at <= MOST_BYTES && at + bytes.len() as u64 <= disk.len() {
+        let _ = disk.read(at, &mut bytes);
+    }
+    Ok(bytes)
+}
+
+/// Changes bytes of a disk, and syncs it.
+fn change(disk: &mut MemoryDisk, at: u64, bytes: &[u8]) -> &'static str {
+    if at <= MOST_BYTES && at + bytes.len() as u64 <= disk.len() {
+        if disk.write(at, bytes).is_ok() && disk.sync().is_ok() {
+            return "";
+        }
+    }
+    "outside"
+}
+
+/// Why no store was created.
+fn creating_word(why: CreateFault) -> &'static str {
+    match why {
+        CreateFault::TooSmall => "too small",
+        CreateFault::AlreadyAStore => "already a store",
+        CreateFault::Disk => "disk",
+        CreateFault::Memory => "memory",
+    }
+}
+
+/// Why no store was opened.
+fn opening_word(why: OpenFault) -> &'static str {
+    match why {
+        OpenFault::TooSmall => "too small",
+        OpenFault::NotAStore => "not a store",
+        OpenFault::Damaged => "damaged",
+        OpenFault::Disk => "disk",
+        OpenFault::Memory => "memory",
+    }
+}
+
+/// What the shell answers a line, which it gets alone.
+pub fn told<D: Disk>(
+    alloc: Global,
+    store: &mut Store<D>,
+    line: &str,
+) -> Result<String, AllocError> {
+    let mut input = String::from_str(alloc, line)?;
+    input.push_str("\n")?;
+    let mut reader = input.as_bytes();
+    let mut output = Vec::new(alloc);
+    if serve(alloc, &mut reader, &mut output, store).is_err() {
+        return String::from_str(alloc, "the shell failed");
+    }
+    match str::from_utf8(&output) {
+        Ok(reply) => String::from_str(alloc, reply.strip_suffix("\n").unwrap_or("no line")),
+        Err(_) => String::from_str(alloc, "no text"),
+    }
+}
+
+impl Player {
+    /// One without a disk.
+    pub fn new(alloc: Global) -> Player {
+        Player {
+            alloc,
+            disk: None,
+            store: None,
+            failing: u64::MAX,
+            is_once: true,
+            bytes_read: 0,
+        }
+    }
+
+    /// What a line of a script is answered.
+    pub fn answer(&mut self, line: &str) -> Result<String, AllocError> {
+        if !line.starts_with("!") {
+            return self.ask(line);
+        }
+        let (step, rest) = line.split_once(" ").unwrap_or((line, ""));
+        if step == "!bytes" {
+            return self.bytes(rest);
+        }
+        String::from_str(self.alloc, self.take_step(step, rest)?)
+    }
+
+    /// Takes a step that is answered by a word, or by nothing.
+    fn take_step(&mut self, step: &str, rest: &str) -> Result<&'static str, AllocError> {
+        match step {
+            "!disk" => self.put_disk(size(rest)),
+            "!create" => Ok(self.create()),
+            "!open" => Ok(self.open()),
+            "!close" => Ok(self.close()),
+            "!fail" => Ok(self.plan(rest)),
+            "!crash" => self.crash(rest),
+            "!set" => self.set(rest),
+            "!reads" => Ok(self.has_read(number(rest))),
+            "!nonzero" => self.has_nonzero(number(rest)),
+            _ => Ok("no such step"),
+        }
+    }
+
+    /// What the shell answers a line.
+    fn ask(&mut self, line: &str) -> Result<String, AllocError> {
+        match &mut self.store {
+            Some(store) => told(self.alloc, store, line),
+            None => String::from_str(self.alloc, "no store"),
+        }
+    }
+
+    /// A new disk of so many zero bytes.
+    fn put_disk(&mut self, size: usize) -> Result<&'static str, AllocError> {
+        let bytes = vec![in self.alloc; 0u8; size]?;
+        self.store = None;
+        self.disk = Some(MemoryDisk::of_bytes(self.alloc, bytes));
+        Ok("")
+    }
+
+    /// Which call fails of those that begin with the next opening: the number of it, and `once`
+    /// where the later ones don't.
+    fn plan(&mut self, rest: &str) -> &'static str {
+        let (call, how) = rest.split_once(" ").unwrap_or((rest, ""));
+        self.failing = number(call);
+        self.is_once = how == "once";
+        ""
+    }
+
+    /// The disk, with the failing call that was planned.
+    fn device(&mut self, disk: MemoryDisk) -> Device {
+        let call = self.failing.max(1);
+        self.failing = u64::MAX;
+        if self.is_once {
+            return FaultDisk::once(disk, call);
+        }
+        FaultDisk::new(disk, call)
+    }
+
+    /// Makes a store on the disk.
+    fn create(&mut self) -> &'static str {
+        let Some(disk) = self.disk.take() else {
+            return "no disk";
+        };
+        let device = self.device(disk);
+        match Store::create(self.alloc, device, 0) {
+            Ok(store) => self.keep(store, "created"),
+            Err(Refused { disk, why }) => self.take_back(disk, creating_word(why)),
+        }
+    }
+
+    /// Opens the store of the disk.
+    fn open(&mut self) -> &'static str {
+        let Some(disk) = self.disk.take() else {
+            return "no disk";
+        };
+        let device = self.device(disk);
+        match Store::open_on(self.alloc, device, 0) {
+            Ok(store) => self.keep(store, "opened"),
+            Err(Refused { disk, why }) => self.take_back(disk, opening_word(why)),
+        }
+    }
+
+    /// Keeps the store; the answer is `done`.
+    fn keep(&mut self, store: Store<Device>, done: &'static str) -> &'static str {
+        self.store = Some(store);
+        done
+    }
+
+    /// Keeps the disk that was handed back; the answer is `why`.
+    fn take_back(&mut self, device: Device, why: &'static str) -> &'static str {
+        self.disk = Some(device.into_inner());
+        why
+    }
+
+    /// Takes the disk of the store.
+    fn close(&mut self) -> &'static str {
+        let Some(store) = self.store.take() else {
+            return "no store";
+        };
+        let device = store.close();
+        self.bytes_read = device.bytes_read();
+        self.disk = Some(device.into_inner());
+        ""
+    }
+
+    /// Whether no more bytes were read than these.
+    fn has_read(&self, most: u64) -> &'static str {
+        if self.bytes_read <= most { "" } else { "more" }
+    }
+
+    /// A crash that leaves this byte at each open position, or what was written.
+    fn crash(&mut self, rest: &str) -> Result<&'static str, AllocError> {
+        let Some(disk) = self.disk.take() else {
+            return Ok("no disk");
+        };
+        let length = disk.len().min(MOST_BYTES) as usize;
+        let picks = match u8::from_str_radix(rest, 16) {
+            Ok(byte) => vec![in self.alloc; byte; length]?,
+            Err(_) => Vec::new(self.alloc),
+        };
+        self.disk = Some(disk.crash(&picks));
+        Ok("")
+    }
+
+    /// Changes the bytes from a place on.
+    fn set(&mut self, rest: &str) -> Result<&'static str, AllocError> {
+        let (at, pairs) = rest.split_once(" ").unwrap_or((rest, ""));
+        let bytes = bytes_of(self.alloc, pairs)?;
+        match &mut self.disk {
+            Some(disk) => Ok(change(disk, number(at), &bytes)),
+            None => Ok("no disk"),
+        }
+    }
+
+    /// The bytes from a place on, so many.
+    fn bytes(&mut self, rest: &str) -> Result<String, AllocError> {
+        let (at, count) = rest.split_once(" ").unwrap_or((rest, ""));
+        match &mut self.disk {
+            Some(disk) => {
+                let bytes = part(self.alloc, disk, number(at), size(count))?;
+                shown(self.alloc, &bytes)
+            }
+            None => String::from_str(self.alloc, "no disk"),
+        }
+    }
+
+    /// Whether so many bytes of the disk are not zero.
+    fn has_nonzero(&mut self, wanted: u64) -> Result<&'static str, AllocError> {
+        let Some(disk) = &mut self.disk else {
+            return Ok("no disk");
+        };
+        let n = disk.len().min(MOST_BYTES) as usize;
+        let mut count = 0u64;
+        for byte in part(self.alloc, disk, 0, n)? {
+            count = count.saturating_add(u64::from(byte != 0));
+        }
+        Ok(if count == wanted { "" } else { "other" })
+    }
+}

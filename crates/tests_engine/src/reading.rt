@@ -1,0 +1,96 @@
+//! How many bytes a store reads of a disk with three segments: of documents 1 to 100 without 50, of
+//! documents 101 to 107, and of document 108.
+
+ghost use Rattle.std.specs.Prelude.{◌≤◌};
+
+use crate::script::play;
+use std::alloc::{AllocError, Global};
+use std::test::Fail;
+
+/// The texts of the documents, by the rest of their number divided by 7.
+const TEXTS: [&str; 7] = ["", "a", "a b", "one two", "three", "four five six", "seven"];
+
+/// What opening reads: two gates, two generations of 8 bytes, a body of 8,192, and of each segment
+/// the header of 24 bytes and two entries of 12.
+const OPENING: usize = 2 + 16 + 8_192 + 3 * 48;
+
+/// The text of a document. In a script the last part keeps the blank before an empty text.
+fn text_of(number: u32) -> &'static str {
+    TEXTS[number as usize % 7]
+}
+
+/// How often a directory of 99, 7 or 1 entries is halved: the bits of that count.
+fn halvings(number: u32) -> usize
+    ensures { result ≤ 7 }
+{
+    match number {
+        ..=100 => 7,
+        101..=107 => 3,
+        _ => 1,
+    }
+}
+
+/// A script that makes the store.
+fn store(alloc: Global) -> Result<String, AllocError> {
+    let mut script = String::from_str(alloc, "!disk 131072\n!create => created\n")?;
+    for n in 1..=108u32 {
+        let text = text_of(n);
+        writeln!(script, "add {text}{{ *0}} => added {n}")?;
+        if n == 50 {
+            script.push_str("delete 50 => deleted 50\n")?;
+        }
+        if n == 100 || n == 107 || n == 108 {
+            script.push_str("commit => committed\n")?;
+        }
+    }
+    script.push_str("!close\n")?;
+    Ok(script)
+}
+
+/// Opens the store, and looks up a document: of each halving the 12 bytes of an entry are read, and
+/// the text.
+fn look_up(script: &mut String, n: u32) -> Result<(), AllocError> {
+    let text = text_of(n);
+    let most = OPENING + 12 * halvings(n) + text.len();
+    script.push_str("!open => opened\n")?;
+    if n == 50 {
+        script.push_str("show 50 => refused no such document\n")?;
+    } else {
+        writeln!(script, "show {n} => text {text}{{ *0}}")?;
+    }
+    writeln!(script, "!close\n!reads {most}")?;
+    Ok(())
+}
+
+#[test]
+fn a_look_up_reads_few_bytes(rt: HostRuntime) -> Result<(), Fail> {
+    let alloc = rt.alloc();
+    let mut script = store(alloc)?;
+    for n in 1..=108u32 {
+        look_up(&mut script, n)?;
+    }
+    play(alloc, script.as_str())?;
+    Ok(())
+}
+
+/// A number above all of the segments lies in none of them, and nothing is read for it.
+const BESIDE: &str = "
+    !open => opened
+    add b => added 109
+    show 109 => text b
+    show 0 => refused no such document
+    show 110 => refused no such document
+    show 4294967295 => refused no such document
+    count => count 108 next 110
+    !close
+    !reads 8354
+";
+
+#[test]
+fn a_look_up_beside_the_segments_reads_nothing(rt: HostRuntime) -> Result<(), Fail> {
+    let alloc = rt.alloc();
+    let mut script = store(alloc)?;
+    script.push_str(BESIDE)?;
+    play(alloc, script.as_str())?;
+    Ok(())
+}

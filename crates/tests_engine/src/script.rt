@@ -1,0 +1,84 @@
+//! Scripts: texts that say what a store is asked, and what it is to answer.
+//!
+//! A line is what is asked, ` => ` and the answer; without an arrow the answer is to be empty. What
+//! doesn't begin with `!` is a line for the shell, and the answer its reply. `{c*n}` stands for the
+//! characters `c`, `n` times. Blanks at both ends of a line don't count, nor do empty lines.
+//!
+//! | step | does | answers |
+//! |---|---|---|
+//! | `!disk N` | a new disk of `N` zero bytes | |
+//! | `!create`, `!open` | a store on the disk | `created`, `opened`, or why not |
+//! | `!close` | the disk of the store | |
+//! | `!fail K` | of the calls from the next opening on, the `K`th and all later ones fail | |
+//! | `!fail K once` | of those calls the `K`th fails, alone | |
+//! | `!crash B` | a crash that leaves the byte `B` at all open positions | |
+//! | `!crash` | a crash that leaves what was written | |
+//! | `!set P B ..` | puts bytes at place `P` of the disk | |
+//! | `!bytes P N` | | the `N` bytes at place `P` |
+//! | `!nonzero N` | | nothing, where `N` bytes of the disk aren't zero |
+//! | `!reads N` | | nothing, where from opening to closing at most `N` bytes were read |
+
+use crate::player::Player;
+use std::alloc::{AllocError, Global};
+
+/// Why a script is not as it says.
+#[derive(Debug, Drop)]
+pub enum ScriptFault {
+    /// A line, counted from 1, was answered so.
+    Answer { line: usize, answer: String },
+    /// A growth of memory was refused.
+    Memory,
+}
+
+impl From<AllocError> for ScriptFault {
+    fn from(_: AllocError) -> ScriptFault {
+        ScriptFault::Memory
+    }
+}
+
+/// The text with each `{c*n}` spelled out.
+fn spelled_out(alloc: Global, text: &str) -> Result<String, AllocError> {
+    let mut whole = String::new(alloc);
+    for piece in text.split('}') {
+        let (plain, repeated) = piece.split_once("{").unwrap_or((piece, ""));
+        let (what, times) = repeated.split_once("*").unwrap_or(("", ""));
+        let times = times.parse::<usize>().unwrap_or(0);
+        whole.push_str(plain)?;
+        whole.push_str(what.repeat(alloc, times)?.as_str())?;
+    }
+    Ok(whole)
+}
+
+/// Plays one line, and tells what was answered in place of what it says, if it was.
+fn play_line(alloc: Global, player: &mut Player, line: &str) -> Result<Option<String>, AllocError> {
+    if line.is_empty() {
+        return Ok(None);
+    }
+    let (asked, wanted) = line.split_once(" => ").unwrap_or((line, ""));
+    let answer = player.answer(spelled_out(alloc, asked)?.as_str())?;
+    if answer.as_str() == spelled_out(alloc, wanted)?.as_str() {
+        return Ok(None);
+    }
+    Ok(Some(answer))
+}
+
+/// Plays a script, up to the first line that is answered otherwise.
+pub fn play(alloc: Global, script: &str) -> Result<(), ScriptFault> {
+    let mut player = Player::new(alloc);
+    for (index, line) in script.lines().enumerate() {
+        if let Some(answer) = play_line(alloc, &mut player, line.trim())? {
+            let line = index.saturating_add(1);
+            return Err(ScriptFault::Answer { line, answer });
+        }
+    }
+    Ok(())
+}
+
+/// Plays parts of a script that follow one another.
+pub fn play_parts(alloc: Global, parts: &[&str]) -> Result<(), ScriptFault> {
+    let mut script = String::new(alloc);
+    for part in parts {
+        script.push_str(part)?;
+    }
+    play(alloc, script.as_str())
+}

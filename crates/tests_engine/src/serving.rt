@@ -1,0 +1,255 @@
+//! Whole inputs of the shell, and readers, writers and memory that give out.
+ghost use Rattle.std.specs.Prelude.{◌≤◌};
+
+use crate::calls::new_store;
+use pk_disk::{Disk, MemoryDisk};
+use pk_model::DocNo;
+use pk_shell::{Ended, ShellFault, serve};
+use pk_store::Store;
+use std::alloc::Global;
+use std::io;
+use std::io::{ErrorKind, Read, Write};
+use std::process::Abort;
+use std::test::Fail;
+
+/// Reads one byte a call, and fails at the end where it is told to.
+#[derive(Drop)]
+struct ByteByByte<'a> {
+    bytes: &'a [u8],
+    fails: bool,
+}
+
+impl<'a> Read for ByteByByte<'a> {
+    fn read(&mut self, buf: &mut [u8]) -> io::Result<usize> {
+        if buf.is_empty() {
+            return Ok(0);
+        }
+        match self.bytes.split_first() {
+            Some((first, rest)) => {
+                buf[0] = *first;
+                self.bytes = rest;
+                Ok(1)
+            }
+            None if self.fails => Err(io::Error::from(ErrorKind::Other)),
+            None => Ok(0),
+        }
+    }
+}
+
+/// Takes so many bytes, and then none, or fails; counts the calls.
+#[derive(Drop)]
+struct Narrow {
+    taken: Vec<u8>,
+    room: usize,
+    fails: bool,
+    calls: u64,
+}
+
+impl Write for Narrow {
+    fn write(&mut self, buf: &[u8]) -> io::Result<usize> {
+        self.calls = self.calls.saturating_add(1);
+        if self.room == 0 && self.fails {
+            return Err(io::Error::from(ErrorKind::Other));
+        }
+        let n = buf.len().min(self.room);
+        self.taken.extend_from_slice(&buf[..n])?;
+        self.room -= n;
+        Ok(n)
+    }
+
+    fn flush(&mut self) -> io::Result<()> {
+        Ok(())
+    }
+}
+
+/// A writer of so much room.
+fn with_room(alloc: Global, room: usize, fails: bool) -> Narrow {
+    Narrow {
+        taken: Vec::new(alloc),
+        room,
+        fails,
+        calls: 0,
+    }
+}
+
+/// Whole inputs, what is written for them, and the end. Nothing behind a `quit` is answered, and a
+/// last line needs no line feed.
+const INPUTS: [(&[u8], &str, Ended); 6] = [
+    (b"add x\nquit\ncount\n", "added 1\nbye\n", Ended::Quit),
+    (b"count\nquit", "count 0 next 1\nbye\n", Ended::Quit),
+    (b"count", "count 0 next 1\n", Ended::InputEnd),
+    (b"", "", Ended::InputEnd),
+    (
+        b"find \xFF\nadd \xC3\ncount\n",
+        "refused not text\nrefused not text\ncount 0 next 1\n",
+        Ended::InputEnd,
+    ),
+    (
+        b"add new drug\nfind drug\n\nadd \xC3\x9F\xFF\nshow 1\nfind (\ncount",
+        "added 1\nfound 1: 1\nrefused unknown\nrefused not text\ntext new drug\n\
+            refused query unexpected at 1\ncount 1 next 2\n",
+        Ended::InputEnd,
+    ),
+];
+
+/// Whether a reader's input is answered so by a new store.
+fn is_answered<R: Read>(
+    alloc: Global,
+    mut input: R,
+    replies: &str,
+    end: Result<Ended, ShellFault>,
+) -> Result<bool, Fail>
+where
+    R: Drop,
+{
+    let mut store = new_store(alloc)?;
+    let mut output = Vec::new(alloc);
+    let ended = serve(alloc, &mut input, &mut output, &mut store);
+    Ok(ended == end && output.as_slice() == replies.as_bytes())
+}
+
+// The cuts of the reader don't matter.
+#[test]
+fn whole_inputs_are_answered(rt: HostRuntime) -> Result<(), Fail> {
+    let alloc = rt.alloc();
+    for (bytes, replies, end) in INPUTS {
+        assert!(rt; is_answered(alloc, bytes, replies, Ok(end))?, "{replies}");
+        let pieces = ByteByByte {
+            bytes,
+            fails: false,
+        };
+        assert!(rt; is_answered(alloc, pieces, replies, Ok(end))?, "{replies}");
+    }
+    Ok(())
+}
+
+// A piece of a line is answered at the end of the input, and not after a read that failed.
+#[test]
+fn a_read_that_fails_ends_the_session(rt: HostRuntime) -> Result<(), Fail> {
+    let rows = [
+        (true, "count 0 next 1\n", Err(ShellFault::Input)),
+        (
+            false,
+            "count 0 next 1\nrefused unknown\n",
+            Ok(Ended::InputEnd),
+        ),
+    ];
+    for (fails, replies, end) in rows {
+        let input = ByteByByte {
+            bytes: b"count\ncou",
+            fails,
+        };
+        assert!(rt; is_answered(rt.alloc(), input, replies, end)?, "{replies}");
+    }
+    Ok(())
+}
+
+#[test]
+fn output_that_takes_five_bytes(rt: HostRuntime) -> Result<(), Fail> {
+    let alloc = rt.alloc();
+    for fails in [true, false] {
+        let mut store = new_store(alloc)?;
+        let mut input = b"count\ncount\n".as_slice();
+        let mut output = with_room(alloc, 5, fails);
+        let end = serve(alloc, &mut input, &mut output, &mut store);
+        assert_eq!(rt; end, Err(ShellFault::Output));
+        assert!(rt; output.taken.as_slice() == b"count".as_slice());
+        assert_eq!(rt; output.calls, 2);
+    }
+    Ok(())
+}
+
+/// Gives the lines to the store, and answers how many writes were made, and of how many bytes.
+fn writes<D: Disk>(alloc: Global, store: &mut Store<D>, mut lines: &[u8]) -> (u64, usize) {
+    let mut output = with_room(alloc, 1_000_000, true);
+    let _ = serve(alloc, &mut lines, &mut output, store);
+    (output.calls, output.taken.len())
+}
+
+// A reply of more than 65,536 bytes goes out in pieces of that length.
+#[test]
+fn one_call_of_write_for_each_reply(rt: HostRuntime) -> Result<(), Fail> {
+    let alloc = rt.alloc();
+    let mut store = new_store(alloc)?;
+    let lines = b"add new drug\nfind drug\nshow 1\ncount\nfind (\nquit\n";
+    let (calls, _) = writes(alloc, &mut store, lines);
+    assert_eq!(rt; calls, 6);
+    let text = "-".repeat(alloc, 100_000)?;
+    assert_eq!(rt; store.add(alloc, text.as_str()), Ok(DocNo(2)));
+    assert_eq!(rt; writes(alloc, &mut store, b"show 2"), (2, 100_006));
+    Ok(())
+}
+
+/// Takes up to 256 bytes, without memory of its own.
+#[derive(Drop)]
+struct Page {
+    bytes: [u8; 256],
+    len: usize,
+    ghost fits: { len ≤ 256 },
+}
+
+impl Write for Page {
+    fn write(&mut self, buf: &[u8]) -> io::Result<usize> {
+        let start = self.len;
+        let taken = buf.len().min(256 - start);
+        self.bytes[start..start + taken].copy_from_slice(&buf[..taken]);
+        self.len = start + taken;
+        Ok(taken)
+    }
+
+    fn flush(&mut self) -> io::Result<()> {
+        Ok(())
+    }
+}
+
+/// Lines for a store that is short of memory.
+const LINES: &[u8] = b"add new drug\nfind new (drug OR hopes)\nshow 1\nquit\n";
+
+/// What they are answered: with memory for all, without that for the addition, for the find and for
+/// the text.
+const WHOLE: &[u8] = b"added 1\nfound 1: 1\ntext new drug\nbye\n";
+
+const NO_ADDITION: &[u8] = b"refused memory\nfound 0:\nrefused no such document\nbye\n";
+
+const NO_FIND: &[u8] = b"added 1\nrefused memory\ntext new drug\nbye\n";
+
+const NO_TEXT: &[u8] = b"added 1\nfound 1: 1\nrefused memory\nbye\n";
+
+/// Answers the lines on a new store, and whether memory was there for all of them. Where it was
+/// not, there is no store, or the shell ends with that before it reads, or one of the replies is
+/// `refused memory`.
+fn is_answered_in_full(rt: &impl Abort, alloc: Global) -> bool {
+    let Ok(zeros) = vec![in alloc; 0u8; 32_768] else {
+        return false;
+    };
+    let Ok(mut store) = Store::create(alloc, MemoryDisk::of_bytes(alloc, zeros), 0) else {
+        return false;
+    };
+    let mut input = LINES;
+    let mut page = Page {
+        bytes: [0; 256],
+        len: 0,
+    };
+    let end = serve(alloc, &mut input, &mut page, &mut store);
+    if end == Err(ShellFault::Memory) {
+        assert_eq!(rt; page.len, 0);
+        assert_eq!(rt; input.len(), LINES.len());
+        return false;
+    }
+    assert_eq!(rt; end, Ok(Ended::Quit));
+    let written = &page.bytes[..page.len];
+    if written == NO_ADDITION || written == NO_FIND || written == NO_TEXT {
+        return false;
+    }
+    assert!(rt; written == WHOLE);
+    true
+}
+
+/// Run with one request for memory refused after another (tools/refuse_memory.py): of two sessions
+/// with the same lines the one that was refused none is answered in full.
+#[test]
+fn session_short_of_memory(rt: HostRuntime) {
+    let first = is_answered_in_full(&rt, rt.alloc());
+    let second = is_answered_in_full(&rt, rt.alloc());
+    assert!(rt; first || second);
+}

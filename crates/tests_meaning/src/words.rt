@@ -1,0 +1,96 @@
+//! Lists and sets of words, with values from the tables of Unicode.
+
+use pk_words::{word_list, words};
+use std::alloc::{AllocError, Global};
+use std::test::Fail;
+
+/// The words of the text in its order, with a bar between each two.
+fn list_of(alloc: Global, text: &str) -> Result<String, AllocError> {
+    let mut all = String::new(alloc);
+    for word in word_list(alloc, text)? {
+        if !all.is_empty() {
+            all.push_str("|")?;
+        }
+        all.push_str(word.as_str())?;
+    }
+    Ok(all)
+}
+
+/// The words of the text as a set, with a bar between each two.
+fn set_of(alloc: Global, text: &str) -> Result<String, AllocError> {
+    let set = words(alloc, text)?;
+    let mut all = String::new(alloc);
+    for i in 0..set.len() {
+        if i > 0 {
+            all.push_str("|")?;
+        }
+        all.push_str(set.get(i))?;
+    }
+    Ok(all)
+}
+
+#[test]
+fn the_words_of_texts(rt: HostRuntime) -> Result<(), Fail> {
+    let table = [
+        (
+            "Straße e-mail can't 3.14 foo_bar E",
+            "strasse|e|mail|can't|3.14|foo_bar|e",
+            "3.14|can't|e|foo_bar|mail|strasse",
+        ),
+        ("E-mail e", "e|mail|e", "e|mail"),
+        ("", "", ""),
+        (" ", "", ""),
+        ("--", "", ""),
+        ("(!) ...", "", ""),
+        (
+            "zebra Éclair eclair 10 9 𝐀 ΣΊΣΥΦΟΣ",
+            "zebra|éclair|eclair|10|9|𝐀|σίσυφοσ",
+            "10|9|eclair|zebra|éclair|σίσυφοσ|𝐀",
+        ),
+        (
+            "lists.debian.org file.c",
+            "lists.debian.org|file.c",
+            "file.c|lists.debian.org",
+        ),
+        ("joe@example.org", "joe|example.org", "example.org|joe"),
+        ("Re: [PATCH 2/3]", "re|patch|2|3", "2|3|patch|re"),
+        ("1,000 v2.0 C++.", "1,000|v2.0|c", "1,000|c|v2.0"),
+        ("The end. Then", "the|end|then", "end|the|then"),
+        ("can't can’t", "can't|can’t", "can't|can’t"),
+        ("日本", "日|本", "日|本"),
+        ("ΣΊΣΥΦΟΣ Σίσυφος", "σίσυφοσ|σίσυφοσ", "σίσυφοσ"),
+        ("resume résumé", "resume|résumé", "resume|résumé"),
+    ];
+    for (text, list, set) in table {
+        assert_eq!(rt; list_of(rt.alloc(), text)?.as_str(), list);
+        assert_eq!(rt; set_of(rt.alloc(), text)?.as_str(), set);
+        let found = words(rt.alloc(), text)?;
+        assert_eq!(rt; found.is_empty(), set.is_empty());
+        for word in word_list(rt.alloc(), text)? {
+            assert!(rt; found.contains(word.as_str()), "{word} of {text:?}");
+        }
+        for word in ["", "e-mail", "Straße", "zz"] {
+            assert!(rt; !found.contains(word), "{word:?} of {text:?}");
+        }
+    }
+    Ok(())
+}
+
+/// 20,000 numbers of five digits, which rise by bytes as they do by value.
+#[test]
+fn twenty_thousand_words_in_one_text(rt: HostRuntime) -> Result<(), Fail> {
+    let alloc = rt.alloc();
+    let mut text = String::new(alloc);
+    for n in 0u32..20_000 {
+        text.push_str(format!(in alloc; "{} ", 29_999 - n)?.as_str())?;
+    }
+    let set = words(alloc, text.as_str())?;
+    assert_eq!(rt; set.len(), 20_000);
+    for i in 0..set.len() {
+        let word = format!(in alloc; "{}", 10_000u64.saturating_add(i as u64))?;
+        assert_eq!(rt; set.get(i), word.as_str());
+        assert!(rt; set.contains(word.as_str()));
+    }
+    assert_eq!(rt; word_list(alloc, text.as_str())?.len(), 20_000);
+    Ok(())
+}

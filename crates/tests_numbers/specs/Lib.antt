@@ -1,0 +1,1 @@
+-- Nothing is defined here: the tests cite the words of the crates that they test.

@@ -1,0 +1,401 @@
+//! The term dictionary: its worked row, dictionaries of many shapes by every way of reading,
+//! damage, and faults below.
+
+ghost use Rattle.std.specs.Prelude.{◌≡◌, ◌<◌, ◌^◌, length};
+ghost use Rattle.std.proofs.Common.{◌∙◌, refl};
+
+use pk_dict::{
+    Dict, DictFault, DictPlace, DictWriter, EntriesFault, Entry, Window, entries_in, look_up_in,
+};
+use pk_posting::{ByteSource, ListPlace, SliceSource, SourceFault};
+use std::alloc::Global;
+use std::process::Abort;
+use std::test::Fail;
+use std::vec::Vec;
+
+/// Terms that rise, each with what it is added with.
+type Items = Vec<(Vec<u8>, Entry)>;
+
+// The dictionary of `new` (frequency 1, a list of 5 bytes at 0) and `newt` (1, 5 bytes at 5).
+const ROW: [u8; 17] = [
+    0x00, 0x00, 0x00, 0x00, 0x83, 0x6E, 0x65, 0x77, 0x81, 0x80, 0x85, 0x83, 0x81, 0x74, 0x81, 0x85,
+    0x85,
+];
+
+// The same, but that `newt` keeps two bytes in place of three, and goes on with `wt`.
+const TOO_FEW_KEPT: [u8; 18] = [
+    0x00, 0x00, 0x00, 0x00, 0x83, 0x6E, 0x65, 0x77, 0x81, 0x80, 0x85, 0x82, 0x82, 0x77, 0x74, 0x81,
+    0x85, 0x85,
+];
+
+// An entry whose list has 5 bytes.
+fn entry(frequency: u32, at: u32) -> Entry {
+    Entry {
+        frequency,
+        place: ListPlace { at, bytes: 5 },
+    }
+}
+
+// What the i-th of many terms is added with.
+fn entry_at(i: usize) -> Entry {
+    let i = (i % 1_000_000) as u32;
+    entry(i + 1, 5 * i)
+}
+
+// The items of terms, in their order.
+fn items(alloc: Global, terms: &[&[u8]]) -> Result<Items, Fail> {
+    let mut items = Vec::new(alloc);
+    for (i, term) in terms.iter().enumerate() {
+        items.push((Vec::from_slice(alloc, term)?, entry_at(i)))?;
+    }
+    Ok(items)
+}
+
+// A word of five letters `a` to `j`, the digits of a number below 100,000.
+fn word(alloc: Global, n: u32) -> Result<Vec<u8>, Fail> {
+    let mut word = Vec::new(alloc);
+    for unit in [10_000u32, 1_000, 100, 10, 1] {
+        word.push(b'a' + (n / unit % 10) as u8)?;
+    }
+    Ok(word)
+}
+
+// So many words, of the even numbers.
+fn words(alloc: Global, count: u32) -> Result<Items, Fail> {
+    let mut items = Vec::new(alloc);
+    for i in 0..count {
+        items.push((word(alloc, i.wrapping_mul(2))?, entry_at(i as usize)))?;
+    }
+    Ok(items)
+}
+
+// Terms of which each is one byte longer than the one before, from none on, to 300 bytes; the last
+// shares nothing.
+fn longer_and_longer(alloc: Global) -> Result<Items, Fail> {
+    let long = [b'x'; 300];
+    let mut items = Vec::new(alloc);
+    for n in 0..=300usize {
+        items.push((Vec::from_slice(alloc, &long[..n.min(300)])?, entry_at(n)))?;
+    }
+    items.push((Vec::from_slice(alloc, b"y")?, entry_at(301)))?;
+    Ok(items)
+}
+
+// Terms of 100,000 bytes that differ in the last one, and one that goes on.
+fn long_terms(alloc: Global) -> Result<Items, Fail> {
+    let mut first = vec![in alloc; b'b'; 100_000]?;
+    let mut second = Vec::from_slice(alloc, &first)?;
+    second.push(b'b')?;
+    first.push(b'a')?;
+    let mut third = Vec::from_slice(alloc, &second)?;
+    third.push(b'a')?;
+    items(alloc, &[b"a".as_slice(), &first, &second, &third, b"c"])
+}
+
+// The dictionary of these items. No term may be added twice.
+fn written(rt: &impl Abort, alloc: Global, items: &[(Vec<u8>, Entry)]) -> Result<Vec<u8>, Fail> {
+    let mut writer = DictWriter::new(alloc);
+    for (term, entry) in items.iter() {
+        let term = term.as_slice();
+        let entry = *entry;
+        if !writer.may_add(term, entry.frequency, entry.place) {
+            return Err(Fail::from("a term that may not be added"));
+        }
+        writer.add(term, entry.frequency, entry.place)?;
+        assert!(rt; !writer.may_add(term, entry.frequency, entry.place));
+    }
+    let size = writer.size();
+    let bytes = writer.finish(alloc)?;
+    assert_eq!(rt; bytes.len(), size);
+    Ok(bytes)
+}
+
+// Where a dictionary lies that is all of a source.
+fn whole(bytes: &[u8], terms: u32) -> DictPlace {
+    DictPlace {
+        at: 0,
+        bytes: u32::try_from(bytes.len()).unwrap_or(0),
+        terms,
+    }
+}
+
+// That each way of reading gives the same for a term: the slice, a source where the dictionary
+// lies in the midst, and a window over it.
+fn looks_up(
+    rt: &impl Abort,
+    bytes: &[u8],
+    amid: &[u8],
+    terms: u32,
+    term: &[u8],
+    wanted: Option<Entry>,
+) -> Result<(), Fail> {
+    assert_eq!(rt; Dict::open(bytes, terms).look_up(term), Ok(wanted));
+    assert!(rt; amid.len() < 100_000_000);
+    let place = DictPlace {
+        at: 7,
+        ..whole(bytes, terms)
+    };
+    let mut source = SliceSource::new(amid);
+    assert_eq!(rt; look_up_in(&mut source, place, term), Ok(wanted));
+    let asked = source.asked();
+    let mut below = SliceSource::new(amid);
+    let mut window = Window::on(&mut below);
+    assert_eq!(rt; look_up_in(&mut window, place, term), Ok(wanted));
+    assert_eq!(rt; window.asked(), asked);
+    assert!(rt; below.asked() <= asked);
+    Ok(())
+}
+
+// Writes a dictionary of these items, with seven bytes before it and three after, looks each of
+// them up by each way, and a term that stands just after each; then lists them all.
+fn holds(rt: &impl Abort, alloc: Global, items: &[(Vec<u8>, Entry)]) -> Result<(), Fail> {
+    let bytes = written(rt, alloc, items)?;
+    let mut amid = Vec::from_slice(alloc, &[9u8; 7])?;
+    amid.extend_from_slice(&bytes)?;
+    amid.extend_from_slice(&[9u8; 3])?;
+    let terms = u32::try_from(items.len())?;
+    for (term, entry) in items.iter() {
+        looks_up(rt, &bytes, &amid, terms, term, Some(*entry))?;
+        let mut next = Vec::from_slice(alloc, term)?;
+        next.push(0)?;
+        looks_up(rt, &bytes, &amid, terms, &next, None)?;
+    }
+    looks_up(rt, &bytes, &amid, terms, &[0xFF; 2], None)?;
+    let all = Dict::open(&bytes, terms).entries_with_prefix(alloc, &[])?;
+    assert_eq!(rt; all.as_slice(), items);
+    Ok(())
+}
+
+#[test]
+fn the_row_is_spelled_and_read(rt: HostRuntime) -> Result<(), Fail> {
+    let alloc = rt.alloc();
+    let newt = entry(1, 5);
+    let mut pair = items(alloc, &[b"new".as_slice(), b"newt"])?;
+    if let Some(last) = pair.last_mut() {
+        last.1 = newt;
+    }
+    assert_eq!(rt; written(&rt, alloc, &pair)?.as_slice(), ROW.as_slice());
+    assert_eq!(rt; written(&rt, alloc, &[])?.len(), 0);
+    let mut writer = DictWriter::new(alloc);
+    if !writer.may_add(b"new", 1, newt.place) {
+        return Err(Fail::from("the first term"));
+    }
+    writer.add(b"new", 1, newt.place)?;
+    for (term, may) in [
+        (b"newt".as_slice(), true),
+        (b"new", false),
+        (b"neW", false),
+        (b"", false),
+    ] {
+        assert_eq!(rt; writer.may_add(term, 1, newt.place), may);
+    }
+    let dict = Dict::open(&ROW, 2);
+    for (term, found) in [
+        (b"newt".as_slice(), Some(newt)),
+        (b"new", Some(entry(1, 0))),
+        (b"ne", None),
+    ] {
+        assert_eq!(rt; dict.look_up(term), Ok(found));
+    }
+    for (prefix, from) in [(b"newt".as_slice(), 1usize), (b"ne", 0), (b"newts", 2)] {
+        let found = dict.entries_with_prefix(alloc, prefix)?;
+        assert_eq!(rt; Some(found.as_slice()), pair.get(from..2));
+    }
+    let damaged = Dict::open(&TOO_FEW_KEPT, 2);
+    assert_eq!(rt; damaged.look_up(b"newt"), Err(DictFault::Damaged));
+    Ok(())
+}
+
+#[test]
+fn dictionaries_of_many_shapes_hold_their_terms(rt: HostRuntime) -> Result<(), Fail> {
+    let alloc = rt.alloc();
+    for count in [0u32, 1, 15, 16, 17, 33, 5_000] {
+        holds(&rt, alloc, &words(alloc, count)?)?;
+    }
+    holds(&rt, alloc, &longer_and_longer(alloc)?)?;
+    holds(&rt, alloc, &long_terms(alloc)?)
+}
+
+// Words that start with `ab` are those of the numbers from 1,000 to 1,999: half of them are there.
+#[test]
+fn a_prefix_lists_its_terms(rt: HostRuntime) -> Result<(), Fail> {
+    let alloc = rt.alloc();
+    let terms = words(alloc, 5_000)?;
+    let bytes = written(&rt, alloc, &terms)?;
+    let dict = Dict::open(&bytes, 5_000);
+    for (prefix, from, to) in [
+        ("", 0usize, 5_000usize),
+        ("a", 0, 5_000),
+        ("aa", 0, 500),
+        ("ab", 500, 1_000),
+        ("aj", 4_500, 5_000),
+        ("ajjji", 4_999, 5_000),
+        ("ajjjj", 5_000, 5_000),
+        ("b", 5_000, 5_000),
+        ("A", 0, 0),
+    ] {
+        let found = dict.entries_with_prefix(alloc, prefix.as_bytes())?;
+        assert_eq!(rt; Some(found.as_slice()), terms.get(from..to));
+    }
+    Ok(())
+}
+
+// Each byte of the row set to 00 and to FF: each call answers, and what it refuses is damage. The
+// row cut short anywhere is damage to whoever reads what is missing, and so is a dictionary that
+// goes past the end of its source: nothing is asked then.
+#[test]
+fn damage_is_answered(rt: HostRuntime) -> Result<(), Fail> {
+    let alloc = rt.alloc();
+    for at in 0..ROW.len() {
+        for byte in [0x00, 0xFF] {
+            let mut bytes = ROW;
+            bytes[at] = byte;
+            let dict = Dict::open(&bytes, 2);
+            for term in [b"".as_slice(), b"ne", b"new", b"newt", b"newts", b"o"] {
+                assert!(rt; !matches!(dict.look_up(term), Err(DictFault::Memory)));
+            }
+            for prefix in [b"".as_slice(), b"new", b"o"] {
+                match dict.entries_with_prefix(alloc, prefix) {
+                    Ok(found) => assert!(rt; found.len() <= 2),
+                    Err(fault) => assert_eq!(rt; fault, DictFault::Damaged),
+                }
+            }
+        }
+    }
+    for len in 0..ROW.len() {
+        let dict = Dict::open(&ROW[..len], 2);
+        assert_eq!(rt; dict.look_up(b"newt"), Err(DictFault::Damaged));
+        let listed = dict.entries_with_prefix(alloc, b"");
+        assert_eq!(rt; listed.err(), Some(DictFault::Damaged));
+    }
+    let mut source = SliceSource::new(&ROW);
+    let place = DictPlace {
+        at: 1,
+        bytes: 17,
+        terms: 2,
+    };
+    let looked_up = look_up_in(&mut source, place, b"new");
+    assert_eq!(rt; looked_up, Err(SourceFault::Damaged));
+    let listed = entries_in(alloc, &mut source, place, b"new");
+    assert_eq!(rt; listed.err(), Some(EntriesFault::Damaged));
+    assert_eq!(rt; source.asked(), 0);
+    Ok(())
+}
+
+// Of 17 terms the second group is read: one piece of 4,096 bytes holds the whole dictionary.
+#[test]
+fn a_window_asks_once(rt: HostRuntime) -> Result<(), Fail> {
+    let alloc = rt.alloc();
+    let bytes = written(&rt, alloc, &words(alloc, 17)?)?;
+    assert!(rt; bytes.len() < 4096);
+    let mut source = SliceSource::new(&bytes);
+    let mut window = Window::on(&mut source);
+    assert_eq!(rt; window.len() as usize, bytes.len());
+    let found = look_up_in(&mut window, whole(&bytes, 17), b"aaadc");
+    assert_eq!(rt; found, Ok(Some(entry_at(16))));
+    assert!(rt; window.asked() > 5);
+    assert!(rt; source.asked() <= 3);
+    Ok(())
+}
+
+// A slice as a source whose call after so many others fails, and counts it.
+#[derive(Drop)]
+struct Failing<'a> {
+    bytes: &'a [u8],
+    passes: u64,
+    failures: u64,
+    asked: u64,
+    ghost short: { length bytes.now < 2 ^ 32 },
+}
+
+impl<'a> ByteSource for Failing<'a> {
+    ghost content = { λ s. s.bytes.now };
+
+    ghost honest = { Unit {0} };
+
+    ghost failures = { λ s. s.failures };
+
+    ghost asked = { λ s. s.asked };
+
+    ghost keeps = { λ a b. b.bytes.now ≡ a.bytes.now };
+
+    ghost keeps_self = { λ _. refl };
+
+    ghost keeps_then = { λ _ _ _ first second. second ∙ first };
+
+    fn len(&self) -> u32 {
+        self.bytes.len() as u32
+    }
+
+    fn bytes(&mut self, at: u32, n: u32) -> Result<&[u8], SourceFault> {
+        self.asked = self.asked.saturating_add(1);
+        let start = at as usize;
+        let end = start + n as usize;
+        if end > self.bytes.len() {
+            return Err(SourceFault::Damaged);
+        }
+        if self.passes == 0 || self.failures == u64::MAX {
+            self.passes = u64::MAX;
+            self.failures = self.failures.saturating_add(1);
+            return Err(SourceFault::Disk);
+        }
+        self.passes -= 1;
+        Ok(&self.bytes[start..end])
+    }
+
+    fn asked(&self) -> u64 {
+        self.asked
+    }
+}
+
+impl<'a> Failing<'a> {
+    // The source that fails after so many calls.
+    fn after(bytes: &'a [u8], passes: u64) -> Failing<'a>
+        requires { length bytes.now < 2 ^ 32 }
+    {
+        Failing {
+            bytes,
+            passes,
+            failures: 0,
+            asked: 0,
+        }
+    }
+}
+
+// Each call below fails in turn: the look-up answers Disk, and the next one finds the term; a list
+// of entries ends with Disk. Through a window too: what a failed call leaves is not lent.
+#[test]
+fn each_failed_read_is_answered(rt: HostRuntime) -> Result<(), Fail> {
+    let alloc = rt.alloc();
+    let bytes = written(&rt, alloc, &words(alloc, 33)?)?;
+    assert!(rt; bytes.len() < 4096);
+    let place = whole(&bytes, 33);
+    let term = b"aaade".as_slice();
+    let wanted = Ok(Some(entry_at(17)));
+    let mut clean = SliceSource::new(&bytes);
+    assert_eq!(rt; look_up_in(&mut clean, place, term), wanted);
+    for passes in 0..clean.asked() {
+        let mut source = Failing::after(&bytes, passes);
+        assert_eq!(rt;
+            look_up_in(&mut source, place, term),
+            Err(SourceFault::Disk)
+        );
+        assert_eq!(rt; source.failures, 1);
+        assert_eq!(rt; look_up_in(&mut source, place, term), wanted);
+    }
+    let mut clean = SliceSource::new(&bytes);
+    assert_eq!(rt; entries_in(alloc, &mut clean, place, b"aaad")?.len(), 5);
+    for passes in 0..clean.asked() {
+        let mut source = Failing::after(&bytes, passes);
+        let listed = entries_in(alloc, &mut source, place, b"aaad");
+        assert_eq!(rt; listed.err(), Some(EntriesFault::Disk));
+    }
+    let mut below = Failing::after(&bytes, 0);
+    let mut window = Window::on(&mut below);
+    assert_eq!(rt;
+        look_up_in(&mut window, place, term),
+        Err(SourceFault::Disk)
+    );
+    assert_eq!(rt; look_up_in(&mut window, place, term), wanted);
+    Ok(())
+}

@@ -1,0 +1,18 @@
+//! Tests of the crates of numbers, by their public calls: worked rows, sweeps over many lists and
+//! bytes, and beside them plain readings of the formats.
+#![tactic(auto)]
+
+#[cfg(test)]
+mod dict;
+#[cfg(test)]
+mod lanes;
+#[cfg(test)]
+mod made;
+#[cfg(test)]
+mod plain;
+#[cfg(test)]
+mod posting;
+#[cfg(test)]
+mod sets;
+#[cfg(test)]
+mod vbyte;

@@ -1,0 +1,133 @@
+//! Sets: worked rows, and each operation beside a plain reading of its definition.
+
+ghost use Rattle.std.specs.Prelude.{◌<◌, ◌≤◌, length};
+
+use crate::made::{apart, thinned};
+use crate::plain::rises;
+use pk_sets::{both, both_gallop, both_merge, either, without};
+use std::alloc::{AllocError, Global};
+use std::process::Abort;
+use std::test::Fail;
+
+/// What the operations are to give of two lists.
+#[derive(Drop)]
+struct Wanted<'a> {
+    both: &'a [u32],
+    either: &'a [u32],
+    without: &'a [u32],
+}
+
+// Each operation gives what is wanted of these two lists, in just the room that it asks for and
+// with room to spare.
+fn answers(rt: &impl Abort, a: &[u32], b: &[u32], wanted: &Wanted)
+    requires short_a { length a.now ≤ 70 }
+    requires short_b { length b.now ≤ 70 }
+{
+    assert!(rt; rises(a) && rises(b));
+    for spare in [0usize, 7] {
+        let mut out = [7; 147];
+        let room = &mut out[..a.len().min(b.len()) + spare];
+        let n = both_merge(a, b, room);
+        assert_eq!(rt; &room[..n], wanted.both, "both_merge");
+        let n = both_gallop(a, b, room);
+        assert_eq!(rt; &room[..n], wanted.both, "both_gallop");
+        let n = both(a, b, room);
+        assert_eq!(rt; &room[..n], wanted.both, "both");
+        let room = &mut out[..a.len() + b.len() + spare];
+        let n = either(a, b, room);
+        assert_eq!(rt; &room[..n], wanted.either, "either");
+        let room = &mut out[..a.len() + spare];
+        let n = without(a, b, room);
+        assert_eq!(rt; &room[..n], wanted.without, "without");
+    }
+}
+
+// Each operation gives what its definition says of these two lists.
+fn agree(rt: &impl Abort, alloc: Global, a: &[u32], b: &[u32]) -> Result<(), AllocError>
+    requires short_a { length a.now ≤ 70 }
+    requires short_b { length b.now ≤ 70 }
+{
+    let mut met = Vec::new(alloc);
+    let mut left = Vec::new(alloc);
+    for x in a {
+        if b.contains(x) {
+            met.push(*x)?;
+        } else {
+            left.push(*x)?;
+        }
+    }
+    let mut all = Vec::from_slice(alloc, left.as_slice())?;
+    all.extend_from_slice(b)?;
+    all.sort()?;
+    let wanted = Wanted {
+        both: &met,
+        either: &all,
+        without: &left,
+    };
+    answers(rt, a, b, &wanted);
+    Ok(())
+}
+
+#[test]
+fn worked_rows(rt: HostRuntime) {
+    let wanted = Wanted {
+        both: &[2, 31],
+        either: &[1, 2, 4, 11, 31, 45, 54, 101, 173, 174],
+        without: &[1, 4, 11, 45, 173, 174],
+    };
+    answers(
+        &rt,
+        &[1, 2, 4, 11, 31, 45, 173, 174],
+        &[2, 31, 54, 101],
+        &wanted,
+    );
+    let none = Wanted {
+        both: &[],
+        either: &[],
+        without: &[],
+    };
+    answers(&rt, &[], &[], &none);
+}
+
+// 32 and 9984 are each the last number of a stretch of 32; 10001 is past the end.
+#[test]
+fn last_places_of_stretches(rt: HostRuntime) -> Result<(), Fail> {
+    let short = [32, 9984, 10_001];
+    let long = apart(rt.alloc(), 1, 1, 10_000)?;
+    assert!(rt; rises(&short) && rises(&long));
+    let mut out = [0; 3];
+    let n = both(&short, &long, &mut out);
+    assert_eq!(rt; &out[..n], &[32, 9984][..]);
+    let n = both(&long, &short, &mut out);
+    assert_eq!(rt; &out[..n], &[32, 9984][..]);
+    Ok(())
+}
+
+#[test]
+fn a_gallop_finds_each_number(rt: HostRuntime) -> Result<(), Fail> {
+    let even = apart(rt.alloc(), 2, 2, 2000)?;
+    assert!(rt; rises(&even));
+    for x in 0..4003 {
+        let one = [x];
+        assert!(rt; rises(&one));
+        let found = both_gallop(&one, &even, &mut [0]);
+        let wanted = x % 2 == 0 && 0 < x && x <= 4000;
+        assert_eq!(rt; found == 1, wanted, "{x}");
+    }
+    Ok(())
+}
+
+// Each pair of lengths up to 70, of lists that are dense, thin, or one of each.
+#[test]
+fn each_pair_of_lengths(rt: HostRuntime) -> Result<(), Fail> {
+    for (gap_a, gap_b) in [(1, 1), (2, 2), (5, 5), (1, 12), (12, 1), (100_000, 100_000)] {
+        let a = thinned(1, gap_a);
+        let b = thinned(4, gap_b);
+        for i in 0..71 {
+            for j in 0..71 {
+                agree(&rt, rt.alloc(), &a[..i], &b[..j])?;
+            }
+        }
+    }
+    Ok(())
+}

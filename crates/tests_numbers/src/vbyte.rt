@@ -1,0 +1,67 @@
+//! Variable bytes: worked rows, what is refused, and the numbers about each power of two.
+
+use crate::plain::{put_variable, variable_at};
+use pk_vbyte::{VFault, put, take};
+use std::test::Fail;
+
+// Each number with its bytes, worked out by hand.
+const ROWS: [(u32, &[u8]); 5] = [
+    (824, &[0x06, 0xB8]),
+    (5, &[0x85]),
+    (214_577, &[0x0D, 0x0C, 0xB1]),
+    (0, &[0x80]),
+    (4_294_967_295, &[0x0F, 0x7F, 0x7F, 0x7F, 0xFF]),
+];
+
+const REFUSED: [(&[u8], VFault); 7] = [
+    (&[], VFault::Short),
+    (&[0x06], VFault::Short),
+    (&[0x00, 0x85], VFault::Padded),
+    (&[0x00], VFault::Padded),
+    (&[0x10, 0x00, 0x00, 0x00, 0x80], VFault::TooLarge),
+    (&[0x01, 0x00, 0x00, 0x00, 0x00], VFault::TooLarge),
+    (&[0x01, 0x00, 0x00, 0x00, 0x00, 0x80], VFault::TooLarge),
+];
+
+// Each row is put, with nothing behind it touched; taken, with and without bytes behind it; and
+// Short where it is cut.
+#[test]
+fn numbers_have_their_bytes(rt: HostRuntime) -> Result<(), Fail> {
+    for (n, bytes) in ROWS {
+        let mut out = [0xEE; 5];
+        let used = put(n, &mut out);
+        assert_eq!(rt; &out[..used], bytes);
+        for b in &out[used..] {
+            assert_eq!(rt; *b, 0xEE);
+        }
+
+        assert_eq!(rt; take(bytes), Ok((n, bytes.len())));
+        let mut longer = bytes.to_vec(rt.alloc())?;
+        longer.extend_from_slice(&[0x00, 0xFF])?;
+        assert_eq!(rt; take(&longer), Ok((n, bytes.len())));
+        for cut in 0..bytes.len() {
+            assert_eq!(rt; take(&bytes[..cut]), Err(VFault::Short));
+        }
+    }
+    for (bytes, fault) in REFUSED {
+        assert_eq!(rt; take(bytes), Err(fault), "{bytes:?}");
+    }
+    Ok(())
+}
+
+#[test]
+fn numbers_about_each_power_come_back(rt: HostRuntime) -> Result<(), Fail> {
+    for k in 0..32u32 {
+        for d in 0..5u32 {
+            let n = 1u32.wrapping_shl(k).wrapping_add(d).wrapping_sub(2);
+            let mut plain = Vec::new(rt.alloc());
+            put_variable(&mut plain, n)?;
+            let mut out = [0u8; 5];
+            let used = put(n, &mut out);
+            assert_eq!(rt; &out[..used], plain.as_slice(), "{n}");
+            assert_eq!(rt; take(&plain), Ok((n, plain.len())), "{n}");
+            assert_eq!(rt; variable_at(&plain, 0), (n, plain.len()), "{n}");
+        }
+    }
+    Ok(())
+}
