@@ -24,7 +24,7 @@ use Rattle.pk_store.specs.declared.refused.CreateFault.TheVariants.{TooSmall, Al
 use Rattle.pk_store.specs.Creating.{IsLarge}
 use Rattle.pk_store.specs.Opening.{IsStoreOf, IsUncalled, OpensAsStore, first_body}
 use Rattle.pk_store.specs.View.{StoreView, VolumeView, volume_of}
-use Rattle.pk_store.proofs.OpeningLemmas.{means_held}
+use Rattle.pk_store.proofs.OpeningLemmas.{means_held, uncalled_large}
 
 -- ---- gates
 
@@ -140,15 +140,6 @@ first_store d units disk s is buffer next current holds closed =
 -- where the disk is large, the refusal isn't TooSmall
 pub create_large : {D : Type 0} {n : ℕ} (why : CreateFault) → IsLarge {T = Manifest} (Err why) → 64 ≤ n → (old new : D) → IsUncalled {D = D} TooSmall old (Err (record { disk = new; why = why })) n
 create_large TooSmall told large old new = absurd told
-create_large AlreadyAStore told large old new = ((λ same. absurd (is_other same), λ less. absurd (omega (arith, less, large))), λ same. absurd (is_other same))
-  where
-    is_other : AlreadyAStore ≡ TooSmall → ⊥
-    is_other e = cc
-create_large Disk told large old new = ((λ same. absurd (is_other same), λ less. absurd (omega (arith, less, large))), λ same. absurd (is_other same))
-  where
-    is_other : Disk ≡ TooSmall → ⊥
-    is_other e = cc
-create_large Memory told large old new = ((λ same. absurd (is_other same), λ less. absurd (omega (arith, less, large))), λ same. absurd (is_other same))
-  where
-    is_other : Memory ≡ TooSmall → ⊥
-    is_other e = cc
+create_large AlreadyAStore told large old new = uncalled_large TooSmall AlreadyAStore (λ e. cc) large old new
+create_large Disk told large old new = uncalled_large TooSmall Disk (λ e. cc) large old new
+create_large Memory told large old new = uncalled_large TooSmall Memory (λ e. cc) large old new

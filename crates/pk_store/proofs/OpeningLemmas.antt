@@ -408,22 +408,14 @@ found_refuses bytes Damaged h = h
 found_refuses bytes Disk h = tt
 found_refuses bytes Memory h = tt
 
+-- on a large disk, a refusal that is another one than that of a small disk
+pub uncalled_large : {D F : Type 0} {n : ℕ} (small why : F) → (why ≡ small → ⊥) → 64 ≤ n → (old new : D) → IsUncalled {D = D} small old (Err (record { disk = new; why = why })) n
+uncalled_large small why other large old new = ((λ same. absurd (other same), λ less. absurd (omega (arith, less, large))), λ same. absurd (other same))
+
 -- where the disk is large, the refusal isn't TooSmall
 pub refused_large : {D : Type 0} {n : ℕ} (why : OpenFault) → IsLarge {T = Found} (Err why) → 64 ≤ n → (old new : D) → IsUncalled {D = D} TooSmall old (Err (record { disk = new; why = why })) n
 refused_large TooSmall told large old new = absurd told
-refused_large NotAStore told large old new = ((λ same. absurd (is_other same), λ less. absurd (omega (arith, less, large))), λ same. absurd (is_other same))
-  where
-    is_other : NotAStore ≡ TooSmall → ⊥
-    is_other e = cc
-refused_large Damaged told large old new = ((λ same. absurd (is_other same), λ less. absurd (omega (arith, less, large))), λ same. absurd (is_other same))
-  where
-    is_other : Damaged ≡ TooSmall → ⊥
-    is_other e = cc
-refused_large Disk told large old new = ((λ same. absurd (is_other same), λ less. absurd (omega (arith, less, large))), λ same. absurd (is_other same))
-  where
-    is_other : Disk ≡ TooSmall → ⊥
-    is_other e = cc
-refused_large Memory told large old new = ((λ same. absurd (is_other same), λ less. absurd (omega (arith, less, large))), λ same. absurd (is_other same))
-  where
-    is_other : Memory ≡ TooSmall → ⊥
-    is_other e = cc
+refused_large NotAStore told large old new = uncalled_large TooSmall NotAStore (λ e. cc) large old new
+refused_large Damaged told large old new = uncalled_large TooSmall Damaged (λ e. cc) large old new
+refused_large Disk told large old new = uncalled_large TooSmall Disk (λ e. cc) large old new
+refused_large Memory told large old new = uncalled_large TooSmall Memory (λ e. cc) large old new
