@@ -3,6 +3,8 @@
 #![tactic(auto)]
 
 #[cfg(test)]
+mod dead;
+#[cfg(test)]
 mod dict;
 #[cfg(test)]
 mod lanes;
