@@ -44,6 +44,12 @@ class Program:
         self.process.stdin.flush()
         return self.process.stdout.readline().decode().rstrip("\n")
 
+    def expect(self, line, wanted):
+        """Asks a line that is to be answered so."""
+        reply = self.ask(line)
+        if reply != wanted:
+            raise SystemExit(f"measure: the program answered {line!r} by {reply!r}")
+
     def fill(self, texts):
         """Adds and commits the texts, and gives the seconds until the last reply."""
         lines = "".join(asks_for(texts)).encode()

@@ -9,7 +9,7 @@ use std::alloc::AllocError;
 pub enum Command {
     /// Adds a document with this text.
     Add(String),
-    /// Deletes the live document of this number; so far one that is not committed yet.
+    /// Deletes the live document of this number.
     Delete(DocNo),
     /// Asks for the numbers of the live documents that satisfy the query.
     Find(Query),
@@ -17,6 +17,8 @@ pub enum Command {
     Show(DocNo),
     /// Writes what is uncommitted to the disk, so that it outlives a crash.
     Commit,
+    /// Makes one segment of all, without what is deleted in them.
+    Merge,
     /// Asks how many documents live, and for the next number.
     Count,
 }
@@ -41,7 +43,7 @@ pub enum Refusal {
     BufferFull,
     /// The next number is 4,294,967,295, or a generation or segment id has reached its end.
     NumbersUsedUp,
-    /// No live document has the number; for a deletion, so far, none that is not committed yet.
+    /// No live document has the number.
     NoSuchDocument,
     /// The body in force names as many segments as it can, and a document is new.
     TooManySegments,
@@ -87,6 +89,8 @@ pub enum Reply {
     Text(String),
     /// What was uncommitted is written.
     Committed,
+    /// All segments are one.
+    Merged,
     /// The counts of the collection.
     Counted(Counts),
     /// The command was refused.

@@ -9,7 +9,7 @@ use Rattle.pk_model.specs.Tree.{Tree, satisfies}
 use Rattle.pk_model.specs.Views.{numbers_in}
 use Rattle.pk_model.specs.Words.{words_of}
 use Rattle.pk_segment.specs.declared.fault.ReadFault.{ReadFault}
-use Rattle.pk_segment.specs.Plain.{SegmentSpells}
+use Rattle.pk_segment.specs.Plain.{DirectorySpells, SegmentSpells}
 use Rattle.pk_segment.specs.Reading.{IsNoDamage}
 use Rattle.pk_segment.specs.declared.segment.Segment.{Segment}
 use Rattle.pk_segment.specs.Opened.{IsSegmentOf, count_of}
@@ -17,10 +17,13 @@ use Rattle.pk_manifest.specs.declared.manifest.Part.{Part as Entry}
 use Rattle.pk_disk.specs.Units.{extent_bytes, start_of}
 use Rattle.pk_disk.specs.declared.units.Extent.{Extent}
 use Rattle.pk_words.specs.WordSet.{HaveSameWords}
-use Rattle.pk_search.specs.Finding.{FoundAs, all_of}
+use Rattle.pk_search.specs.Finding.{FoundAs}
+use Rattle.pk_search.specs.declared.opened.OpenSegment.{OpenSegment}
+use Rattle.pk_search.specs.Opened.{AreOpenOf, IsOpenOf, none_stored, present, with_deleted}
+use Rattle.pk_state.proofs.WholeLemmas.{live_cons}
 use Rattle.pk_state.specs.Committed.{Stored, live_in, live_of, lists}
-use Rattle.pk_state.specs.Holds.{ListSpells, SpellsEntries, SpellsEntry}
-use Rattle.pk_state.specs.Kept.{AreSegments, LieInside}
+use Rattle.pk_state.specs.Holds.{SpellsEntries, SpellsEntry}
+use Rattle.pk_state.specs.Kept.{LieInside}
 use Rattle.pk_buffer.proofs.SatisfiesLemmas.{satisfies_same}
 
 -- ONE DOCUMENT. It is found just where its set of words satisfies the query.
@@ -66,21 +69,18 @@ pub found_fault : {T : Type 0} (query : Tree) (docs : List Doc) (before now : Li
 found_fault query docs before now r x y e same cause = subst (FoundAs query docs before now) (sym e) (subst IsNoDamage (sym same) cause)
 
 -- ENTRIES AND SEGMENTS BY THEIR PLACE
-abbrev pub none_stored : Stored
-none_stored = record { documents = []; dead = [] }
+pub opened_long : (os : List OpenSegment) (stored : List Stored) → AreOpenOf os stored → length os ≡ length stored
+opened_long [] [] are = refl
+opened_long [] (s ∷ stored) are = absurd are
+opened_long (o ∷ os) [] are = absurd are
+opened_long (o ∷ os) (s ∷ stored) are = ap suc (opened_long os stored are.1)
 
-pub segments_long : (os : List Segment) (stored : List Stored) → AreSegments os stored → length os ≡ length stored
-segments_long [] [] are = refl
-segments_long [] (s ∷ stored) are = absurd are
-segments_long (o ∷ os) [] are = absurd are
-segments_long (o ∷ os) (s ∷ stored) are = ap suc (segments_long os stored are.1)
-
-pub segment_at : (os : List Segment) (stored : List Stored) (i : ℕ) (o : Segment) → AreSegments os stored → i < length os → o ≡ get_or os i o
-    → IsSegmentOf o (get_or stored i none_stored).documents
-segment_at [] stored i o are lt at = absurd (omega arith)
-segment_at (x ∷ os) [] i o are lt at = absurd are
-segment_at (x ∷ os) (s ∷ stored) zero o are lt at = subst (λ y. IsSegmentOf y s.documents) (sym at) are.0
-segment_at (x ∷ os) (s ∷ stored) (suc i) o are lt at = segment_at os stored i o are.1 (omega arith) at
+pub opened_at : (os : List OpenSegment) (stored : List Stored) (i : ℕ) (o : OpenSegment) → AreOpenOf os stored → i < length os → o ≡ get_or os i o
+    → IsOpenOf o (get_or stored i none_stored)
+opened_at [] stored i o are lt at = absurd (omega arith)
+opened_at (x ∷ os) [] i o are lt at = absurd are
+opened_at (x ∷ os) (s ∷ stored) zero o are lt at = subst (λ y. IsOpenOf y s) (sym at) are.0
+opened_at (x ∷ os) (s ∷ stored) (suc i) o are lt at = opened_at os stored i o are.1 (omega arith) at
 
 pub entry_at : (bytes : List ℕ) (es : List Entry) (stored : List Stored) (i : ℕ) (e : Entry) → SpellsEntries bytes es stored → i < length es → e ≡ get_or es i e
     → SpellsEntry bytes e (get_or stored i none_stored)
@@ -89,26 +89,72 @@ entry_at bytes (x ∷ es) [] i e spells lt at = absurd spells
 entry_at bytes (x ∷ es) (s ∷ stored) zero e spells lt at = subst (λ (y : Entry). SpellsEntry bytes y s) (sym at) spells.0
 entry_at bytes (x ∷ es) (s ∷ stored) (suc i) e spells lt at = entry_at bytes es stored i e spells.1 (omega arith) at
 
+-- what spells documents has their directory
+pub directory_of : (bytes : List ℕ) (docs : List Doc) (kind : ℕ) → SegmentSpells bytes docs kind → DirectorySpells bytes docs kind
+directory_of bytes docs kind spells = record { segment = bytes; spelled = spells; long = refl; same = refl }
+
 -- a spelling is one of kind 1
 pub spells_plain : (bytes : List ℕ) (e : Entry) (s : Stored) → SpellsEntry bytes e s → SegmentSpells (extent_bytes bytes e.extent) s.documents 1
 spells_plain bytes e s spells = (refl, spells.segment.1)
 
 pub inside_at : (size : ℕ) (es : List Entry) (i : ℕ) (e : Entry) → LieInside size es → i < length es → e ≡ get_or es i e → start_of e.extent + e.extent.bytes ≤ size
-inside_at size es i e inside lt at = subst (λ (y : Entry). start_of y.extent + y.extent.bytes ≤ size) (sym at) (inside i e lt)
+inside_at size es i e inside lt at = subst (λ (y : Entry). start_of y.extent + y.extent.bytes ≤ size) (sym at) (inside i e lt).0
 
--- the documents of one segment more
-all-next : (stored : List Stored) (i : ℕ) → i < length stored → all_of (take (suc i) stored) ≡ all_of (take i stored) ++ (get_or stored i none_stored).documents
-all-next [] i lt = absurd (omega arith)
-all-next (s ∷ stored) zero lt = append-nil s.documents
-all-next (s ∷ stored) (suc i) lt = ap (λ ds. s.documents ++ ds) (all-next stored i (omega arith)) ∙ sym (append_assoc s.documents (all_of (take i stored)) (get_or stored i none_stored).documents)
+-- WHAT IS LEFT of the documents so far
+abbrev pub left : List ℕ → List Doc → List Doc
+left deleted docs = filter (λ d. not (lists d.number deleted)) docs
 
--- the numbers found in it too
-pub found_segment : (query : Tree) (os : List Segment) (stored : List Stored) (i : ℕ) (before mid now : List DocNo) → AreSegments os stored → i < length os
-    → numbers_in mid ≡ numbers_in before ++ answer query (all_of (take i stored)) → numbers_in now ≡ numbers_in mid ++ answer query (get_or stored i none_stored).documents
-    → numbers_in now ≡ numbers_in before ++ answer query (all_of (take (i + 1) stored))
-found_segment query os stored i before mid now are lt one two =
-    let within : i < length stored = omega (arith, segments_long os stored are) in
-    found_more query (all_of (take i stored)) (get_or stored i none_stored).documents before mid now one two ∙ ap (λ ds. numbers_in before ++ answer query ds) (sym (rw add-one (all-next stored i within)))
+left_one : (deleted : List ℕ) (d : Doc) (b : Bool) → lists d.number deleted ≡ b → left deleted (d ∷ []) ≡ cond (not b) (d ∷ []) []
+left_one deleted d b e = ap (λ x. cond (not x) (d ∷ []) []) e
+
+pub left_next : (deleted : List ℕ) (docs : List Doc) (i : ℕ) (d : Doc) (b : Bool) → slice_get docs i ≡ Some d → lists d.number deleted ≡ b
+    → left deleted (take (i + 1) docs) ≡ left deleted (take i docs) ++ cond (not b) (d ∷ []) []
+left_next deleted docs i d b at e =
+    ap (left deleted) (rw add-one (take-at docs i d at)) ∙ filter-append (λ x. not (lists x.number deleted)) (take i docs) (d ∷ []) ∙ ap (λ ds. left deleted (take i docs) ++ ds) (left_one deleted d b e)
+
+-- one document more that is not deleted, and one that is
+pub found_left : (query : Tree) (deleted : List ℕ) (docs : List Doc) (i : ℕ) (d : Doc) (before mid now : List DocNo) → slice_get docs i ≡ Some d → lists d.number deleted ≡ false
+    → numbers_in mid ≡ numbers_in before ++ answer query (left deleted (take i docs)) → numbers_in now ≡ numbers_in mid ++ answer query (d ∷ [])
+    → numbers_in now ≡ numbers_in before ++ answer query (left deleted (take (i + 1) docs))
+found_left query deleted docs i d before mid now at e one two =
+    found_more query (left deleted (take i docs)) (d ∷ []) before mid now one two ∙ ap (λ ds. numbers_in before ++ answer query ds) (sym (left_next deleted docs i d false at e))
+
+pub passed_over : (query : Tree) (deleted : List ℕ) (docs : List Doc) (i : ℕ) (d : Doc) (before now : List DocNo) → slice_get docs i ≡ Some d → lists d.number deleted ≡ true
+    → numbers_in now ≡ numbers_in before ++ answer query (left deleted (take i docs)) → numbers_in now ≡ numbers_in before ++ answer query (left deleted (take (i + 1) docs))
+passed_over query deleted docs i d before now at e one =
+    one ∙ ap (λ ds. numbers_in before ++ answer query ds) (sym (left_next deleted docs i d true at e ∙ append-nil (left deleted (take i docs))))
+
+-- WHAT IS PRESENT, by its place
+pub present_at : (os : List OpenSegment) (stored : List Stored) (i : ℕ) (o : OpenSegment) → AreOpenOf os stored → i < length os → o ≡ get_or os i o
+    → get_or (present os stored) i none_stored ≡ with_deleted o (get_or stored i none_stored)
+present_at [] stored i o are lt at = absurd (omega arith)
+present_at (x ∷ os) [] i o are lt at = absurd are
+present_at (x ∷ os) (s ∷ stored) zero o are lt at = ap (λ y. with_deleted y s) (sym at)
+present_at (x ∷ os) (s ∷ stored) (suc i) o are lt at = present_at os stored i o are.1 (omega arith) at
+
+pub present_long : (os : List OpenSegment) (stored : List Stored) → AreOpenOf os stored → length (present os stored) ≡ length os
+present_long [] [] are = refl
+present_long [] (s ∷ stored) are = absurd are
+present_long (o ∷ os) [] are = absurd are
+present_long (o ∷ os) (s ∷ stored) are = ap suc (present_long os stored are.1)
+
+live_next : (stored : List Stored) (i : ℕ) → i < length stored → live_in (take (suc i) stored) ≡ live_in (take i stored) ++ live_of (get_or stored i none_stored)
+live_next [] i lt = absurd (omega arith)
+live_next (s ∷ stored) zero lt = live_cons s [] ∙ append-nil (live_of s)
+live_next (s ∷ stored) (suc i) lt =
+    live_cons s (take (suc i) stored) ∙ ap (λ ds. live_of s ++ ds) (live_next stored i (omega arith))
+    ∙ sym (append_assoc (live_of s) (live_in (take i stored)) (live_of (get_or stored i none_stored)))
+    ∙ ap (λ ds. ds ++ live_of (get_or stored i none_stored)) (sym (live_cons s (take i stored)))
+
+-- the numbers found in one segment more
+pub found_segment : (query : Tree) (os : List OpenSegment) (stored : List Stored) (i : ℕ) (o : OpenSegment) (before mid now : List DocNo) → AreOpenOf os stored → i < length os → o ≡ get_or os i o
+    → numbers_in mid ≡ numbers_in before ++ answer query (live_in (take i (present os stored))) → numbers_in now ≡ numbers_in mid ++ answer query (live_of (with_deleted o (get_or stored i none_stored)))
+    → numbers_in now ≡ numbers_in before ++ answer query (live_in (take (i + 1) (present os stored)))
+found_segment query os stored i o before mid now are lt at one two =
+    let here = ap live_of (present_at os stored i o are lt at) in
+    found_more query (live_in (take i (present os stored))) (live_of (with_deleted o (get_or stored i none_stored))) before mid now one two
+    ∙ ap (λ ds. numbers_in before ++ answer query (live_in (take i (present os stored)) ++ ds)) (sym here)
+    ∙ ap (λ ds. numbers_in before ++ answer query ds) (sym (rw add-one (live_next (present os stored) i (omega (arith, lt, present_long os stored are)))))
 
 pub entries_long : (bytes : List ℕ) (es : List Entry) (stored : List Stored) → SpellsEntries bytes es stored → length es ≡ length stored
 entries_long bytes [] [] spells = refl
@@ -116,45 +162,15 @@ entries_long bytes [] (s ∷ stored) spells = absurd spells
 entries_long bytes (e ∷ es) [] spells = absurd spells
 entries_long bytes (e ∷ es) (s ∷ stored) spells = ap suc (entries_long bytes es stored spells.1)
 
--- THE LIVE DOCUMENTS are those that the segments spell
-all_kept : (docs : List Doc) → filter (λ d. true) docs ≡ docs
-all_kept [] = refl
-all_kept (d ∷ docs) = ap (λ ds. d ∷ ds) (all_kept docs)
-
-none_dead : (bytes : List ℕ) (e : Entry) (s : Stored) → SpellsEntry bytes e s → s.dead ≡ []
-none_dead bytes e s spells = by e.dead spells.list
-  where
-    by : (list : Option Extent) → ListSpells bytes list s.dead → s.dead ≡ []
-    by None is = is
-    by (Some x) is = absurd is
-
-live_here : (s : Stored) → s.dead ≡ [] → live_of s ≡ s.documents
-live_here s none = ap (λ (dead : List ℕ). filter (λ d. not (lists d.number dead)) s.documents) none ∙ all_kept s.documents
-
-pub live_documents : (bytes : List ℕ) (es : List Entry) (stored : List Stored) → SpellsEntries bytes es stored → live_in stored ≡ all_of stored
-live_documents bytes [] [] spells = refl
-live_documents bytes [] (s ∷ stored) spells = absurd spells
-live_documents bytes (e ∷ es) [] spells = absurd spells
-live_documents bytes (e ∷ es) (s ∷ stored) spells = ap (λ ds. ds ++ live_in stored) (live_here s (none_dead bytes e s spells.0)) ∙ ap (λ ds. s.documents ++ ds) (live_documents bytes es stored spells.1)
-
 -- the numbers found in all of them
-pub found_all : (query : Tree) (bytes : List ℕ) (es : List Entry) (os : List Segment) (stored : List Stored) (n : ℕ) (before now : List DocNo)
-    → SpellsEntries bytes es stored → AreSegments os stored → n ≡ min (length es) (length os) → numbers_in now ≡ numbers_in before ++ answer query (all_of (take n stored))
-    → numbers_in now ≡ numbers_in before ++ answer query (live_in stored)
+pub found_all : (query : Tree) (bytes : List ℕ) (es : List Entry) (os : List OpenSegment) (stored : List Stored) (n : ℕ) (before now : List DocNo)
+    → SpellsEntries bytes es stored → AreOpenOf os stored → n ≡ min (length es) (length os) → numbers_in now ≡ numbers_in before ++ answer query (live_in (take n (present os stored)))
+    → numbers_in now ≡ numbers_in before ++ answer query (live_in (present os stored))
 found_all query bytes es os stored n before now spells are ends e =
-    e ∙ ap (λ docs. numbers_in before ++ answer query (all_of docs)) (take_all n stored (omega (arith, ends, entries_long bytes es stored spells, segments_long os stored are)))
-    ∙ ap (λ ds. numbers_in before ++ answer query ds) (sym (live_documents bytes es stored spells))
+    e ∙ ap (λ ts. numbers_in before ++ answer query (live_in ts)) (take_all n (present os stored) (omega (arith, ends, entries_long bytes es stored spells, opened_long os stored are, present_long os stored are)))
 
 -- the numbers of the segments, and those of the buffer behind them
 pub found_both : (before mid later now : List DocNo) (xs ys : List ℕ) → before ≡ [] → numbers_in mid ≡ numbers_in before ++ xs → numbers_in later ≡ ys → now ≡ mid ++ later
     → numbers_in now ≡ xs ++ ys
 found_both before mid later now xs ys none one two e =
     ap numbers_in e ∙ map-append (λ (n : DocNo). n.0) mid later ∙ ap (λ ns. ns ++ numbers_in later) (one ∙ ap (λ ns. numbers_in ns ++ xs) none) ∙ ap (λ ns. xs ++ ns) two
-
--- HOW MANY documents the segments have
-pub count_all : (os : List Segment) (stored : List Stored) → AreSegments os stored → sum_by count_of os ≡ length (all_of stored)
-count_all [] [] are = refl
-count_all [] (s ∷ stored) are = absurd are
-count_all (o ∷ os) [] are = absurd are
-count_all (o ∷ os) (s ∷ stored) are =
-    sum_by-cons count_of o os ∙ ap (λ n. n + sum_by count_of os) are.0.count_is ∙ ap (λ n. length s.documents + n) (count_all os stored are.1) ∙ sym (length-append s.documents (all_of stored))

@@ -1,12 +1,17 @@
--- Bytes that have the directory of a segment have its header and its entries.
+-- Bytes that have the directory of a segment have its header and its entries; so has a directory
+-- that was read from them.
 use Rattle.std.proofs.Common.{◌≡◌, ℕ, zero, suc, ◌+◌, ◌*◌, ◌<◌, ◌≤◌, List, [], ◌∷◌, ◌++◌, length, take, drop, refl, sym, ap, subst, ◌∙◌, arith}
-use Rattle.std.proofs.lemmas.List.{drop-take, take-take, take_all, length-map}
+use Rattle.std.proofs.lemmas.List.{drop-take, take-take, take_all, length-map, length-take, length-drop}
 use Rattle.pk_model.specs.Collection.{Doc, numbers_of}
+use Rattle.pk_segment.specs.declared.directory.Directory.{Directory}
+use Rattle.pk_segment.specs.declared.directory.Entry.{Entry}
 use Rattle.pk_segment.specs.declared.header.Header.{Header}
-use Rattle.pk_segment.specs.Fields.{IsHeader, header_field, entry_field, entry_numbers, number_at}
+use Rattle.pk_segment.specs.Directory.{EntrySays, IsDirectoryOf, entries_in, field_in}
+use Rattle.pk_segment.specs.Fields.{IsEntry, IsHeader, header_field, entry_field, entry_numbers, number_at}
 use Rattle.pk_segment.specs.Plain.{SegmentSpells, DirectorySpells}
-use Rattle.pk_segment.proofs.PlainLemmas.{entry_number_at, numbers_more}
+use Rattle.pk_segment.proofs.PlainLemmas.{entry_number_at, entry_says, numbers_more}
 use Rattle.pk_segment.proofs.OpeningLemmas.{long_enough}
+use Rattle.pk_segment.proofs.Window.{window}
 
 -- a segment has its own directory
 pub directory_of : (bytes : List ℕ) (docs : List Doc) (kind : ℕ) → SegmentSpells bytes docs kind
@@ -42,6 +47,16 @@ number_in bytes docs kind i number is lt read =
     let same = same_part 12 (24 + 12 * i) (24 + 12 * length docs) bytes is.segment (omega (arith, lt)) is.same in
     read ∙ ap (number_at 0) same
 
+-- what an entry that was read says of its document
+pub says : (bytes : List ℕ) (docs : List Doc) (kind i : ℕ) (e : Entry)
+    → DirectorySpells bytes docs kind → i < length docs → IsEntry (entry_field bytes i) e
+    → EntrySays docs i e.number e.at e.len
+says bytes docs kind i e is lt read =
+    let same = same_part 12 (24 + 12 * i) (24 + 12 * length docs) bytes is.segment (omega (arith, lt)) is.same in
+    entry_says is.segment docs i e.number e.at e.len is.spelled.1 lt
+    (read.number_is ∙ ap (number_at 0) same) (read.at_is ∙ ap (number_at 4) same)
+    (read.len_is ∙ ap (number_at 8) same)
+
 -- the numbers of the first entries are those of the first documents
 pub first_numbers : (bytes : List ℕ) (docs : List Doc) (kind n : ℕ)
     → DirectorySpells bytes docs kind → n ≤ length docs
@@ -62,3 +77,42 @@ pub all_numbers : (bytes : List ℕ) (docs : List Doc) (kind n : ℕ) → Direct
 all_numbers bytes docs kind n is same =
     first_numbers bytes docs kind n is (omega (arith, same))
     ∙ take_all n (numbers_of docs) (omega (arith, same, length-map docs (λ (d : Doc). d.number)))
+
+-- ---- a directory in memory
+
+-- a directory that was read has the entries of the bytes
+pub field_read : (d : Directory) (bytes : List ℕ) (count i : ℕ)
+    → d.bytes.items ≡ take (12 * count) (drop 24 bytes) → i < count
+    → field_in d i ≡ entry_field bytes i
+field_read d bytes count i read lt =
+    ap (λ (xs : List ℕ). take 12 (drop (12 * i) xs)) read
+    ∙ window 12 (12 * i) (12 * count) 24 bytes (omega (arith, lt))
+
+-- it is that of the documents whose directory the bytes have
+pub directory_read : (d : Directory) (bytes : List ℕ) (docs : List Doc) (kind count : ℕ)
+    → DirectorySpells bytes docs kind → count ≡ length docs
+    → d.bytes.items ≡ take (12 * count) (drop 24 bytes) → IsDirectoryOf d docs kind
+directory_read d bytes docs kind count is all read = record {
+  segment = is.segment;
+  spelled = is.spelled;
+  same = read ∙ ap (λ (n : ℕ). take (12 * n) (drop 24 bytes)) all
+      ∙ same_part (12 * length docs) 24 (24 + 12 * length docs) bytes is.segment (omega arith) is.same;
+}
+
+-- it has an entry for each document
+pub entries_of : (d : Directory) (docs : List Doc) (kind : ℕ) → IsDirectoryOf d docs kind
+    → entries_in d ≡ length docs
+entries_of d docs kind is =
+    let long = long_enough is.segment docs is.spelled.1 in
+    let size = ap length is.same ∙ length-take (12 * length docs) (drop 24 is.segment) in
+    omega (arith, long, size, length-drop 24 is.segment)
+
+-- what its ith entry says
+pub says_in : (d : Directory) (docs : List Doc) (kind i : ℕ) (e : Entry)
+    → IsDirectoryOf d docs kind → i < length docs → IsEntry (field_in d i) e
+    → EntrySays docs i e.number e.at e.len
+says_in d docs kind i e is lt read =
+    let same = field_read d is.segment (length docs) i is.same lt in
+    entry_says is.segment docs i e.number e.at e.len is.spelled.1 lt
+    (read.number_is ∙ ap (number_at 0) same) (read.at_is ∙ ap (number_at 4) same)
+    (read.len_is ∙ ap (number_at 8) same)

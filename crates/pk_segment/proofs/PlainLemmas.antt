@@ -1,13 +1,13 @@
 -- What a segment of kind 1 spells is read again.
 use Rattle.std.proofs.Common.{◌≡◌, ℕ, zero, suc, ◌+◌, ◌*◌, ◌-◌, ◌^◌, ◌<◌, ◌≤◌, List, [], ◌∷◌, ◌++◌, length, take, drop, map, Some, None, eqb, true, false, refl, sym, ap, subst, ◌∙◌, append_assoc, arith}
 use Rattle.std.proofs.lemmas.List.{length-map, length-append, take_at, drop_at, drop-drop, append-nil}
-use Rattle.std.proofs.lemmas.Bool.{eq-eqb, ne_eqb}
+use Rattle.std.proofs.lemmas.Bool.{eq-eqb, ne_eqb, or_parts, or_right}
 use Rattle.std.proofs.lemmas.List.Concat.{flat_map-cons}
 use Rattle.std.proofs.lemmas.Nat.{from_le_bytes-to_le_bytes_4}
 use Rattle.std.proofs.lemmas.List.Elements.{All-head, All-tail}
 use Rattle.std.specs.Prelude.{All, slice_index}
 use Rattle.std.specs.List.Sorted.{IsStrictlyIncreasing}
-use Rattle.pk_model.specs.Collection.{Doc, numbers_of}
+use Rattle.pk_model.specs.Collection.{Doc, numbers_of, is_live}
 use Rattle.pk_segment.specs.Directory.{doc_in, offset_in, EntrySays}
 use Rattle.pk_segment.specs.Fields.{number_at, header_field, entry_field}
 use Rattle.pk_segment.specs.Plain.{le32, texts, directory_entry, directory, header, plain_spelling, plain_length, AreDocuments, PlainSpells, longest}
@@ -205,11 +205,24 @@ text_found above (d ∷ docs) (suc i) n rise h e =
     let t : eqb d.number n ≡ false = ne_eqb d.number n (λ same. absurd (omega (arith, same, e, more))) in
     rw t (text_found d.number docs i n rise.2 lt e)
 
-pub text_missing : (docs : List Doc) (n : ℕ) → ((i : ℕ) → i < length docs → (doc_in docs i).number ≡ n → ⊥) → text_of docs n ≡ None
+-- the document of the ith number is there, and that of none is not
+pub live_at : (docs : List Doc) (i n : ℕ) → i < length docs → (doc_in docs i).number ≡ n → is_live n docs ≡ true
+live_at [] i n h e = absurd (omega arith)
+live_at (d ∷ docs) zero n h e = let t : eqb d.number n ≡ true = eq-eqb d.number n e in rw t refl
+live_at (d ∷ docs) (suc i) n h e = or_right (eqb d.number n) (is_live n docs) (live_at docs i n (omega arith) e)
+
+pub live_missing : (docs : List Doc) (n : ℕ) → ((i : ℕ) → i < length docs → (doc_in docs i).number ≡ n → ⊥) → is_live n docs ≡ false
+live_missing [] n none = refl
+live_missing (d ∷ docs) n none =
+    let t : eqb d.number n ≡ false = ne_eqb d.number n (λ same. none 0 (omega arith) same) in
+    rw t (live_missing docs n (λ i h e. none (suc i) (omega arith) e))
+
+-- so it has no text
+pub text_missing : (docs : List Doc) (n : ℕ) → is_live n docs ≡ false → text_of docs n ≡ None
 text_missing [] n none = refl
 text_missing (d ∷ docs) n none =
-    let t : eqb d.number n ≡ false = ne_eqb d.number n (λ same. none 0 (omega arith) same) in
-    rw t (text_missing docs n (λ i h e. none (suc i) (omega arith) e))
+    let parts = or_parts (eqb d.number n) (is_live n docs) none in
+    rw parts.0 (text_missing docs n parts.1)
 
 -- where a text is
 pub text_in : (docs : List Doc) (i at : ℕ) → i < length docs → (offset_in at docs i + length (doc_in docs i).text ≤ at + length (texts docs)) × (at ≤ offset_in at docs i) × (take (length (doc_in docs i).text) (drop (offset_in at docs i - at) (texts docs)) ≡ (doc_in docs i).text)

@@ -1,5 +1,5 @@
 -- What reading a segment of kind 1 rests on.
-use Rattle.std.proofs.Common.{◌≡◌, ℕ, zero, suc, ◌/◌, ◌+◌, ◌*◌, ◌^◌, ◌<◌, ◌≤◌, List, [], ◌∷◌, ◌++◌, length, take, Some, None, refl, sym, ap, subst, ◌∙◌, arith, inl, inr, get_or}
+use Rattle.std.proofs.Common.{◌≡◌, ℕ, zero, suc, ◌/◌, ◌+◌, ◌*◌, ◌^◌, ◌<◌, ◌≤◌, List, [], ◌∷◌, length, Some, None, refl, sym, ap, subst, ◌∙◌, arith, inl, inr, get_or, false}
 use Rattle.std.proofs.lemmas.Bool.{cases_lt}
 use Rattle.std.specs.Prelude.{All, IsUtf8}
 use Rattle.std.specs.List.Sorted.{IsStrictlyIncreasing}
@@ -7,20 +7,19 @@ use Rattle.std.proofs.lemmas.List.{length-map}
 use Rattle.std.proofs.lemmas.List.Elements.{All-map, All-head, All-tail}
 use Rattle.std.proofs.lemmas.Str.{IsUtf8-string_bytes}
 use Rattle.pk_model.specs.declared.documents.Document.{Document}
-use Rattle.pk_model.specs.Collection.{Doc, numbers_of}
+use Rattle.pk_model.specs.Collection.{Doc, numbers_of, is_live}
 use Rattle.pk_model.specs.Views.{doc_of}
-use Rattle.pk_segment.specs.Plain.{texts, plain_length, docs_of, longest, AreDocuments, PlainSpells}
+use Rattle.pk_segment.specs.Plain.{texts, plain_length, docs_of, longest, AreDocuments}
 use Rattle.std.proofs.Math.Nat.{pow-suc}
-use Rattle.std.specs.Prelude.{slice_get}
+use Rattle.std.specs.Prelude.{Option, is_some, slice_get}
 use Rattle.pk_posting.specs.declared.source.SourceFault.{SourceFault}
 use Rattle.pk_posting.specs.declared.source.SourceFault.TheVariants as source
 use Rattle.pk_segment.specs.declared.directory.Entry.{Entry}
 use Rattle.pk_segment.specs.declared.fault.ReadFault.{ReadFault}
 use Rattle.pk_segment.specs.declared.fault.ReadFault.TheVariants.{Damaged, Disk, Memory}
-use Rattle.pk_segment.specs.Directory.{doc_in, EntrySays}
-use Rattle.pk_segment.specs.Fields.{IsEntry, entry_field}
+use Rattle.pk_segment.specs.Directory.{doc_in, EntrySays, FindsEntry}
 use Rattle.pk_segment.specs.Reading.{IsNoDamage, read_of, text_of}
-use Rattle.pk_segment.proofs.PlainLemmas.{length_parts, parts_of, entry_says, numbers_more, rise_in, rise_of, text_found, text_missing}
+use Rattle.pk_segment.proofs.PlainLemmas.{parts_of, rise_in, rise_of, text_found, live_at, live_missing}
 
 -- the length of the segment of documents of the code
 pub size_all : (ds : List Document) → 24 + 12 * length ds + length (texts (docs_of ds)) ≡ plain_length (docs_of ds)
@@ -51,43 +50,32 @@ pub cause_read : (f : SourceFault) → (f ≡ source.Damaged → ⊥) → (y : R
 cause_read source.Damaged h y same = absurd (h refl)
 cause_read source.Disk h y same = subst (λ (x : ReadFault). IsNoDamage x) (sym same) tt
 
--- what an entry that was read says of its document
-pub says : (bytes : List ℕ) (docs : List Doc) (i : ℕ) (e : Entry) → PlainSpells bytes docs → i < length docs → IsEntry (entry_field bytes i) e → EntrySays docs i e.number e.at e.len
-says bytes docs i e is lt at = entry_says bytes docs i e.number e.at e.len is lt at.number_is at.at_is at.len_is
-
--- an entry that there is lies within the bytes
-pub entry_within : (bytes : List ℕ) (docs : List Doc) (i : ℕ) → PlainSpells bytes docs → i < length docs → 24 + 12 * i + 12 ≤ length bytes
-entry_within bytes docs i is lt = omega (arith, length_parts docs, ap length is.same)
-
--- one number more
-pub numbers_next : (bytes : List ℕ) (docs : List Doc) (i : ℕ) (e : Entry) (out : List ℕ) → PlainSpells bytes docs → i < length docs → IsEntry (entry_field bytes i) e
-    → out ≡ take i (numbers_of docs) → out ++ e.number ∷ [] ≡ take (i + 1) (numbers_of docs)
-numbers_next bytes docs i e out is lt at so_far =
-    ap (λ (x : List ℕ). x ++ e.number ∷ []) so_far ∙ ap (λ (n : ℕ). take i (numbers_of docs) ++ n ∷ []) (says bytes docs i e is lt at).number_is ∙ sym (numbers_more docs i lt)
-
 -- all below the middle are below its number, and all above it above
-pub below_middle : (bytes : List ℕ) (docs : List Doc) (m i n : ℕ) (e : Entry) → PlainSpells bytes docs → m < length docs → IsEntry (entry_field bytes m) e → e.number < n → i < m + 1 → (doc_in docs i).number < n
-below_middle bytes docs m i n e is lt at below le =
-    let number = (says bytes docs m e is lt at).number_is in
+pub below_middle : (docs : List Doc) (m i n number at len : ℕ) → AreDocuments docs → m < length docs → EntrySays docs m number at len → number < n → i < m + 1 → (doc_in docs i).number < n
+below_middle docs m i n number at len are lt says below le =
     elim (cases_lt i m) [
-      | inl l ↦ omega (arith, rise_in 0 docs i m (rise_of docs is.are) l lt, number)
-      | inr g ↦ let same : i ≡ m = omega arith in rw same (omega (arith, number, below))
+      | inl l ↦ omega (arith, rise_in 0 docs i m (rise_of docs are) l lt, says.number_is)
+      | inr g ↦ let same : i ≡ m = omega arith in rw same (omega (arith, says.number_is, below))
     ]
 
-pub above_middle : (bytes : List ℕ) (docs : List Doc) (m i n : ℕ) (e : Entry) → PlainSpells bytes docs → m < length docs → IsEntry (entry_field bytes m) e → n < e.number → m ≤ i → i < length docs → n < (doc_in docs i).number
-above_middle bytes docs m i n e is lt at above le long =
-    let number = (says bytes docs m e is lt at).number_is in
+pub above_middle : (docs : List Doc) (m i n number at len : ℕ) → AreDocuments docs → m < length docs → EntrySays docs m number at len → n < number → m ≤ i → i < length docs → n < (doc_in docs i).number
+above_middle docs m i n number at len are lt says above le long =
     elim (cases_lt m i) [
-      | inl l ↦ omega (arith, rise_in 0 docs m i (rise_of docs is.are) l long, number)
-      | inr g ↦ let same : i ≡ m = omega arith in rw same (omega (arith, number, above))
+      | inl l ↦ omega (arith, rise_in 0 docs m i (rise_of docs are) l long, says.number_is)
+      | inr g ↦ let same : i ≡ m = omega arith in rw same (omega (arith, says.number_is, above))
     ]
 
 -- nothing is left between
-pub none_between : (docs : List Doc) (low high n : ℕ) → high ≤ low → ((i : ℕ) → i < low → (doc_in docs i).number < n) → ((i : ℕ) → high ≤ i → i < length docs → n < (doc_in docs i).number) → text_of docs n ≡ None
-none_between docs low high n le below above = text_missing docs n (λ i h e. elim (cases_lt i low) [
+pub none_between : (docs : List Doc) (low high n : ℕ) → high ≤ low → ((i : ℕ) → i < low → (doc_in docs i).number < n) → ((i : ℕ) → high ≤ i → i < length docs → n < (doc_in docs i).number) → is_live n docs ≡ false
+none_between docs low high n le below above = live_missing docs n (λ i h e. elim (cases_lt i low) [
   | inl l ↦ omega (arith, below i l, e)
   | inr g ↦ let hi : high ≤ i = omega arith in omega (arith, above i hi h, e)
 ])
+
+-- an entry is found exactly where a document has the number
+pub live_found : (docs : List Doc) (n : ℕ) (o : Option Entry) → FindsEntry docs n o → is_some o ≡ is_live n docs
+live_found docs n None found = sym found
+live_found docs n (Some e) found = sym (live_at docs found.0 n found.1 (sym found.3.number_is ∙ found.2))
 
 -- the text of the document whose number an entry has
 pub text_is : (docs : List Doc) (i number : ℕ) (text : List ℕ) → AreDocuments docs → i < length docs → number ≡ (doc_in docs i).number → text ≡ (doc_in docs i).text → Some text ≡ text_of docs number

@@ -5,6 +5,7 @@ use Rattle.std.specs.Prelude.{
   ◌+◌,
   ◌/◌,
   ◌≤◌,
+  Bool,
   List,
   find,
   slice_get,
@@ -24,12 +25,13 @@ use Rattle.std.specs.Global.{Vec}
 use Rattle.std.specs.declared.alloc.Global.{Global}
 use Rattle.std.specs.Option.{option_map}
 use Rattle.pk_model.specs.declared.documents.Document.{Document}
-use Rattle.pk_model.specs.Collection.{Doc, numbers_of, has_number}
+use Rattle.pk_model.specs.Collection.{Doc, numbers_of, has_number, is_live}
 use Rattle.pk_model.specs.Views.{doc_of}
 use Rattle.pk_posting.specs.declared.source.SourceFault.{SourceFault}
 use Rattle.pk_posting.specs.declared.source.SourceFault.TheVariants as source
 use Rattle.pk_posting.specs.Source.{Rose}
-use Rattle.pk_segment.specs.Directory.{doc_in}
+use Rattle.pk_segment.specs.declared.directory.Directory.{Directory}
+use Rattle.pk_segment.specs.Directory.{IsDirectoryOf, doc_in}
 use Rattle.pk_segment.specs.declared.fault.ReadFault.{ReadFault}
 use Rattle.pk_segment.specs.declared.fault.ReadFault.TheVariants.{Damaged, Disk, Memory}
 
@@ -56,6 +58,16 @@ pub record CountsReads {T : Type 0} (before now : ℕ) (result : Result T ReadFa
 abbrev pub NumbersAs : List Doc → Result (Vec ℕ) ReadFault → Type 0
 NumbersAs docs (Ok numbers) = numbers.items ≡ numbers_of docs
 NumbersAs docs (Err fault) = IsNoDamage fault
+
+-- whether one of the documents has the number
+abbrev pub ContainsAs : List Doc → ℕ → Result Bool SourceFault → Type 0
+ContainsAs docs n (Ok found) = found ≡ is_live n docs
+ContainsAs docs n (Err fault) = IsNoDamage (read_of fault)
+
+-- the directory of the documents
+abbrev pub DirectoryAs : List Doc → ℕ → Result Directory ReadFault → Type 0
+DirectoryAs docs kind (Ok d) = IsDirectoryOf d docs kind
+DirectoryAs docs kind (Err fault) = IsNoDamage fault
 
 -- the text of the document of a number, if there is one
 abbrev pub text_of : List Doc → ℕ → Option (List ℕ)

@@ -22,22 +22,25 @@
 //!
 //! # What is read
 //!
-//! `Segment::open` reads the header and the first and last entry, and takes no memory. `text_of`
-//! halves the directory and then reads the one text, at most 4,096 bytes at once. Each call that
-//! reads is handed the source; `ExtentSource` is the extent of a disk as one.
+//! `Segment::open` reads the header and the first and last entry, and takes no memory. `contains`
+//! halves the directory; `text_of` does so too, and then reads the one text, at most 4,096 bytes at
+//! once. Whoever wants many documents reads the `directory` into memory, in stretches as long, and
+//! then with `document_in` each text once. Each call that reads is handed the source;
+//! `ExtentSource` is the extent of a disk as one.
 //!
 //! # What is refused
 //!
 //! `build` and `size_of` answer `TooLarge` exactly where the length passes the limit, else at most
 //! `Memory`. On bytes that spell documents a reader answers by them, or `Disk` or `Memory`; on any
-//! others it returns. `open` and `numbers` go by the header and the directory alone, whatever bytes
-//! the texts are (`DirectorySpells`). `Disk` is answered exactly where a read failed. A refused
-//! call changed nothing but the counts, and may be made again. Of the disk below each reader's
-//! clause `keeps` tells, through the source, that it was only read.
+//! others it returns. `open`, `contains`, `directory` and `numbers` go by the header and the
+//! directory alone, whatever bytes the texts are (`DirectorySpells`). `Disk` is answered exactly
+//! where a read failed. A refused call changed nothing but the counts, and may be made again. Of
+//! the disk below each reader's clause `keeps` tells, through the source, that it was only read.
 //!
 //! Where the words are: `specs/Plain` has the spelling, `specs/Opened` and `specs/Reading` what the
-//! readers answer; what is kept of a disk is `KeepsDisk` of pk_disk. Lemma pages: `PlainLemmas`
-//! reads a spelling again, field by field, `ReadLemmas` and `OpeningLemmas` serve the readers.
+//! readers answer, `specs/Directory` what a directory in memory says; what is kept of a disk is
+//! `KeepsDisk` of pk_disk. Lemma pages: `PlainLemmas` reads a spelling again, field by field,
+//! `DirectoryLemmas` a directory, `ReadLemmas` and `OpeningLemmas` serve the readers.
 #![tactic(auto)]
 
 mod building;
@@ -50,6 +53,7 @@ mod segment;
 mod stretch;
 
 pub use building::{BuildFault, build, size_of};
+pub use directory::Directory;
 pub use extent::ExtentSource;
 pub use fault::ReadFault;
 pub use segment::Segment;

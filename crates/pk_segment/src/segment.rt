@@ -19,11 +19,20 @@ ghost use Rattle.std.specs.Prelude.{
 };
 ghost use Rattle.pk_model.specs.Collection.{Doc};
 ghost use Rattle.pk_posting.specs.Source.{CountsFaults};
-ghost use Rattle.pk_segment.specs.Directory.{EntrySays};
+ghost use Rattle.pk_segment.specs.Directory.{
+  EntrySays,
+  FindsEntry,
+  IsDirectoryOf,
+  entries_in,
+  field_in,
+  number_in,
+};
 ghost use Rattle.pk_segment.specs.Fields.{entry_field, entry_numbers, number_at};
 ghost use Rattle.pk_segment.specs.Plain.{DirectorySpells, SegmentSpells};
 ghost use Rattle.pk_segment.specs.Reading.{
+  ContainsAs,
   CountsReads,
+  DirectoryAs,
   DocTextAs,
   DocumentAs,
   NumbersAs,
@@ -32,7 +41,7 @@ ghost use Rattle.pk_segment.specs.Reading.{
   asks_for,
 };
 
-use crate::directory::{Entry, entry_of};
+use crate::directory::{Directory, Entry, entry_of};
 use crate::fault::ReadFault;
 use crate::header::header_of;
 use crate::stretch::stretch;
@@ -146,35 +155,25 @@ impl Segment {
         self.last
     }
 
-    /// The numbers of its documents, in their order: those of the directory, whatever the texts.
+    /// Whether it has the document of a number. It reads the directory by halving, and takes no
+    /// memory.
     ///
     /// `Damaged` only where the directory goes past the source.
-    pub fn numbers<S: ByteSource>(
-        &self,
-        alloc: Global,
-        source: &mut S,
-    ) -> Result<Vec<u32>, ReadFault>
-        ensures read { S.honest → IfOk result
-            (λ out. out.items ≡ entry_numbers (S.content source.old) (count_of self.now)) }
-        ensures damaged { IsErrOf result ReadFault.Damaged
-            → length (S.content source.old) < 24 + 12 * count_of self.now }
+    pub fn contains<S: ByteSource>(&self, source: &mut S, number: u32) -> Result<bool, SourceFault>
         ensures directory { S.honest → (docs : List Doc) (kind : ℕ)
             → DirectorySpells (S.content source.old) docs kind → IsSegmentOf self.now docs
-            → NumbersAs docs result }
+            → ContainsAs docs number result }
+        ensures damaged { IsErrOf result SourceFault.Damaged
+            → length (S.content source.old) < 24 + 12 * count_of self.now }
         ensures content { S.honest → S.content source.new ≡ S.content source.old }
         ensures size { length (S.content source.new) ≡ length (S.content source.old) }
-        ensures asked { S.asked source.new ≤ S.asked source.old + count_of self.now }
+        ensures asked { (k : ℕ) → count_of self.now < 2 ^ k
+            → S.asked source.new ≤ S.asked source.old + k }
         ensures keeps { S.keeps source.old source.new }
-        ensures faults { CountsReads (S.failures source.old) (S.failures source.new) result }
+        ensures faults { CountsFaults (S.failures source.old) (S.failures source.new) result }
     {
-        let mut out = Vec::with_capacity(alloc, self.count as usize)?;
-        for i in 0..self.count {
-            let entry = entry_of(source, i)?;
-            let Ok(()) = out.push(entry.number) else {
-                return Err(ReadFault::Memory);
-            };
-        }
-        Ok(out)
+        let entry = self.entry_with(source, number)?;
+        Ok(entry.is_some())
     }
 
     /// The text of the document of a number, if it has one. It reads the directory by halving, and
@@ -195,25 +194,74 @@ impl Segment {
         ensures keeps { S.keeps source.old source.new }
         ensures faults { CountsReads (S.failures source.old) (S.failures source.new) result }
     {
-        let mut low = 0;
-        let mut high = self.count;
-        while low < high {
-            let middle = low + (high - low) / 2;
-            let entry = entry_of(source, middle)?;
-            if entry.number == number {
-                let text = self.text_at(alloc, source, entry)?;
-                return Ok(Some(text));
-            }
-            if entry.number < number {
-                low = middle + 1;
-            } else {
-                high = middle;
-            }
-        }
-        Ok(None)
+        let Some(entry) = self.entry_with(source, number)? else {
+            return Ok(None);
+        };
+        let text = self.text_at(alloc, source, entry)?;
+        Ok(Some(text))
     }
 
-    /// The `i`th document, the first being 0.
+    /// Its directory, in memory. It is read at most 4,096 bytes at once.
+    ///
+    /// `Damaged` only where the directory goes past the source.
+    pub fn directory<S: ByteSource>(
+        &self,
+        alloc: Global,
+        source: &mut S,
+    ) -> Result<Directory, ReadFault>
+        ensures read { S.honest → IfOk result (λ d. (i : ℕ) → i < count_of self.now
+            → field_in d i ≡ entry_field (S.content source.old) i) }
+        ensures len { IfOk result (λ d. entries_in d ≡ count_of self.now) }
+        ensures damaged { IsErrOf result ReadFault.Damaged
+            → length (S.content source.old) < 24 + 12 * count_of self.now }
+        ensures directory { S.honest → (docs : List Doc) (kind : ℕ)
+            → DirectorySpells (S.content source.old) docs kind → IsSegmentOf self.now docs
+            → DirectoryAs docs kind result }
+        ensures content { S.honest → S.content source.new ≡ S.content source.old }
+        ensures size { length (S.content source.new) ≡ length (S.content source.old) }
+        ensures asked { S.asked source.new
+            ≤ S.asked source.old + asks_for (12 * count_of self.now) }
+        ensures keeps { S.keeps source.old source.new }
+        ensures faults { CountsReads (S.failures source.old) (S.failures source.new) result }
+    {
+        let bytes = stretch(alloc, source, 24, 12 * self.count)?;
+        Ok(Directory::of_bytes(bytes))
+    }
+
+    /// The numbers of its documents, in their order: those of the directory, whatever the texts.
+    ///
+    /// `Damaged` only where the directory goes past the source.
+    pub fn numbers<S: ByteSource>(
+        &self,
+        alloc: Global,
+        source: &mut S,
+    ) -> Result<Vec<u32>, ReadFault>
+        ensures read { S.honest → IfOk result
+            (λ out. out.items ≡ entry_numbers (S.content source.old) (count_of self.now)) }
+        ensures damaged { IsErrOf result ReadFault.Damaged
+            → length (S.content source.old) < 24 + 12 * count_of self.now }
+        ensures directory { S.honest → (docs : List Doc) (kind : ℕ)
+            → DirectorySpells (S.content source.old) docs kind → IsSegmentOf self.now docs
+            → NumbersAs docs result }
+        ensures content { S.honest → S.content source.new ≡ S.content source.old }
+        ensures size { length (S.content source.new) ≡ length (S.content source.old) }
+        ensures asked { S.asked source.new
+            ≤ S.asked source.old + asks_for (12 * count_of self.now) }
+        ensures keeps { S.keeps source.old source.new }
+        ensures faults { CountsReads (S.failures source.old) (S.failures source.new) result }
+    {
+        let directory = self.directory(alloc, source)?;
+        let mut out = Vec::with_capacity(alloc, self.count as usize)?;
+        for i in 0..self.count {
+            let Ok(()) = out.push(directory.number(i)) else {
+                return Err(ReadFault::Memory);
+            };
+        }
+        Ok(out)
+    }
+
+    /// The `i`th document, the first being 0. It reads its entry, and the text at most 4,096 bytes
+    /// at once.
     pub fn document_at<S: ByteSource>(
         &self,
         alloc: Global,
@@ -232,6 +280,87 @@ impl Segment {
         ensures faults { CountsReads (S.failures source.old) (S.failures source.new) result }
     {
         let entry = entry_of(source, i)?;
+        self.document_of(alloc, source, entry)
+    }
+
+    /// The `i`th document, the first being 0, where the directory is in memory. It reads the text
+    /// alone, at most 4,096 bytes at once.
+    pub fn document_in<S: ByteSource>(
+        &self,
+        alloc: Global,
+        source: &mut S,
+        directory: &Directory,
+        i: u32,
+    ) -> Result<Document, ReadFault>
+        requires { i < entries_in directory.now }
+        ensures spelled { S.honest → (docs : List Doc) (kind : ℕ)
+            → SegmentSpells (S.content source.old) docs kind → IsSegmentOf self.now docs
+            → IsDirectoryOf directory.now docs kind → DocumentAs docs i result }
+        ensures number { IfOk result (λ d. d.number.0 ≡ number_in directory.now i) }
+        ensures content { S.honest → S.content source.new ≡ S.content source.old }
+        ensures size { length (S.content source.new) ≡ length (S.content source.old) }
+        ensures asked { IfOk result (λ d. S.asked source.new
+            ≤ S.asked source.old + asks_for (string_len d.text)) }
+        ensures keeps { S.keeps source.old source.new }
+        ensures faults { CountsReads (S.failures source.old) (S.failures source.new) result }
+    {
+        self.document_of(alloc, source, directory.entry(i))
+    }
+
+    // The entry of the document of a number, if it has one, by halving.
+    fn entry_with<S: ByteSource>(
+        &self,
+        source: &mut S,
+        number: u32,
+    ) -> Result<Option<Entry>, SourceFault>
+        ensures found { S.honest → (docs : List Doc) (kind : ℕ)
+            → DirectorySpells (S.content source.old) docs kind → IsSegmentOf self.now docs
+            → IfOk result (FindsEntry docs number) }
+        ensures damaged { IsErrOf result SourceFault.Damaged
+            → length (S.content source.old) < 24 + 12 * count_of self.now }
+        ensures content { S.honest → S.content source.new ≡ S.content source.old }
+        ensures size { length (S.content source.new) ≡ length (S.content source.old) }
+        ensures asked { (k : ℕ) → count_of self.now < 2 ^ k
+            → S.asked source.new ≤ S.asked source.old + k }
+        ensures keeps { S.keeps source.old source.new }
+        ensures faults { CountsFaults (S.failures source.old) (S.failures source.new) result }
+    {
+        let mut low = 0;
+        let mut high = self.count;
+        while low < high {
+            let middle = low + (high - low) / 2;
+            let entry = entry_of(source, middle)?;
+            if entry.number == number {
+                return Ok(Some(entry));
+            }
+            if entry.number < number {
+                low = middle + 1;
+            } else {
+                high = middle;
+            }
+        }
+        Ok(None)
+    }
+
+    // The document of an entry.
+    fn document_of<S: ByteSource>(
+        &self,
+        alloc: Global,
+        source: &mut S,
+        entry: Entry,
+    ) -> Result<Document, ReadFault>
+        ensures spelled { S.honest → (docs : List Doc) (kind i : ℕ)
+            → SegmentSpells (S.content source.old) docs kind → IsSegmentOf self.now docs
+            → i < length docs → EntrySays docs i entry.number entry.at entry.len
+            → DocumentAs docs i result }
+        ensures number { IfOk result (λ d. d.number.0 ≡ entry.number) }
+        ensures content { S.honest → S.content source.new ≡ S.content source.old }
+        ensures size { length (S.content source.new) ≡ length (S.content source.old) }
+        ensures asked { IfOk result (λ d. S.asked source.new
+            ≤ S.asked source.old + asks_for (string_len d.text)) }
+        ensures keeps { S.keeps source.old source.new }
+        ensures faults { CountsReads (S.failures source.old) (S.failures source.new) result }
+    {
         let text = self.text_at(alloc, source, entry)?;
         Ok(Document {
             number: DocNo(entry.number),

@@ -22,6 +22,7 @@ pub enum Ask<'a> {
     Find(&'a str),
     Show(DocNo),
     Commit,
+    Merge,
     Count,
     Quit,
     Unknown,
@@ -65,6 +66,8 @@ fn ask_alone<'a>(word: &str) -> Ask<'a>
 {
     if word == "commit" {
         Ask::Commit
+    } else if word == "merge" {
+        Ask::Merge
     } else if word == "count" {
         Ask::Count
     } else if word == "quit" {

@@ -13,183 +13,13 @@ use Rattle.pk_model.specs.Collection.{Doc, Collection, is_live, numbers_of}
 use Rattle.pk_model.specs.Steps.{commit}
 use Rattle.pk_posting.specs.Spelling.{spelled_length}
 use Rattle.pk_space.specs.Places.{PlacedAs}
-use Rattle.pk_state.specs.Committed.{Stored, Committed, collection_of, deleted_of, has_documents, is_pending, lists, live_in, live_of, uncommitted}
+use Rattle.pk_state.specs.Committed.{Stored, Committed, all_in, collection_of, deleted_of, has_documents, is_pending, lists, live_in, live_of, uncommitted, whole_of}
 use Rattle.pk_state.specs.Legal.{State, Writes}
-use Rattle.pk_state.specs.States.{IsGone, IsState}
+use Rattle.pk_state.specs.States.{IsState}
 use Rattle.pk_state.specs.Writing.{after_commit, commit_writes, lists_to_write, new_stored, segment_writes, stored_after}
 use Rattle.pk_state.proofs.MergeLemmas.{all_kept, collection, live_append}
-
--- ---- members of a list of documents
-
-unfoldable pub In : Doc → List Doc → Type 0
-In d [] = ⊥
-In d (x ∷ xs) = (x ≡ d) ⊎ In d xs
-
-pub in_from : (d : Doc) (xs : List Doc) → Contains xs d → In d xs
-unfolding In
-in_from d [] h = absurd (omega (arith, h.1))
-in_from d (x ∷ xs) h = at (λ g. in_from d xs g) h.0 h.1 h.2
-  where
-    at : (Contains xs d → In d xs) → (k : ℕ) → k < length (x ∷ xs) → slice_index_or (x ∷ xs) k d ≡ d → In d (x ∷ xs)
-    at more zero within e = inl e
-    at more (suc k) within e = inr (more (k, omega arith, e))
-
-pub all_in : (P : Doc → Type 0) (xs : List Doc) → AllByRecursion P xs → (d : Doc) → In d xs → P d
-unfolding In
-all_in P [] all d h = absurd h
-all_in P (x ∷ xs) all d (inl e) = subst P e all.0
-all_in P (x ∷ xs) all d (inr more) = all_in P xs all.1 d more
-
--- ---- numbers that rise
-
--- the numbers rise, from above this one
-pub Above : ℕ → List Doc → Type 0
-Above a [] = Unit {0}
-Above a (d ∷ ds) = (a < d.number) × Above d.number ds
-
-rises : (d : Doc) (ds : List Doc) → IsStrictlyIncreasing (numbers_of (d ∷ ds)) → Above d.number ds
-unfolding Above
-rises d [] h = tt
-rises d (e ∷ ds) h = (h 0 (omega arith), rises e ds (λ k within. let same : suc k + 1 ≡ suc (k + 1) = omega arith in subst (λ n. get_or (numbers_of (e ∷ ds)) k 0 < get_or (numbers_of (d ∷ e ∷ ds)) n 0) same (h (suc k) (omega arith))))
-
-above_first : (next : ℕ) (ds : List Doc) → IsStrictlyIncreasing (numbers_of ds) → AllByRecursion (λ (d : Doc). (1 ≤ d.number) × (d.number < next)) ds → Above 0 ds
-unfolding Above
-above_first next [] h each = tt
-above_first next (d ∷ ds) h each = (let one : 1 ≤ d.number = each.0.0 in omega arith, rises d ds h)
-
-lower : (a b : ℕ) (ds : List Doc) → a < b → Above b ds → Above a ds
-unfolding Above
-lower a b [] h r = tt
-lower a b (d ∷ ds) h r = (omega (arith, r.0), r.1)
-
-above_one : (b : Bool) (a : ℕ) (d : Doc) (ds : List Doc) → a < d.number → Above d.number ds → Above a (cond b (d ∷ ds) ds)
-unfolding Above
-above_one true a d ds h r = (h, r)
-above_one false a d ds h r = lower a d.number ds h r
-
-above_filter : (p : Doc → Bool) (a : ℕ) (ds : List Doc) → Above a ds → Above a (filter p ds)
-unfolding Above
-above_filter p a [] r = tt
-above_filter p a (d ∷ ds) r = above_one (p d) a d (filter p ds) r.0 (above_filter p d.number ds r.1)
-
-above_in : (a : ℕ) (ds : List Doc) (d : Doc) → Above a ds → In d ds → a < d.number
-unfolding Above In
-above_in a [] d r h = absurd h
-above_in a (e ∷ ds) d r (inl same) = subst (λ (x : Doc). a < x.number) same r.0
-above_in a (e ∷ ds) d r (inr more) = omega (arith, r.0, above_in e.number ds d r.1 more)
-
--- a number has one document
-unique : (a : ℕ) (ds : List Doc) → Above a ds → (d e : Doc) → In d ds → In e ds → d.number ≡ e.number → d ≡ e
-unfolding Above In
-unique a [] r d e h g same = absurd h
-unique a (x ∷ xs) r d e (inl p) (inl q) same = sym p ∙ q
-unique a (x ∷ xs) r d e (inl p) (inr m) same = absurd (omega (arith, above_in x.number xs e r.1 m, ap (λ (y : Doc). y.number) p, same))
-unique a (x ∷ xs) r d e (inr m) (inl q) same = absurd (omega (arith, above_in x.number xs d r.1 m, ap (λ (y : Doc). y.number) q, same))
-unique a (x ∷ xs) r d e (inr m) (inr n) same = unique x.number xs r.1 d e m n same
-
--- two such lists with the same members are one
-heads : (x y : Doc) (xs ys : List Doc) → Above x.number xs → Above y.number ys → In x (y ∷ ys) → In y (x ∷ xs) → x ≡ y
-unfolding In
-heads x y xs ys r t (inl e) h = sym e
-heads x y xs ys r t (inr m) (inl e) = e
-heads x y xs ys r t (inr m) (inr n) = absurd (omega (arith, above_in y.number ys x t m, above_in x.number xs y r n))
-
-tails : (x y : Doc) (xs ys : List Doc) → x ≡ y → Above x.number xs → (d : Doc) → In d xs → In d (y ∷ ys) → In d ys
-unfolding In
-tails x y xs ys same r d m (inl e) = absurd (omega (arith, above_in x.number xs d r m, ap (λ (z : Doc). z.number) (same ∙ e)))
-tails x y xs ys same r d m (inr n) = n
-
-pub same_members : (a b : ℕ) (xs ys : List Doc) → Above a xs → Above b ys → ((d : Doc) → In d xs → In d ys) → ((d : Doc) → In d ys → In d xs) → xs ≡ ys
-unfolding Above In
-same_members a b [] [] r t f g = refl
-same_members a b [] (y ∷ ys) r t f g = absurd (g y (inl refl))
-same_members a b (x ∷ xs) [] r t f g = absurd (f x (inl refl))
-same_members a b (x ∷ xs) (y ∷ ys) r t f g =
-    let same = heads x y xs ys r.1 t.1 (f x (inl refl)) (g y (inl refl)) in
-    ap (λ z. z ∷ xs) same ∙ ap (λ zs. y ∷ zs) (same_members x.number y.number xs ys r.1 t.1
-    (λ d m. tails x y xs ys same r.1 d m (f d (inr m)))
-    (λ d m. tails y x ys xs (sym same) t.1 d m (g d (inr m))))
-
--- ---- documents that are kept by a test
-
-pub is_false : (t : Bool) → (t ≡ true → ⊥) → t ≡ false
-is_false true h = absurd (h refl)
-is_false false h = refl
-
-here : (b : Bool) (x d : Doc) (zs : List Doc) → b ≡ true → x ≡ d → In d (cond b (x ∷ zs) zs)
-unfolding In
-here true x d zs h e = inl e
-here false x d zs h e = absurd (let no : false ≡ true = h in cc)
-
-later : (b : Bool) (x d : Doc) (zs : List Doc) → In d zs → In d (cond b (x ∷ zs) zs)
-unfolding In
-later true x d zs h = inr h
-later false x d zs h = h
-
-pub in_filter : (p : Doc → Bool) (d : Doc) (xs : List Doc) → In d xs → p d ≡ true → In d (filter p xs)
-unfolding In
-in_filter p d [] h says = absurd h
-in_filter p d (x ∷ xs) (inl e) says = here (p x) x d (filter p xs) (ap p e ∙ says) e
-in_filter p d (x ∷ xs) (inr m) says = later (p x) x d (filter p xs) (in_filter p d xs m says)
-
-pub out_filter : (p : Doc → Bool) (d : Doc) (xs : List Doc) → In d (filter p xs) → In d xs × (p d ≡ true)
-unfolding In
-out_filter p d [] h = absurd h
-out_filter p d (x ∷ xs) h = by (λ g. let r = out_filter p d xs g in (inr r.0, r.1)) (p x) refl h
-  where
-    by : (In d (filter p xs) → In d (x ∷ xs) × (p d ≡ true)) → (b : Bool) → p x ≡ b → In d (cond b (x ∷ filter p xs) (filter p xs)) → In d (x ∷ xs) × (p d ≡ true)
-    by more true is (inl e) = (inl e, ap p (sym e) ∙ is)
-    by more true is (inr m) = more m
-    by more false is m = more m
-
-filter_same : (p q : Doc → Bool) (xs : List Doc) → ((d : Doc) → In d xs → p d ≡ q d) → filter p xs ≡ filter q xs
-unfolding In
-filter_same p q [] h = refl
-filter_same p q (x ∷ xs) h = ap (λ b. cond b (x ∷ filter p xs) (filter p xs)) (h x (inl refl)) ∙ ap (λ zs. cond (q x) (x ∷ zs) zs) (filter_same p q xs (λ d m. h d (inr m)))
-
--- a test that keeps no more than another one
-filter_twice : (p q : Doc → Bool) (xs : List Doc) → ((d : Doc) → In d xs → q d ≡ false → p d ≡ false) → filter p (filter q xs) ≡ filter p xs
-unfolding In
-filter_twice p q [] h = refl
-filter_twice p q (x ∷ xs) h = by (filter_twice p q xs (λ d m. h d (inr m))) (q x) refl
-  where
-    by : filter p (filter q xs) ≡ filter p xs → (b : Bool) → q x ≡ b → filter p (cond b (x ∷ filter q xs) (filter q xs)) ≡ cond (p x) (x ∷ filter p xs) (filter p xs)
-    by more true is = ap (λ zs. cond (p x) (x ∷ zs) zs) more
-    by more false is = more ∙ sym (ap (λ b. cond b (x ∷ filter p xs) (filter p xs)) (h x (inl refl) is))
-
--- a test that drops nothing
-filter_quiet : (p : Doc → Bool) (xs : List Doc) → list_any (λ d. not (p d)) xs ≡ false → filter p xs ≡ xs
-filter_quiet p [] h = refl
-filter_quiet p (x ∷ xs) h = by (filter_quiet p xs) (p x) h
-  where
-    by : (list_any (λ d. not (p d)) xs ≡ false → filter p xs ≡ xs) → (b : Bool) → (not b || list_any (λ d. not (p d)) xs) ≡ false → cond b (x ∷ filter p xs) (filter p xs) ≡ x ∷ xs
-    by more true g = ap (λ zs. x ∷ zs) (more g)
-    by more false g = absurd (let no : true ≡ false = g in cc)
-
--- ---- numbers that are live or listed
-
-pub listed : (n : ℕ) (ds : List Doc) → lists n (numbers_of ds) ≡ is_live n ds
-listed n [] = refl
-listed n (d ∷ ds) = ap (λ b. eqb d.number n || b) (listed n ds)
-
-pub live_says : (n : ℕ) (ds : List Doc) → is_live n ds ≡ true → (d : Doc) × In d ds × (d.number ≡ n)
-unfolding In
-live_says n [] h = absurd (let no : false ≡ true = h in cc)
-live_says n (x ∷ xs) h = by (λ g. let r = live_says n xs g in (r.0, inr r.1, r.2)) (eqb x.number n) refl h
-  where
-    by : (is_live n xs ≡ true → (d : Doc) × In d (x ∷ xs) × (d.number ≡ n)) → (b : Bool) → eqb x.number n ≡ b → (b || is_live n xs) ≡ true → (d : Doc) × In d (x ∷ xs) × (d.number ≡ n)
-    by more true is g = (x, inl refl, eqb-true _ _ is)
-    by more false is g = more g
-
-or_later : (b c : Bool) → c ≡ true → (b || c) ≡ true
-or_later true c h = refl
-or_later false c h = h
-
-pub says_live : (d : Doc) (ds : List Doc) → In d ds → is_live d.number ds ≡ true
-unfolding In
-says_live d [] h = absurd h
-says_live d (x ∷ xs) (inl e) = ap (λ b. b || is_live d.number xs) (eq-eqb x.number d.number (ap (λ (y : Doc). y.number) e))
-says_live d (x ∷ xs) (inr m) = or_later (eqb x.number d.number) (is_live d.number xs) (says_live d xs m)
+use Rattle.pk_state.proofs.MemberLemmas.{Above, In, above_filter, above_first, above_in, filter_quiet, filter_same, filter_twice, from_all, in_back, in_filter, in_from, in_front, is_false, listed, live_says, lower, out_filter, same_members, says_live, unique}
+use Rattle.pk_state.proofs.WholeLemmas.{LiveAs, all_cons, collection_above, live_each, live_is, not_live, number_within}
 
 -- ---- the deletion lists that a commit writes
 
@@ -274,12 +104,19 @@ old_and_new next a (d ∷ ds) r = by (old_and_new next d.number ds r.1) (leb nex
         ap (λ es. es ++ (d ∷ new)) (high_none next d.number ds high r.1) ∙ ap (λ es. d ∷ es) (high_all next d.number ds high r.1)
     by more false is = ap (λ es. d ∷ es) more
 
-each_dropped : (now : Collection) (next : ℕ) (stored : List Stored) → AllByRecursion (IsGone next now.documents) stored → AllByRecursion (Dropped now) stored
-each_dropped now next [] all = tt
-each_dropped now next (t ∷ stored) all = (
-  λ d m h. (all_in (λ (e : Doc). lists e.number t.dead ≡ true → (e.number < next) × (is_live e.number now.documents ≡ false)) t.documents (recursion_from_All _ t.documents all.0) d m h).1,
-  each_dropped now next stored all.1,
-)
+-- a document that its list drops is not there now, where the documents of now that have old
+-- numbers are committed ones
+each_dropped : (now : Collection) (live : List Doc) (next : ℕ) → ((d : Doc) → In d now.documents → d.number < next → In d live)
+    → (stored : List Stored) → ((d : Doc) → In d (all_in stored) → d.number < next) → AllByRecursion (LiveAs live) stored → AllByRecursion (Dropped now) stored
+unfolding LiveAs
+each_dropped now live next old [] low all = tt
+each_dropped now live next old (t ∷ stored) low all = (first, each_dropped now live next old stored (λ d m. low d (subst (In d) (sym (all_cons t stored)) (in_back d t.documents (all_in stored) m))) all.1)
+  where
+    first : (d : Doc) → In d t.documents → lists d.number t.dead ≡ true → lives now d ≡ false
+    first d m h = not_live d.number now.documents (λ e n same.
+        let below = low d (subst (In d) (sym (all_cons t stored)) (in_front d t.documents (all_in stored) m)) in
+        let is = old e n (omega (arith, below, same)) in
+        both_ways _ (all.0 d m ∙ ap not h) (ap (λ k. is_live k live) (sym same) ∙ says_live e live is))
 
 -- no extent: no document and no list
 pub none_placed : (units : ℕ) (taken : List Extent) (docs : List Doc) (lengths : List ℕ) → PlacedAs units taken (segment_writes docs ++ lengths) [] → (docs ≡ []) × PlacedAs units taken lengths []
@@ -317,13 +154,13 @@ module _ (s : State) (is : IsState s) where
   rise_now = above_first s.now.next now_docs is.now_is.rising (recursion_from_All (λ (d : Doc). (1 ≤ d.number) × (d.number < s.now.next)) now_docs is.now_is.each)
 
   rise_was : Above 0 was_docs
-  rise_was = above_first next was_docs is.marked_is.rising (recursion_from_All (λ (d : Doc). (1 ≤ d.number) × (d.number < next)) was_docs is.marked_is.each)
+  rise_was = collection_above (collection_of s.committed) (live_is s.committed is.whole_is)
 
   was_below : (d : Doc) → In d was_docs → d.number < next
-  was_below d m = (all_in (λ (e : Doc). (1 ≤ e.number) × (e.number < next)) was_docs (recursion_from_All _ was_docs is.marked_is.each) d m).1
+  was_below d m = (number_within (collection_of s.committed) (live_is s.committed is.whole_is) d m).1
 
   old_was : (d : Doc) → In d now_docs → d.number < next → In d was_docs
-  old_was d m below = in_from d was_docs (all_in (λ (e : Doc). e.number < next → Contains was_docs e) now_docs (recursion_from_All _ now_docs is.committed) d m below)
+  old_was d m below = in_from d was_docs (from_all (λ (e : Doc). e.number < next → Contains was_docs e) now_docs (recursion_from_All _ now_docs is.committed) d m below)
 
   -- what is committed and there now is what is there now and old
   kept_old : filter (lives s.now) was_docs ≡ filter is_old now_docs
@@ -345,7 +182,8 @@ module _ (s : State) (is : IsState s) where
           in_filter (lives s.now) d was_docs (old_was d r.0 below) (says_live d now_docs r.0)
 
   dropped_all : AllByRecursion (Dropped s.now) s.committed.stored
-  dropped_all = each_dropped s.now s.committed.body.next_number s.committed.stored (recursion_from_All _ s.committed.stored is.dropped)
+  dropped_all = each_dropped s.now was_docs next old_was s.committed.stored (λ d m. (number_within (whole_of s.committed) is.whole_is d m).1)
+      (live_each was_docs 0 s.committed.stored (collection_above (whole_of s.committed) is.whole_is) (λ d m. refl))
 
   -- the documents of the entries, and then the new ones
   whole : live_in (stored_after s.now s.committed.stored) ++ uncommitted s.committed s.now ≡ now_docs

@@ -18,7 +18,8 @@ use Rattle.pk_state.specs.Follows.{AreAdded, AreUpdated, Commits, HasNewList, Is
 use Rattle.pk_state.specs.Legal.{State, Writes}
 use Rattle.pk_state.specs.Merged.{HasNothingToMerge}
 use Rattle.pk_state.specs.Writing.{IsTidyRun, after_commit, after_merge, commit_writes, entries_after, lists_to_write, new_entry, new_stored, next_body, run_documents, segment_writes, stored_after}
-use Rattle.pk_state.proofs.CommitLemmas.{is_gone, listed, no_documents, no_lists, none_placed}
+use Rattle.pk_state.proofs.CommitLemmas.{is_gone, no_documents, no_lists, none_placed}
+use Rattle.pk_state.proofs.MemberLemmas.{listed, live_filter}
 
 -- ---- a new segment
 
@@ -95,37 +96,7 @@ merge_merges s new w =
 
 -- a document has the number and no document of now
 gone_lives : (now : Collection) (n : ℕ) (docs : List Doc) → is_live n (filter (is_gone now) docs) ≡ (is_live n docs && not (is_live n now.documents))
-gone_lives now n [] = refl
-gone_lives now n (d ∷ docs) = by (gone_lives now n docs) (is_live d.number now.documents) refl
-  where
-    live : Bool
-    live = is_live n now.documents
-
-    rest : Bool
-    rest = is_live n docs
-
-    -- the first document has the number, or not
-    this : (b c : Bool) → eqb d.number n ≡ b → is_live d.number now.documents ≡ c → live ≡ c ⊎ (b ≡ false)
-    this true c same is = inl (ap (λ m. is_live m now.documents) (sym (eqb-true d.number n same)) ∙ is)
-    this false c same is = inr refl
-
-    dropped : (b l r : Bool) → ((l ≡ true) ⊎ (b ≡ false)) → (r && not l) ≡ ((b || r) && not l)
-    dropped true true true h = refl
-    dropped true true false h = refl
-    dropped true false r (inl odd) = absurd (let f : false ≡ true = odd in cc)
-    dropped true false r (inr odd) = absurd (let f : true ≡ false = odd in cc)
-    dropped false l r h = refl
-
-    kept : (b l r : Bool) → ((l ≡ false) ⊎ (b ≡ false)) → (b || (r && not l)) ≡ ((b || r) && not l)
-    kept true true r (inl odd) = absurd (let f : true ≡ false = odd in cc)
-    kept true true r (inr odd) = absurd (let f : true ≡ false = odd in cc)
-    kept true false r h = refl
-    kept false l r h = refl
-
-    by : is_live n (filter (is_gone now) docs) ≡ (rest && not live) → (c : Bool) → is_live d.number now.documents ≡ c
-        → is_live n (cond (not c) (d ∷ filter (is_gone now) docs) (filter (is_gone now) docs)) ≡ ((eqb d.number n || rest) && not live)
-    by more true is = more ∙ dropped (eqb d.number n) live rest (this (eqb d.number n) true refl is)
-    by more false is = ap (λ b. eqb d.number n || b) more ∙ kept (eqb d.number n) live rest (this (eqb d.number n) false refl is)
+gone_lives now n docs = live_filter (λ k. not (is_live k now.documents)) n docs
 
 -- without an extent entries stay
 without_extents : (now : Collection) (es : List Entry) (ss : List Stored) → entries_after now es ss [] ≡ es

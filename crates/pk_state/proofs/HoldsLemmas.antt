@@ -17,18 +17,22 @@ use Rattle.pk_manifest.specs.declared.half.Half.TheVariants.{A, B}
 use Rattle.pk_manifest.specs.declared.manifest.Part.{Part as Entry}
 use Rattle.pk_manifest.specs.Bodies.{body_of, generation_of, half_in_force, half_of, has_open_gate, other}
 use Rattle.pk_manifest.specs.Current.{HasBody, units_of_disk}
-use Rattle.pk_manifest.specs.Sound.{IsBody, extents_of, is_dead, is_extent, is_part, named}
-use Rattle.pk_manifest.specs.Spelling.{Body, spelling}
+use Rattle.pk_manifest.specs.Sound.{IsBody, dead_extents, extents_of, is_dead, is_extent, is_part, named}
+use Rattle.pk_manifest.specs.Spelling.{Body, spelling as body_spelling}
 use Rattle.pk_manifest.proofs.Fields.{one_body_in_force, sound_says}
 use Rattle.pk_manifest.proofs.Firm.{in_force_open}
 use Rattle.pk_model.specs.Collection.{Collection, Doc, IsCollection}
+use Rattle.pk_posting.specs.Spelling.{spelled_length, spelling}
+use Rattle.pk_posting.proofs.OneListLemmas.{one_list as one_posting}
+use Rattle.pk_posting.proofs.SpellingLemmas.{length_spelling, spelling_spells}
+use Rattle.pk_posting.specs.Posting.{Spells}
 use Rattle.pk_replace.specs.Claims.{Claim, Each, IsThere}
 use Rattle.pk_replace.specs.Held.{Has}
 use Rattle.pk_segment.specs.Plain.{SegmentSpells, plain_length}
 use Rattle.pk_segment.proofs.PlainLemmas.{length_plain, one_plain}
-use Rattle.pk_state.specs.Committed.{Stored, Committed, collection_of}
+use Rattle.pk_state.specs.Committed.{Stored, Committed, collection_of, whole_of}
 use Rattle.pk_state.specs.Holds.{AgreeWith, Holds, ListSpells, SpellsEntries, SpellsEntry}
-use Rattle.pk_state.specs.Kept.{AreEntries, IsKept, IsList, IsSegment, LieInside, claims_in, claims_of, list_claims, segment_claim}
+use Rattle.pk_state.specs.Kept.{AreEntries, EndsInside, IsKept, IsList, IsSegment, LieInside, ListEndsInside, claims_in, claims_of, list_claims, segment_claim}
 use Rattle.pk_state.proofs.CallerLemmas.{held_closed, held_has, held_now}
 
 -- ---- claims that are put together
@@ -58,28 +62,46 @@ within_parts units e h =
 pub units_room : (size : ℕ) → 512 * units_in size ≤ size
 units_room size = omega (arith, min-le_left (size / 512) 2147483648, mul-div-le size 512)
 
--- the units of the extent of a sound entry are those that its bytes take
-pub fitted_entry : (units next : ℕ) (e : Entry) → is_part units next e ≡ true → IsFitted e.extent × (lies_within units e.extent ≡ true)
-fitted_entry units next e h =
-    let a = and_parts (leb 1 e.segment && ltb e.segment next && leb 1 e.kind && leb e.kind 2 && is_extent units 1 e.extent) (is_dead units e.dead) h in
-    let b = and_parts (leb 1 e.segment && ltb e.segment next && leb 1 e.kind && leb e.kind 2) (is_extent units 1 e.extent) a.0 in
-    let c = and_parts (leb 1 e.extent.bytes && leb e.extent.bytes 1073741824 && eqb e.extent.units (units_for e.extent.bytes)) (lies_within units e.extent) b.1 in
-    let d = and_parts (leb 1 e.extent.bytes && leb e.extent.bytes 1073741824) (eqb e.extent.units (units_for e.extent.bytes)) c.0 in
+-- the units of a sound extent are those that its bytes take
+fitted_extent : (units least : ℕ) (e : Extent) → is_extent units least e ≡ true → IsFitted e × (lies_within units e ≡ true)
+fitted_extent units least e h =
+    let c = and_parts (leb least e.bytes && leb e.bytes 1073741824 && eqb e.units (units_for e.bytes)) (lies_within units e) h in
+    let d = and_parts (leb least e.bytes && leb e.bytes 1073741824) (eqb e.units (units_for e.bytes)) c.0 in
     (eqb-true _ _ d.1, c.1)
 
+entry_parts : (units next : ℕ) (e : Entry) → is_part units next e ≡ true → (is_extent units 1 e.extent ≡ true) × (is_dead units e.dead ≡ true)
+entry_parts units next e h =
+    let a = and_parts (leb 1 e.segment && ltb e.segment next && leb 1 e.kind && leb e.kind 2 && is_extent units 1 e.extent) (is_dead units e.dead) h in
+    ((and_parts (leb 1 e.segment && ltb e.segment next && leb 1 e.kind && leb e.kind 2) (is_extent units 1 e.extent) a.0).1, a.1)
+
+pub fitted_entry : (units next : ℕ) (e : Entry) → is_part units next e ≡ true → IsFitted e.extent × (lies_within units e.extent ≡ true)
+fitted_entry units next e h = fitted_extent units 1 e.extent (entry_parts units next e h).0
+
+-- and so are those of a list's
+pub fitted_list : (units : ℕ) (e : Extent) → is_extent units 5 e ≡ true → IsFitted e
+fitted_list units e h = (fitted_extent units 5 e h).0
+
 -- so its bytes lie within the disk
-ends_inside : (units size : ℕ) → 512 * units ≤ size → (e : Extent) → IsFitted e → lies_within units e ≡ true → start_of e + e.bytes ≤ size
+ends_inside : (units size : ℕ) → 512 * units ≤ size → (e : Extent) → IsFitted e → lies_within units e ≡ true → EndsInside size e
 ends_inside units size room e fitted h =
     let some : 0 < 512 = omega arith in
     let last : end_of e ≤ units = (within_parts units e h).2 in
     omega (arith, room, fitted, last, lt-mul-div-succ (e.bytes + 511) some)
 
+list_inside : (units size : ℕ) → 512 * units ≤ size → (list : Option Extent) → is_dead units list ≡ true → ListEndsInside size list
+list_inside units size room None h = tt
+list_inside units size room (Some e) h = let fitted = fitted_extent units 5 e h in ends_inside units size room e fitted.0 fitted.1
+
+abbrev InsideEntry : ℕ → Entry → Type 0
+InsideEntry size e = EndsInside size e.extent × ListEndsInside size e.dead
+
 lie_each : (units size next : ℕ) → 512 * units ≤ size → (es : List Entry) → list_all (is_part units next) es ≡ true → LieInside size es
-lie_each units size next room [] h = All-nil (λ (e : Entry). start_of e.extent + e.extent.bytes ≤ size)
+lie_each units size next room [] h = All-nil (InsideEntry size)
 lie_each units size next room (e ∷ es) h =
     let parts = and_parts (is_part units next e) (list_all (is_part units next) es) h in
     let this = fitted_entry units next e parts.0 in
-    All-cons (λ (d : Entry). start_of d.extent + d.extent.bytes ≤ size) e es (ends_inside units size room e.extent this.0 this.1) (lie_each units size next room es parts.1)
+    let list = list_inside units size room e.dead (entry_parts units next e parts.0).1 in
+    All-cons (InsideEntry size) e es (ends_inside units size room e.extent this.0 this.1, list) (lie_each units size next room es parts.1)
 
 pub lie_inside : (bytes : List ℕ) (b : Body) → IsBody (units_of_disk bytes) b → LieInside (length bytes) b.entries
 lie_inside bytes b is = lie_each (units_of_disk bytes) (length bytes) b.next_segment (units_room (length bytes)) b.entries (sound_says (units_of_disk bytes) b is).parts
@@ -108,22 +130,31 @@ segment_spelled bytes e s is there = (
   },
 )
 
-spelled_list : (bytes : List ℕ) (list : Option Extent) (dead : List ℕ) → ListSpells bytes list dead → IsList list dead × Each (IsThere bytes) (list_claims list dead)
-spelled_list bytes None dead spells = (spells, tt)
-spelled_list bytes (Some e) dead spells = absurd spells
+spelled_list : (bytes : List ℕ) (list : Option Extent) (s : Stored) → ListEndsInside (length bytes) list → ListSpells bytes list s → IsList list s × Each (IsThere bytes) (list_claims list s.dead)
+spelled_list bytes None s room spells = (spells, tt)
+spelled_list bytes (Some e) s room spells =
+    let long : e.bytes ≡ spelled_length s.dead = sym (length_extent bytes e room) ∙ ap length spells.same ∙ length_spelling s.dead in (
+      record { posting = spells.posting; long = long; names = spells.names },
+      (ap (λ (n : ℕ). take n (drop (start_of e) bytes)) (length_spelling s.dead ∙ sym long) ∙ spells.same, tt),
+    )
 
-list_spelled : (bytes : List ℕ) (list : Option Extent) (dead : List ℕ) → IsList list dead → Each (IsThere bytes) (list_claims list dead) → ListSpells bytes list dead
-list_spelled bytes None dead is there = is
-list_spelled bytes (Some e) dead is there = absurd is
+list_spelled : (bytes : List ℕ) (list : Option Extent) (s : Stored) → IsList list s → Each (IsThere bytes) (list_claims list s.dead) → ListSpells bytes list s
+list_spelled bytes None s is there = is
+list_spelled bytes (Some e) s is there = record {
+  posting = is.posting;
+  same = ap (λ (n : ℕ). take n (drop (start_of e) bytes)) (is.long ∙ sym (length_spelling s.dead)) ∙ there.0;
+  names = is.names;
+}
 
 pub spelled_entries : (bytes : List ℕ) (es : List Entry) (stored : List Stored) → LieInside (length bytes) es → SpellsEntries bytes es stored → AreEntries es stored × Each (IsThere bytes) (claims_of es stored)
 spelled_entries bytes [] [] inside spells = (tt, tt)
 spelled_entries bytes [] (s ∷ stored) inside spells = absurd spells
 spelled_entries bytes (e ∷ es) [] inside spells = absurd spells
 spelled_entries bytes (e ∷ es) (s ∷ stored) inside spells =
-    let segment = spelled_segment bytes e s (All-head (λ (d : Entry). start_of d.extent + d.extent.bytes ≤ length bytes) e es inside) spells.0.segment in
-    let list = spelled_list bytes e.dead s.dead spells.0.list in
-    let more = spelled_entries bytes es stored (All-tail (λ (d : Entry). start_of d.extent + d.extent.bytes ≤ length bytes) e es inside) spells.1 in (
+    let ends = All-head (InsideEntry (length bytes)) e es inside in
+    let segment = spelled_segment bytes e s ends.0 spells.0.segment in
+    let list = spelled_list bytes e.dead s ends.1 spells.0.list in
+    let more = spelled_entries bytes es stored (All-tail (InsideEntry (length bytes)) e es inside) spells.1 in (
       (record { segment = segment.0; list = list.0 }, more.0),
       each_append (IsThere bytes) (claims_in e s) (claims_of es stored) (segment.1, list.1) more.1,
     )
@@ -134,7 +165,7 @@ entries_spelled bytes [] (s ∷ stored) are there = absurd are
 entries_spelled bytes (e ∷ es) [] are there = absurd are
 entries_spelled bytes (e ∷ es) (s ∷ stored) are there =
     let here = each_front (IsThere bytes) (claims_in e s) (claims_of es stored) there in (
-      record { segment = segment_spelled bytes e s are.0.segment here.0; list = list_spelled bytes e.dead s.dead are.0.list here.1 },
+      record { segment = segment_spelled bytes e s are.0.segment here.0; list = list_spelled bytes e.dead s are.0.list here.1 },
       entries_spelled bytes es stored are.1 (each_back (IsThere bytes) (claims_in e s) (claims_of es stored) there),
     )
 
@@ -147,12 +178,12 @@ kept_closed bytes is_open spare c has spells closed =
     record {
       sound = has.sound;
       entries = entries.0;
-      held = held_closed bytes is_open spare (spelling c.body) (claims_of c.body.entries c.stored) closed (record { in_force = has.in_force; has_body = has.spelled }) entries.1;
+      held = held_closed bytes is_open spare (body_spelling c.body) (claims_of c.body.entries c.stored) closed (record { in_force = has.in_force; has_body = has.spelled }) entries.1;
     }
 
 -- an image that has the body and its claims holds its collection
 pub has_holds : (image : List ℕ) (committed : Committed) (c : Collection) → IsBody (units_of_disk image) committed.body → AreEntries committed.body.entries committed.stored
-    → Has image (spelling committed.body) (claims_of committed.body.entries committed.stored) → IsCollection c → collection_of committed ≡ c → Holds image c
+    → Has image (body_spelling committed.body) (claims_of committed.body.entries committed.stored) → IsCollection (whole_of committed) → collection_of committed ≡ c → Holds image c
 has_holds image committed c sound are has numbers is = record {
   half = has.half;
   committed = committed;
@@ -164,14 +195,14 @@ has_holds image committed c sound are has numbers is = record {
 
 -- a disk that keeps what is committed: each image holds its collection
 module _ (b : List ℕ) (o : ℕ → Bool) (s : Half) (c : Committed) (kept : IsKept b o s c) where
-  pub kept_holds : IsCollection (collection_of c) → (image : List ℕ) → IsImage b o image → Holds image (collection_of c)
+  pub kept_holds : IsCollection (whole_of c) → (image : List ℕ) → IsImage b o image → Holds image (collection_of c)
   kept_holds numbers image is = has_holds image c (collection_of c)
       (subst (λ (n : ℕ). IsBody (units_in n) c.body) (sym is.size) kept.sound) kept.entries
-      (held_has b o s (spelling c.body) (claims_of c.body.entries c.stored) kept.held image is) numbers refl
+      (held_has b o s (body_spelling c.body) (claims_of c.body.entries c.stored) kept.held image is) numbers refl
 
   -- and its entries spell what they stand for
   pub kept_spelled : SpellsEntries b c.body.entries c.stored
-  kept_spelled = entries_spelled b c.body.entries c.stored kept.entries (held_now b o s (spelling c.body) (claims_of c.body.entries c.stored) kept.held).there
+  kept_spelled = entries_spelled b c.body.entries c.stored kept.entries (held_now b o s (body_spelling c.body) (claims_of c.body.entries c.stored) kept.held).there
 
 -- what is kept stays kept in a run of reads
 pub kept_read : {D : Type 0} (d : Ghosts D) (old new : D) (s : Half) (c : Committed) → IsOnlyRead d.content d.is_open d.moment d.images_since old new
@@ -183,14 +214,16 @@ kept_read d old new s c read kept = after_reads d.content d.is_open d.moment d.i
 abbrev stored_of : List Doc → List ℕ → Stored
 stored_of documents dead = record { documents = documents; dead = dead }
 
-one_list : (bytes : List ℕ) (list : Option Extent) (a b : List ℕ) → ListSpells bytes list a → ListSpells bytes list b → a ≡ b
-one_list bytes None a b x y = x ∙ sym y
-one_list bytes (Some e) a b x y = absurd x
+-- one list is spelled
+one_list : (bytes : List ℕ) (list : Option Extent) (s t : Stored) → ListSpells bytes list s → ListSpells bytes list t → s.dead ≡ t.dead
+one_list bytes None s t x y = x ∙ sym y
+one_list bytes (Some e) s t x y = one_posting (spelling t.dead) s.dead t.dead
+    (subst (λ (bs : List ℕ). Spells bs s.dead) (sym x.same ∙ y.same) (spelling_spells s.dead x.posting)) (spelling_spells t.dead y.posting)
 
 one_entry : (bytes : List ℕ) (e : Entry) (a b : Stored) → SpellsEntry bytes e a → SpellsEntry bytes e b → a ≡ b
 one_entry bytes e a b x y =
     ap (λ ds. stored_of ds a.dead) (one_plain (extent_bytes bytes e.extent) a.documents b.documents x.segment.1 y.segment.1)
-    ∙ ap (λ ns. stored_of b.documents ns) (one_list bytes e.dead a.dead b.dead x.list y.list)
+    ∙ ap (λ ns. stored_of b.documents ns) (one_list bytes e.dead a b x.list y.list)
 
 pub one_stored : (bytes : List ℕ) (es : List Entry) (a b : List Stored) → SpellsEntries bytes es a → SpellsEntries bytes es b → a ≡ b
 one_stored bytes [] [] [] x y = refl
@@ -228,9 +261,13 @@ all_back : (P : Extent → Type 0) (xs ys : List Extent) → AllByRecursion P (x
 all_back P [] ys all = all
 all_back P (x ∷ xs) ys all = all_back P xs ys all.1
 
-list_agrees : (bytes image : List ℕ) (list : Option Extent) (dead : List ℕ) → ListSpells bytes list dead → ListSpells image list dead
-list_agrees bytes image None dead spells = spells
-list_agrees bytes image (Some e) dead spells = absurd spells
+list_agrees : (bytes image : List ℕ) (list : Option Extent) (s : Stored) → AllByRecursion (λ (e : Extent). extent_bytes image e ≡ extent_bytes bytes e) (dead_extents list) → ListSpells bytes list s → ListSpells image list s
+list_agrees bytes image None s agree spells = spells
+list_agrees bytes image (Some e) s agree spells = record { posting = spells.posting; same = agree.0 ∙ spells.same; names = spells.names }
+
+all_front : (P : Extent → Type 0) (xs ys : List Extent) → AllByRecursion P (xs ++ ys) → AllByRecursion P xs
+all_front P [] ys all = tt
+all_front P (x ∷ xs) ys all = (all.0, all_front P xs ys all.1)
 
 entries_agree : (bytes image : List ℕ) (es : List Entry) (stored : List Stored) → AllByRecursion (λ (e : Extent). extent_bytes image e ≡ extent_bytes bytes e) (flat_map extents_of es) → SpellsEntries bytes es stored → SpellsEntries image es stored
 entries_agree bytes image [] [] agree spells = tt
@@ -241,7 +278,7 @@ entries_agree bytes image (e ∷ es) (s ∷ stored) agree spells =
     let each = subst (AllByRecursion same) (flat_map-cons extents_of e es) agree in (
       record {
         segment = subst (λ (bs : List ℕ). SegmentSpells bs s.documents e.kind) (sym each.0) spells.0.segment;
-        list = list_agrees bytes image e.dead s.dead spells.0.list;
+        list = list_agrees bytes image e.dead s (all_front same (dead_extents e.dead) (flat_map extents_of es) each.1) spells.0.list;
       },
       entries_agree bytes image es stored (all_back same (extents_of e) (flat_map extents_of es) each) spells.1,
     )
@@ -280,6 +317,6 @@ holds_frame bytes image half b c has agree holds =
       committed = committed_of b holds.committed.stored;
       current = same_body bytes image b agree half has;
       spelled = same_entries bytes image b agree holds.committed.stored spelled;
-      numbers = holds.numbers;
+      numbers = subst (λ (u : Body). IsCollection (whole_of (committed_of u holds.committed.stored))) same holds.numbers;
       stands_for = ap (λ (u : Body). collection_of (committed_of u holds.committed.stored)) (sym same) ∙ holds.stands_for;
     }

@@ -1,11 +1,12 @@
 -- The lemma pages; those that callers cite are public.
 pub mod CallerLemmas
 pub mod HoldsLemmas
-mod CommitLemmas
-mod FollowsLemmas
-mod MergeLemmas
-mod OpenedLemmas
+pub mod MemberLemmas
+pub mod WholeLemmas
+pub mod CommitLemmas
+pub mod FollowsLemmas
+pub mod MergeLemmas
 mod OutcomeLemmas
 mod SessionLemmas
-mod StateLemmas
+pub mod StateLemmas
 mod WorkLemmas

@@ -1,6 +1,7 @@
 -- A merge keeps the documents, a tidy has one run, and what is merged is told by its entries.
 use Rattle.std.proofs.Common.{◌≡◌, ◌↔◌, inl, inr, ℕ, ◌+◌, ◌&&◌, eqb, true, false, not, List, [], ◌∷◌, ◌++◌, length, take, drop, Option, Some, None, refl, sym, ◌∙◌, ap, arith}
 use Rattle.std.specs.Prelude.{is_some}
+use Rattle.std.specs.List.{flat_map}
 use Rattle.std.proofs.lemmas.Bool.{and_parts, cases_order, eqb-true}
 use Rattle.std.proofs.lemmas.List.{drop-drop, take-append-drop}
 use Rattle.std.proofs.lemmas.Grind.{flat_map-append}
@@ -58,14 +59,14 @@ all_kept (d ∷ docs) = ap (λ ds. d ∷ ds) (all_kept docs)
 pub live_append : (a b : List Stored) → live_in (a ++ b) ≡ live_in a ++ live_in b
 live_append a b = flat_map-append live_of a b
 
--- the documents before a run, in it and behind it are all
-pub three_parts : (stored : List Stored) (from n : ℕ) → live_in (take from stored) ++ (live_in (take n (drop from stored)) ++ live_in (drop (from + n) stored)) ≡ live_in stored
-three_parts stored from n =
-    let before = live_in (take from stored) in
+-- the documents of the entries before a run, in it and behind it are all
+pub three_parts : (f : Stored → List Doc) (stored : List Stored) (from n : ℕ) → flat_map f (take from stored) ++ (flat_map f (take n (drop from stored)) ++ flat_map f (drop (from + n) stored)) ≡ flat_map f stored
+three_parts f stored from n =
+    let before = flat_map f (take from stored) in
     let run = take n (drop from stored) in
-    ap (λ x. before ++ (live_in run ++ live_in x)) (sym (drop-drop n from stored))
-    ∙ ap (λ ds. before ++ ds) (sym (live_append run (drop n (drop from stored))) ∙ ap live_in (take-append-drop n (drop from stored)))
-    ∙ sym (live_append (take from stored) (drop from stored)) ∙ ap live_in (take-append-drop from stored)
+    ap (λ x. before ++ (flat_map f run ++ flat_map f x)) (sym (drop-drop n from stored))
+    ∙ ap (λ ds. before ++ ds) (sym (flat_map-append f run (drop n (drop from stored))) ∙ ap (flat_map f) (take-append-drop n (drop from stored)))
+    ∙ sym (flat_map-append f (take from stored) (drop from stored)) ∙ ap (flat_map f) (take-append-drop from stored)
 
 segment_empty : (units : ℕ) (taken : List Extent) (docs : List Doc) → PlacedAs units taken (segment_writes docs) [] → docs ≡ []
 segment_empty units taken [] placed = refl
@@ -81,7 +82,7 @@ live_merged c from n [] placed =
     ap (collection c.body.next_number) (
     live_append before behind
     ∙ ap (λ ds. live_in before ++ (ds ++ live_in behind)) (sym (segment_empty _ _ (run_documents c from n) placed))
-    ∙ three_parts c.stored from n
+    ∙ three_parts live_of c.stored from n
     )
 live_merged c from n (e ∷ extents) placed =
     let before = take from c.stored in
@@ -90,7 +91,7 @@ live_merged c from n (e ∷ extents) placed =
     ap (collection c.body.next_number) (
     live_append before (one ∷ behind)
     ∙ ap (λ ds. live_in before ++ ds) (flat_map-cons live_of one behind ∙ ap (λ ds. ds ++ live_in behind) (all_kept (run_documents c from n)))
-    ∙ three_parts c.stored from n
+    ∙ three_parts live_of c.stored from n
     )
 
 pub merge_keeps : (s : State) (new : Committed) → Writes s merge new → collection_of new ≡ marked s

@@ -1,8 +1,8 @@
 -- When a commit, a merge and a tidy have something to write.
-use Rattle.std.proofs.Common.{◌≡◌, ◌↔◌, inl, inr, ◌<◌, ◌≤◌, ◌&&◌, ◌||◌, eqb, leb, Bool, true, false, not, cond, List, [], ◌∷◌, ◌++◌, length, refl, sym, ◌∙◌, ap, subst, arith}
+use Rattle.std.proofs.Common.{◌≡◌, ◌↔◌, inl, inr, ◌<◌, ◌≤◌, ◌&&◌, ◌||◌, eqb, leb, ltb, Bool, true, false, not, cond, List, [], ◌∷◌, ◌++◌, length, refl, sym, ◌∙◌, ap, subst, arith}
 use Rattle.std.specs.Prelude.{filter, if◌then◌else◌}
 use Rattle.std.specs.List.{list_any}
-use Rattle.std.proofs.lemmas.Bool.{and_parts, eq-eqb, eqb-true, le-leb, leb-true, lt-leb, not-false, not-true, or_parts}
+use Rattle.std.proofs.lemmas.Bool.{and_parts, eq-eqb, eqb-true, le-leb, leb-true, lt-leb, lt-ltb, ltb-true, not-false, not-true, or_parts}
 use Rattle.std.proofs.lemmas.List.Concat.{flat_map-cons}
 use Rattle.std.proofs.lemmas.List.Elements.{recursion_from_All}
 use Rattle.pk_model.specs.Collection.{Doc, Collection}
@@ -11,8 +11,10 @@ use Rattle.pk_state.specs.Committed.{Stored, has_documents, is_pending, live_in,
 use Rattle.pk_state.specs.Legal.{State, has_work, marked}
 use Rattle.pk_state.specs.Merged.{HasNothingToMerge}
 use Rattle.pk_state.specs.States.{IsState}
-use Rattle.pk_state.specs.Writing.{stored_after}
-use Rattle.pk_state.proofs.CommitLemmas.{In, all_in, is_gone, lives, no_documents, says_live, without_new}
+use Rattle.pk_segment.specs.Plain.{plain_length}
+use Rattle.pk_state.specs.Writing.{is_too_large, stored_after}
+use Rattle.pk_state.proofs.CommitLemmas.{is_gone, lives, no_documents, without_new}
+use Rattle.pk_state.proofs.MemberLemmas.{In, from_all, in_back, in_front, says_live}
 use Rattle.pk_state.proofs.FollowsLemmas.{listed_anew}
 use Rattle.pk_state.proofs.MergeLemmas.{collection, merged_says}
 
@@ -48,17 +50,6 @@ unfolding In
 none_gone now [] h = refl
 none_gone now (x ∷ xs) h = ap (λ b. not b || list_any (is_gone now) xs) (h x (inl refl)) ∙ none_gone now xs (λ d m. h d (inr m))
 
-in_front : (d : Doc) (xs ys : List Doc) → In d xs → In d (xs ++ ys)
-unfolding In
-in_front d [] ys h = absurd h
-in_front d (x ∷ xs) ys (inl e) = inl e
-in_front d (x ∷ xs) ys (inr m) = inr (in_front d xs ys m)
-
-in_back : (d : Doc) (xs ys : List Doc) → In d ys → In d (xs ++ ys)
-unfolding In
-in_back d [] ys h = h
-in_back d (x ∷ xs) ys h = inr (in_back d xs ys h)
-
 none_pending : (now : Collection) (stored : List Stored) → ((d : Doc) → In d (live_in stored) → lives now d ≡ true) → list_any (is_pending now) stored ≡ false
 none_pending now [] h = refl
 none_pending now (t ∷ stored) h =
@@ -70,7 +61,7 @@ pub marked_idle : (s : State) → IsState s → marked s ≡ s.now → has_work 
 marked_idle s is same =
     let next : s.committed.body.next_number ≡ s.now.next = ap (λ (c : Collection). c.next) same in
     let docs : live_in s.committed.stored ≡ s.now.documents = ap (λ (c : Collection). c.documents) same in
-    let below = all_in (λ (d : Doc). (1 ≤ d.number) × (d.number < s.now.next)) s.now.documents (recursion_from_All _ s.now.documents is.now_is.each) in
+    let below = from_all (λ (d : Doc). (1 ≤ d.number) × (d.number < s.now.next)) s.now.documents (recursion_from_All _ s.now.documents is.now_is.each) in
     let none : uncommitted s.committed s.now ≡ [] = none_kept (λ d. leb s.committed.body.next_number d.number) s.now.documents
     (λ d m. lt-leb s.committed.body.next_number d.number (let low : d.number < s.now.next = (below d m).1 in omega (arith, next, low))) in
     let quiet = none_pending s.now s.committed.stored (λ d m. says_live d s.now.documents (subst (λ (ds : List Doc). In d ds) docs m)) in
@@ -90,3 +81,16 @@ merge_idle s =
 
 pub tidy_works : (s : State) → (has_work s tidy ≡ true) ↔ (8 ≤ length s.committed.body.entries)
 tidy_works s = (leb-true 8 (length s.committed.body.entries), le-leb 8 (length s.committed.body.entries))
+
+-- ---- a segment that is too large
+
+one_or : (b : Bool) → (b || false) ≡ b
+one_or true = refl
+one_or false = refl
+
+pub too_large : (docs : List Doc) → (is_too_large docs ≡ true) ↔ (1073741824 < plain_length docs)
+unfolding plain_length
+too_large [] = (λ h. absurd (let no : false ≡ true = h in cc), λ h. absurd (omega (arith, h)))
+too_large (d ∷ docs) =
+    let long = plain_length (d ∷ docs) in
+    (λ h. ltb-true 1073741824 long (sym (one_or (ltb 1073741824 long)) ∙ h), λ h. one_or (ltb 1073741824 long) ∙ lt-ltb 1073741824 long h)

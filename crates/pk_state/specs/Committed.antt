@@ -1,5 +1,5 @@
 -- What is committed: the body in force, and what each of its entries stands for.
-use Rattle.std.specs.Prelude.{ℕ, ◌==◌, Bool, true, false, not, nat_le, List, [], ◌∷◌, filter}
+use Rattle.std.specs.Prelude.{◌≡◌, ℕ, ◌==◌, Bool, true, false, not, nat_le, List, [], ◌∷◌, filter}
 use Rattle.std.specs.List.{flat_map, list_any}
 use Rattle.pk_manifest.specs.Spelling.{Body}
 use Rattle.pk_model.specs.Collection.{Doc, Collection, numbers_of, is_live}
@@ -26,9 +26,21 @@ live_of s = filter (λ d. not (lists d.number s.dead)) s.documents
 abbrev pub live_in : List Stored → List Doc
 live_in stored = flat_map live_of stored
 
+-- the documents of all entries, dropped ones too
+abbrev pub all_in : List Stored → List Doc
+all_in stored = flat_map (λ s. s.documents) stored
+
 -- the committed collection
 abbrev pub collection_of : Committed → Collection
 collection_of c = record { next = c.body.next_number; documents = live_in c.stored }
+
+-- the same as if nothing were deleted
+abbrev pub whole_of : Committed → Collection
+whole_of c = record { next = c.body.next_number; documents = all_in c.stored }
+
+-- the numbers are those of some of the documents
+abbrev pub Names : List ℕ → List Doc → Type 0
+Names ns docs = (n : ℕ) → lists n ns ≡ true → is_live n docs ≡ true
 
 -- the documents that no commit has taken
 abbrev pub uncommitted : Committed → Collection → List Doc

@@ -11,18 +11,27 @@ use Rattle.pk_manifest.specs.Sound.{named}
 use Rattle.pk_manifest.specs.Spelling.{Body}
 use Rattle.pk_segment.specs.Plain.{SegmentSpells}
 use Rattle.pk_model.specs.Collection.{Collection, IsCollection}
-use Rattle.pk_state.specs.Committed.{Stored, Committed, collection_of}
+use Rattle.pk_posting.specs.Posting.{IsPosting}
+use Rattle.pk_posting.specs.Spelling.{spelling}
+use Rattle.pk_state.specs.Committed.{Stored, Committed, Names, collection_of, whole_of}
 
--- the numbers are those of the deletion list; so far there is none on a disk
-abbrev pub ListSpells : List ℕ → Option Extent → List ℕ → Type 0
-ListSpells bytes None dead = dead ≡ []
-ListSpells bytes (Some e) dead = ⊥
+-- The bytes of the extent are the posting list of the dead numbers, and these are numbers of the
+-- documents.
+pub record SpellsList (bytes : List ℕ) (e : Extent) (s : Stored) : Type 0 where
+  pub posting : IsPosting s.dead
+  pub same : extent_bytes bytes e ≡ spelling s.dead
+  pub names : Names s.dead s.documents
+
+-- a deletion list spells the dead numbers; without one there are none
+abbrev pub ListSpells : List ℕ → Option Extent → Stored → Type 0
+ListSpells bytes None s = s.dead ≡ []
+ListSpells bytes (Some e) s = SpellsList bytes e s
 
 -- The entry is a segment of kind 1, whose extent spells the documents, and its deletion list
 -- spells the dead numbers.
 pub record SpellsEntry (bytes : List ℕ) (e : Entry) (s : Stored) : Type 0 where
   pub segment : SegmentSpells (extent_bytes bytes e.extent) s.documents e.kind
-  pub list : ListSpells bytes e.dead s.dead
+  pub list : ListSpells bytes e.dead s
 
 -- each entry spells what stands at its place
 abbrev pub SpellsEntries : List ℕ → List Entry → List Stored → Type 0
@@ -32,13 +41,14 @@ SpellsEntries bytes (e ∷ es) [] = ⊥
 SpellsEntries bytes (e ∷ es) (s ∷ stored) = SpellsEntry bytes e s × SpellsEntries bytes es stored
 
 -- THE BYTES HOLD THE COLLECTION: the body in force is sound, each of its entries spells what it
--- stands for, and this is the collection's.
+-- stands for, numbers rise from entry to entry, and what the deletion lists leave is the
+-- collection's.
 pub record Holds (bytes : List ℕ) (c : Collection) : Type 0 where
   pub half : Half
   pub committed : Committed
   pub current : HasBody bytes half committed.body
   pub spelled : SpellsEntries bytes committed.body.entries committed.stored
-  pub numbers : IsCollection c
+  pub numbers : IsCollection (whole_of committed)
   pub stands_for : collection_of committed ≡ c
 
 -- the image holds the one collection or the other

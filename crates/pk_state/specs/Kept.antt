@@ -7,13 +7,13 @@ use Rattle.pk_manifest.specs.declared.half.Half.{Half}
 use Rattle.pk_manifest.specs.declared.manifest.Part.{Part as Entry}
 use Rattle.pk_manifest.specs.Current.{units_of_disk}
 use Rattle.pk_manifest.specs.Sound.{IsBody}
-use Rattle.pk_manifest.specs.Spelling.{spelling}
+use Rattle.pk_manifest.specs.Spelling.{spelling as body_spelling}
+use Rattle.pk_posting.specs.Posting.{IsPosting}
+use Rattle.pk_posting.specs.Spelling.{spelled_length, spelling}
 use Rattle.pk_replace.specs.Claims.{Claim}
 use Rattle.pk_replace.specs.Held.{IsHeld}
-use Rattle.pk_segment.specs.declared.segment.Segment.{Segment}
-use Rattle.pk_segment.specs.Opened.{IsSegmentOf}
 use Rattle.pk_segment.specs.Plain.{AreDocuments, longest, plain_length, plain_spelling}
-use Rattle.pk_state.specs.Committed.{Stored, Committed}
+use Rattle.pk_state.specs.Committed.{Stored, Committed, Names}
 
 -- THE ENTRY IS A SEGMENT of these documents, with a list of these dead numbers: all but the bytes.
 pub record IsSegment (e : Entry) (s : Stored) : Type 0 where
@@ -22,13 +22,19 @@ pub record IsSegment (e : Entry) (s : Stored) : Type 0 where
   pub fits : plain_length s.documents ≤ longest
   pub long : e.extent.bytes ≡ plain_length s.documents
 
-abbrev pub IsList : Option Extent → List ℕ → Type 0
-IsList None dead = dead ≡ []
-IsList (Some e) dead = ⊥
+-- the list of these dead numbers: as many bytes, and numbers of the documents
+pub record IsListOf (e : Extent) (s : Stored) : Type 0 where
+  pub posting : IsPosting s.dead
+  pub long : e.bytes ≡ spelled_length s.dead
+  pub names : Names s.dead s.documents
+
+abbrev pub IsList : Option Extent → Stored → Type 0
+IsList None s = s.dead ≡ []
+IsList (Some e) s = IsListOf e s
 
 pub record IsEntry (e : Entry) (s : Stored) : Type 0 where
   pub segment : IsSegment e s
-  pub list : IsList e.dead s.dead
+  pub list : IsList e.dead s
 
 -- each entry is what stands at its place
 abbrev pub AreEntries : List Entry → List Stored → Type 0
@@ -37,16 +43,18 @@ AreEntries [] (s ∷ stored) = ⊥
 AreEntries (e ∷ es) [] = ⊥
 AreEntries (e ∷ es) (s ∷ stored) = IsEntry e s × AreEntries es stored
 
--- the extents of the entries end within a disk of so many bytes
-abbrev pub LieInside : ℕ → List Entry → Type 0
-LieInside size entries = All (λ (e : Entry). start_of e.extent + e.extent.bytes ≤ size) entries
+-- an extent ends within a disk of so many bytes
+abbrev pub EndsInside : ℕ → Extent → Type 0
+EndsInside size e = start_of e + e.bytes ≤ size
 
--- each open segment is one of the documents at its place
-abbrev pub AreSegments : List Segment → List Stored → Type 0
-AreSegments [] [] = Unit {0}
-AreSegments [] (s ∷ stored) = ⊥
-AreSegments (o ∷ opened) [] = ⊥
-AreSegments (o ∷ opened) (s ∷ stored) = IsSegmentOf o s.documents × AreSegments opened stored
+abbrev pub ListEndsInside : ℕ → Option Extent → Type 0
+ListEndsInside size None = Unit {0}
+ListEndsInside size (Some e) = EndsInside size e
+
+-- the extents of the entries do, those of their lists too
+abbrev pub LieInside : ℕ → List Entry → Type 0
+LieInside size entries =
+    All (λ (e : Entry). EndsInside size e.extent × ListEndsInside size e.dead) entries
 
 -- CLAIMS, by their kinds: the spelling of the documents in the entry's extent, and that of the dead
 -- numbers in its list's
@@ -55,7 +63,7 @@ segment_claim e s = record { at = start_of e.extent; bytes = plain_spelling s.do
 
 abbrev pub list_claims : Option Extent → List ℕ → List Claim
 list_claims None dead = []
-list_claims (Some e) dead = []
+list_claims (Some e) dead = record { at = start_of e; bytes = spelling dead } ∷ []
 
 abbrev pub claims_in : Entry → Stored → List Claim
 claims_in e s = segment_claim e s ∷ list_claims e.dead s.dead
@@ -70,4 +78,4 @@ pub record IsKept (bytes : List ℕ) (is_open : ℕ → Bool) (spare : Half) (c 
     : Type 0 where
   pub sound : IsBody (units_of_disk bytes) c.body
   pub entries : AreEntries c.body.entries c.stored
-  pub held : IsHeld bytes is_open spare (spelling c.body) (claims_of c.body.entries c.stored)
+  pub held : IsHeld bytes is_open spare (body_spelling c.body) (claims_of c.body.entries c.stored)

@@ -62,12 +62,8 @@ due_to_add s text =
     else if s.now.next == end_of_numbers then Some NumbersUsedUp
     else None
 
--- so far a deletion reaches the uncommitted documents alone
-abbrev pub due_to_delete : State → ℕ → Option Refusal
-due_to_delete s n = if is_uncommitted s n then None else Some NoSuchDocument
-
-abbrev pub due_to_show : State → ℕ → Option Refusal
-due_to_show s n = if is_live n s.now.documents then None else Some NoSuchDocument
+abbrev pub due_to_name : State → ℕ → Option Refusal
+due_to_name s n = if is_live n s.now.documents then None else Some NoSuchDocument
 
 -- what writes needs a generation and a segment id
 abbrev pub due_to_write : State → Request → Option Refusal → Option Refusal
@@ -82,8 +78,8 @@ due_to_commit s =
 
 abbrev pub due : State → Request → Option Refusal
 due s (add text) = due_to_add s text
-due s (delete n) = due_to_delete s n
-due s (show n) = due_to_show s n
+due s (delete n) = due_to_name s n
+due s (show n) = due_to_name s n
 due s commit = due_to_write s commit (due_to_commit s)
 due s merge = due_to_write s merge None
 due s tidy = due_to_write s tidy None

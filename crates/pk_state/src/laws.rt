@@ -1,24 +1,25 @@
 //! Laws of the definitions, each the contract of a function with nothing to do.
-ghost use Rattle.std.specs.Prelude.{◌≡◌, ◌↔◌, ◌⊎◌, ℕ, ◌≤◌, Bool, true, false, Err};
-ghost use Rattle.std.specs.Prelude.{[], All, List, Result, length};
+ghost use Rattle.std.specs.Prelude.{◌≡◌, ◌↔◌, ◌⊎◌, ℕ, ◌≤◌, Bool, true, false, ◌<◌};
+ghost use Rattle.std.specs.Prelude.{List, Result, length};
 ghost use Rattle.pk_disk.specs.Disk.{IsImage};
 ghost use Rattle.pk_manifest.specs.declared.half.Half.{Half};
 ghost use Rattle.pk_manifest.specs.declared.manifest.Part.{Part as Entry};
 ghost use Rattle.pk_manifest.specs.Current.{HasBody};
 ghost use Rattle.pk_manifest.specs.Spelling.{Body};
 ghost use Rattle.pk_model.specs.declared.commands.Refusal.{Refusal};
-ghost use Rattle.pk_model.specs.Collection.{Collection, IsCollection};
+ghost use Rattle.pk_model.specs.Collection.{Collection, Doc, IsCollection};
 ghost use Rattle.pk_model.specs.Steps.{Answer, Request, commit, merge, tidy};
-ghost use Rattle.pk_state.specs.Committed.{Committed, Stored, collection_of};
+ghost use Rattle.pk_segment.specs.Plain.{plain_length};
+ghost use Rattle.pk_state.specs.Committed.{Committed, collection_of, whole_of};
 ghost use Rattle.pk_state.specs.Follows.{Commits, Replaces};
 ghost use Rattle.pk_state.specs.Holds.{AgreeWith, Holds};
 ghost use Rattle.pk_state.specs.Kept.{IsKept};
-ghost use Rattle.pk_state.specs.Legal.{Accepts, IsFull, IsPlaceOf, LegalStep, State};
+ghost use Rattle.pk_state.specs.Legal.{IsFull, IsPlaceOf, LegalStep, State};
 ghost use Rattle.pk_state.specs.Legal.{Writes, has_work, marked};
 ghost use Rattle.pk_state.specs.Merged.{HasNothingToMerge};
 ghost use Rattle.pk_state.specs.Session.{Session, Tells, next_session};
 ghost use Rattle.pk_state.specs.States.{IsState};
-ghost use Rattle.pk_state.specs.Writing.{IsTidyRun, is_merged};
+ghost use Rattle.pk_state.specs.Writing.{IsTidyRun, is_merged, is_too_large};
 
 /// A legal step goes over to the sessions that give what the store means: the log gains what was
 /// accepted, an accepted commit moves the mark to its end, and nothing else changes.
@@ -44,23 +45,21 @@ pub fn bytes_that_agree_hold_the_same()
 /// A disk that keeps what is committed holds its collection, in each image that a crash may leave.
 pub fn what_is_kept_is_held()
     ensures { (bytes image : List ℕ) (is_open : ℕ → Bool) (spare : Half) (c : Committed)
-        → IsKept bytes is_open spare c → IsCollection (collection_of c)
+        → IsKept bytes is_open spare c → IsCollection (whole_of c)
         → IsImage bytes is_open image → Holds image (collection_of c) }
 {}
 
 /// A store just opened, in which what is there now is what is committed, is in a state such as a
-/// commit wants it, where no deletion list is committed.
+/// commit wants it.
 pub fn a_store_just_opened_is_in_a_state()
-    ensures { (s : State) → s.now ≡ marked s → IsCollection (marked s)
-        → All (λ (t : Stored). t.dead ≡ []) s.committed.stored → IsState s }
+    ensures { (s : State) → s.now ≡ marked s → IsCollection (whole_of s.committed) → IsState s }
 {}
 
-/// A command that is refused, or that writes nothing, leaves a state such as a commit wants it.
-pub fn a_step_without_a_write_keeps_a_state()
-    ensures refused { (failed : Bool) (old new : State) (request : Request) (why : Refusal)
-        → IsState old → LegalStep failed old request (Err why) new → IsState new }
-    ensures idle { (old new : State) (request : Request) (answer : Answer) → IsState old
-        → has_work old request ≡ false → Accepts old request answer new → IsState new }
+/// A legal step leaves a state such as a commit wants it, whatever the command and its reply.
+pub fn a_legal_step_keeps_a_state()
+    ensures { (failed : Bool) (old new : State) (request : Request)
+        (reply : Result Answer Refusal) → IsState old → LegalStep failed old request reply new
+        → IsState new }
 {}
 
 /// What is committed after a commit stands for what is there now, its deletions too.
@@ -75,6 +74,12 @@ pub fn a_merge_changes_no_document()
         → collection_of new ≡ marked s }
     ensures tidy { (s : State) (new : Committed) → Writes s tidy new
         → collection_of new ≡ marked s }
+{}
+
+/// Documents are too large for a segment just where its bytes would pass 1,073,741,824.
+pub fn what_is_too_large()
+    ensures { (docs : List Doc)
+        → (is_too_large docs ≡ true) ↔ (1073741824 < plain_length docs) }
 {}
 
 /// Entries have at most one run that a tidy merges.

@@ -1,5 +1,6 @@
 -- A plan is carried out: what its body and pieces owe the disk, and what the volume stands for after each way that it ends.
-use Rattle.std.proofs.Common.{◌≡◌, ◌⊎◌, inl, inr, ⊎_elim, ℕ, ◌+◌, ◌<◌, ◌≤◌, true, false, List, [], length, map, refl, sym, ◌∙◌, ap, subst, arith, Ok, Err}
+use Rattle.std.proofs.Common.{◌≡◌, ◌⊎◌, inl, inr, ⊎_elim, ℕ, ◌+◌, ◌<◌, ◌≤◌, Bool, true, false, List, [], length, map, refl, sym, ◌∙◌, ap, subst, arith, Ok, Err}
+use Rattle.std.proofs.lemmas.Bool.{both_ways}
 use Rattle.pk_disk.specs.declared.disk.Disk.{Ghosts}
 use Rattle.pk_disk.specs.Disk.{IsImage}
 use Rattle.pk_disk.specs.Frames.{KeepsDisk}
@@ -24,17 +25,20 @@ use Rattle.pk_state.proofs.HoldsLemmas.{has_holds}
 use Rattle.pk_store.specs.declared.planning.Plan.{Plan}
 use Rattle.pk_store.specs.Plan.{Carries, Goes, IsPlan}
 use Rattle.pk_store.specs.View.{IsReady, StandFor, VolumeView, committed_by}
-use Rattle.pk_store.proofs.StoreSteps.{clear_flag}
+
+-- a flag that is clear is not set
+pub clear_flag : (b : Bool) → b ≡ false → b ≡ true → ⊥
+clear_flag b clear flag = both_ways b clear flag
 
 -- the volume after each end, on this disk
 abbrev pub carried : {D : Type 0} → VolumeView D → Plan → D → VolumeView D
-carried v p disk = record { disk = disk; body = view p.manifest; segments = p.segments.items; spare = other v.spare; reopen = v.reopen }
+carried v p disk = record { disk = disk; body = view p.manifest; opened = p.opened.items; spare = other v.spare; reopen = v.reopen }
 
 abbrev pub with_disk : {D : Type 0} → VolumeView D → D → VolumeView D
-with_disk v disk = record { disk = disk; body = v.body; segments = v.segments; spare = v.spare; reopen = v.reopen }
+with_disk v disk = record { disk = disk; body = v.body; opened = v.opened; spare = v.spare; reopen = v.reopen }
 
 abbrev pub flagged_on : {D : Type 0} → VolumeView D → D → VolumeView D
-flagged_on v disk = record { disk = disk; body = v.body; segments = v.segments; spare = v.spare; reopen = true }
+flagged_on v disk = record { disk = disk; body = v.body; opened = v.opened; spare = v.spare; reopen = true }
 
 -- the pieces, as claims, and the positions that they take
 abbrev pub pieces_of : Plan → List Claim
@@ -80,6 +84,7 @@ module _ {D : Type 0} (d : Ghosts D) (v : VolumeView D) (p : Plan) (ready : IsRe
       ends = ends_there;
       sound = sound_there (view p.manifest) plan.sound;
       opened = plan.opened;
+      grown = plan.grown;
       firm = λ h flag. (held h (spelling v.body) [] [] (held_none h) next_none).firm;
       in_force = λ h flag. (held h (spelling v.body) [] [] (held_none h) next_none).has_body ∙ plan.body_is;
     }
@@ -89,6 +94,7 @@ module _ {D : Type 0} (d : Ghosts D) (v : VolumeView D) (p : Plan) (ready : IsRe
       ends = ends_there;
       sound = sound_there v.body ready.sound;
       opened = ready.opened;
+      grown = ready.grown;
       firm = λ h flag. subst (λ b. IsFirm b (d.is_open disk) v.spare) (sym (keeps.read h).bytes) (subst (λ o. IsFirm (d.content v.disk) o v.spare) (sym (keeps.read h).positions) (ready.firm h clear));
       in_force = λ h flag. ap (λ b. body_of b (other v.spare)) (keeps.read h).bytes ∙ ready.in_force h clear;
     }
@@ -98,6 +104,7 @@ module _ {D : Type 0} (d : Ghosts D) (v : VolumeView D) (p : Plan) (ready : IsRe
       ends = ends_there;
       sound = sound_there v.body ready.sound;
       opened = ready.opened;
+      grown = ready.grown;
       firm = λ h flag. absurd (clear_flag true flag refl);
       in_force = λ h flag. absurd (clear_flag true flag refl);
     }
@@ -138,7 +145,7 @@ module _ {D : Type 0} (d : Ghosts D) (v : VolumeView D) (p : Plan) (ready : IsRe
     -- after Ok the entries stand for what follows
     pub stand_done : (disk : D) → length (d.content disk) ≡ length (d.content v.disk) → IsHeld (d.content disk) (d.is_open disk) (other v.spare) p.body.items new_claims → StandFor d (carried v p disk) c.stored
     stand_done disk same held = record {
-      opened = goes.to.segments;
+      opened = goes.to.opened;
       kept = λ flag. subst (λ b. IsKept (d.content disk) (d.is_open disk) (other v.spare) (record { body = b; stored = c.stored })) goes.to.body (record {
         sound = sound_there disk same c.body new_sound;
         entries = goes.to.entries;
@@ -162,7 +169,7 @@ module _ {D : Type 0} (d : Ghosts D) (v : VolumeView D) (p : Plan) (ready : IsRe
         → NoneFailed d v.disk disk → Carries d v p (Ok r) (carried v p disk)
     carries_done r says held none = record {
       failed = false;
-      ends = (refl, record { body = refl; segments = refl; spare = refl; reopen = clear }, none);
+      ends = (refl, record { body = refl; opened = refl; spare = refl; reopen = clear }, none);
       size = same;
       any_moment = moments says;
       done = λ h stored c goes. stand_done stored c goes disk same (held h (spelling v.body) (old_claims stored c goes) (new_claims stored c goes) (kept stored c goes).held (next_is stored c goes));
@@ -172,7 +179,7 @@ module _ {D : Type 0} (d : Ghosts D) (v : VolumeView D) (p : Plan) (ready : IsRe
     pub carries_read : {T : Type 0} → KeepsDisk d v.disk disk → ReadFailed d v.disk disk → Carries {T = T} d v p (Err Disk) (with_disk v disk)
     carries_read keeps failed = record {
       failed = false;
-      ends = (record { body = refl; segments = refl; spare = refl; reopen = refl; disk = keeps }, failed);
+      ends = (record { body = refl; opened = refl; spare = refl; reopen = refl; disk = keeps }, failed);
       size = same;
       any_moment = λ h stored c goes. none_only d.moment d.images_since v.disk disk _ (keeps.read h).images;
       done = λ h stored c goes. tt;
@@ -184,7 +191,7 @@ module _ {D : Type 0} (d : Ghosts D) (v : VolumeView D) (p : Plan) (ready : IsRe
         → SaysImages → WriteFailed d v.disk disk → Carries {T = T} d v p (Err Disk) (flagged_on v disk)
     carries_failed counts_now only_now says failed = record {
       failed = true;
-      ends = (record { body = refl; segments = refl; spare = refl; reopen = refl }, failed);
+      ends = (record { body = refl; opened = refl; spare = refl; reopen = refl }, failed);
       size = same;
       any_moment = moments says;
       done = λ h stored c goes. tt;

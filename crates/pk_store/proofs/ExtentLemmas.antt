@@ -37,7 +37,7 @@ claims_apart e f miss c d in_e in_f p le lt = outside_range d.at (length d.bytes
     (before_or_behind e f miss))
 
 -- a claim in an extent has no position of claims in others
-places_missed : (e : Extent) (c : Claim) → LiesIn e c → (es : List Extent) (cs : List Claim) → AreLaid es cs → list_any (overlap e) es ≡ false → IsUntouched (places cs) c
+pub places_missed : (e : Extent) (c : Claim) → LiesIn e c → (es : List Extent) (cs : List Claim) → AreLaid es cs → list_any (overlap e) es ≡ false → IsUntouched (places cs) c
 places_missed e c in_e [] [] laid none p le lt = refl
 places_missed e c in_e [] (d ∷ cs) laid none p le lt = absurd laid
 places_missed e c in_e (f ∷ es) [] laid none p le lt = absurd laid
@@ -46,7 +46,7 @@ places_missed e c in_e (f ∷ es) (d ∷ cs) laid none p le lt =
     (claims_apart e f (or_left (overlap e f) (list_any (overlap e) es) none) c d in_e laid.0 p le lt)
     (places_missed e c in_e es cs laid.1 (or_right (overlap e f) (list_any (overlap e) es) none) p le lt)
 
-apart_parts : (e : Extent) (es : List Extent) → apart overlap (e ∷ es) ≡ true → (list_any (overlap e) es ≡ false) × (apart overlap es ≡ true)
+pub apart_parts : (e : Extent) (es : List Extent) → apart overlap (e ∷ es) ≡ true → (list_any (overlap e) es ≡ false) × (apart overlap es ≡ true)
 apart_parts e es h = let parts = and_parts (not (list_any (overlap e) es)) (apart overlap es) h in (not-true (list_any (overlap e) es) parts.0, parts.1)
 
 -- claims in some of them have no position of claims in the others

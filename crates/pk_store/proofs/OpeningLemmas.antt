@@ -1,11 +1,11 @@
--- What opening rests on: which segments the entries of a body open as, and what that makes of the store.
-use Rattle.std.proofs.Common.{◌≡◌, ℕ, suc, ◌+◌, ◌-◌, ◌*◌, ◌<◌, ◌≤◌, ◌^◌, ◌&&◌, leb, eqb, true, List, [], ◌∷◌, ◌++◌, length, drop, refl, sym, ap, ◌∙◌, subst, arith, append_assoc, append-nil, add-one, drop-cons, length-drop, Result, Ok, Err, Option, Some, None}
+-- What opening rests on: which segments the entries of a body open as, with which deletion lists, and what that makes of the store.
+use Rattle.std.proofs.Common.{◌≡◌, ℕ, suc, ◌+◌, ◌-◌, ◌*◌, ◌/◌, ◌<◌, ◌≤◌, ◌^◌, ◌&&◌, leb, eqb, true, false, List, [], ◌∷◌, ◌++◌, length, drop, refl, sym, ap, ◌∙◌, subst, arith, append_assoc, append-nil, add-one, drop-cons, length-append, length-drop, Result, Ok, Err, Option, Some, None}
 use Rattle.std.specs.Prelude.{All, slice_index, slice_index_or}
-use Rattle.std.specs.List.{list_all}
+use Rattle.std.specs.List.{AllByRecursion, list_all}
 use Rattle.std.specs.List.Sorted.{IsStrictlyIncreasing}
 use Rattle.std.proofs.lemmas.Bool.{and_parts, leb-true}
-use Rattle.std.proofs.lemmas.List.{drop_all, length-map, length-take-le}
-use Rattle.std.proofs.lemmas.List.Elements.{All-head, All-nil, All-tail}
+use Rattle.std.proofs.lemmas.List.{drop_all, get_or-drop, length-map, length-take-le}
+use Rattle.std.proofs.lemmas.List.Elements.{All-append, All-cons, All-head, All-nil, All-tail}
 use Rattle.pk_disk.specs.declared.disk.Disk.{Ghosts}
 use Rattle.pk_disk.specs.declared.units.Extent.{Extent}
 use Rattle.pk_disk.specs.Disk.{nowhere}
@@ -20,27 +20,41 @@ use Rattle.pk_manifest.specs.Sound.{IsBody, is_part, is_sound, named, same_segme
 use Rattle.pk_manifest.specs.Spelling.{Body}
 use Rattle.pk_manifest.proofs.Fields.{one_body_in_force}
 use Rattle.pk_manifest.proofs.Firm.{firm_shut}
-use Rattle.pk_model.specs.Collection.{Collection, Doc, IsCollection, numbers_of}
+use Rattle.pk_model.specs.Collection.{Collection, Doc, IsCollection, is_live, numbers_of}
 use Rattle.pk_segment.specs.declared.header.Header.{Header}
 use Rattle.pk_segment.specs.declared.segment.Segment.{Segment}
 use Rattle.pk_segment.specs.Fields.{IsHeader, entry_field, header_field, number_at}
-use Rattle.pk_segment.specs.Opened.{IsOpened, IsSegmentOf, first_of, last_of}
+use Rattle.pk_segment.specs.Opened.{IsOpened, IsSegmentOf, count_of, first_of, last_of}
 use Rattle.pk_segment.specs.Plain.{PlainSpells, texts}
 use Rattle.pk_segment.proofs.OpeningLemmas.{counted, in_order, long_enough, number_there, texts_counted, whole}
 use Rattle.pk_segment.proofs.PlainLemmas.{length_parts, length_plain}
 use Rattle.pk_store.specs.declared.opening.Found.{Found}
 use Rattle.pk_store.specs.declared.refused.OpenFault.{OpenFault}
 use Rattle.pk_store.specs.declared.refused.OpenFault.TheVariants.{TooSmall, NotAStore, Damaged, Disk, Memory}
-use Rattle.pk_store.specs.Judging.{JudgesFound, IsLarge, IsOpenSoFar, OpensNext, SegmentAs, SegmentsAs, body_fault}
-use Rattle.pk_store.specs.Opening.{IsFresh, IsNoStoreFault, IsStoreOf, IsUncalled, OnSynced, OpenAsSegments, OpensAsStore, OpensAsSegment, RefusesOpening}
-use Rattle.pk_store.specs.View.{IsBuffered, IsReady, StoreView, committed_by, state_with, volume_of}
+use Rattle.pk_store.specs.Judging.{JudgesFound, IsLarge, IsOpenSoFar, OpensAsPlain, OpensNext, SegmentAs, SegmentsAs, body_fault}
+use Rattle.pk_store.specs.Opening.{IsFresh, IsNoStoreFault, IsStoreOf, IsUncalled, OnSynced, OpenAsSegments, OpensAsList, OpensAsStore, OpensAsSegment, RefusesOpening, SpellsFew}
+use Rattle.pk_store.specs.View.{IsBuffered, IsGrown, IsReady, StoreView, committed_by, state_with, volume_of}
 use Rattle.pk_store.proofs.StoreSteps.{clear_flag}
-use Rattle.pk_state.specs.Committed.{Stored, collection_of, live_in}
-use Rattle.pk_state.specs.Holds.{Holds, ListSpells, SpellsEntries}
-use Rattle.pk_state.specs.Kept.{AreSegments, LieInside}
+use Rattle.pk_state.specs.Committed.{Names, Stored, all_in, collection_of, lists, live_in, whole_of}
+use Rattle.pk_state.specs.Holds.{Holds, ListSpells, SpellsEntries, SpellsEntry}
+use Rattle.pk_state.specs.Kept.{EndsInside, LieInside, ListEndsInside}
 use Rattle.pk_state.proofs.HoldsLemmas.{kept_closed, lie_inside, units_room}
-use Rattle.pk_search.specs.Finding.{all_of}
-use Rattle.pk_search.proofs.FindingLemmas.{live_documents}
+use Rattle.pk_state.proofs.MemberLemmas.{listed}
+use Rattle.pk_state.proofs.WholeLemmas.{all_cons, live_is}
+use Rattle.pk_search.specs.declared.opened.OpenSegment.{OpenSegment}
+use Rattle.pk_search.specs.Opened.{AreOpenOf, IsOpenOf, present}
+use Rattle.pk_posting.specs.Posting.{IsPosting, Spells, tail_bytes}
+use Rattle.pk_posting.specs.Spelling.{AreBytes, spelled_length}
+use Rattle.pk_posting.proofs.ByteLemmas.{spelling_is}
+use Rattle.pk_posting.proofs.OneListLemmas.{one_list}
+use Rattle.pk_posting.proofs.SpellingLemmas.{length_spelling, small_at, spelling_spells, widths_most}
+use Rattle.pk_vbyte.specs.VariableByte.{vbyte}
+use Rattle.pk_vbyte.proofs.CallerLemmas.{most_bytes}
+use Rattle.pk_dead.proofs.PostingLemmas.{posting_rises}
+use Rattle.pk_dead.proofs.SetLemmas.{no_longer}
+
+abbrev stored_of : List Doc → List ℕ → Stored
+stored_of documents dead = record { documents = documents; dead = dead }
 
 abbrev collection : ℕ → List Doc → Collection
 collection next docs = record { next = next; documents = docs }
@@ -52,6 +66,103 @@ pub same_ends : (bytes : List ℕ) (size kind : ℕ) (s t : Segment) → IsOpene
 same_ends bytes size kind s t a b =
     let count : a.header.count ≡ b.header.count = a.read.count_is ∙ sym b.read.count_is in
     (a.first_is ∙ sym b.first_is, a.last_is ∙ ap (λ (n : ℕ). number_at 0 (entry_field bytes (n - 1))) count ∙ sym b.last_is)
+
+-- ---- one deletion list
+
+-- an extent within a disk has all its bytes
+pub length_extent : (bytes : List ℕ) (e : Extent) → EndsInside (length bytes) e → length (extent_bytes bytes e) ≡ e.bytes
+length_extent bytes e room = length-take-le e.bytes (drop (start_of e) bytes) (omega (arith, room, length-drop (start_of e) bytes))
+
+abbrev Tail : ℕ → List ℕ → ℕ
+Tail before xs = length (tail_bytes before xs)
+
+-- the numbers of a tail take five bytes each at most
+tail_most : (before : ℕ) (xs : List ℕ) → AllByRecursion (λ (x : ℕ). x < 2 ^ 32) xs → Tail before xs ≤ 5 * length xs
+unfolding tail_bytes
+tail_most before [] small = omega arith
+tail_most before (x ∷ xs) small =
+    let here : x < 2 ^ 32 = small.0 in
+    omega (arith, length-append (vbyte (x - before)) (tail_bytes x xs), most_bytes (x - before) (omega (arith, here)), tail_most x xs small.1)
+
+all_small : (xs : List ℕ) → ((i : ℕ) → slice_index xs i < 2 ^ 32) → AllByRecursion (λ (x : ℕ). x < 2 ^ 32) xs
+all_small [] small = tt
+all_small (x ∷ xs) small = (small 0, all_small xs (λ i. small (suc i)))
+
+-- a list has at most four bytes and five for each number
+pub spelled_most : (xs : List ℕ) → IsPosting xs → spelled_length xs ≤ 4 + 5 * length xs
+spelled_most xs posting =
+    let small = small_at xs posting in
+    let blocks = length xs / 128 in
+    let left = drop (128 * blocks) xs in
+    let widths = widths_most xs blocks small (omega arith) in
+    let tail = tail_most (slice_index (0 ∷ xs) (128 * blocks)) left (all_small left (λ i. subst (λ (n : ℕ). n < 2 ^ 32) (sym (get_or-drop (128 * blocks) xs i 0)) (small (128 * blocks + i)))) in
+    omega (arith, widths, tail, length-drop (128 * blocks) xs)
+
+-- a result has one fault
+pub only_fault : {T E : Type 0} (r : Result T E) (x y : E) → r ≡ Err x → r ≡ Err y → x ≡ y
+only_fault r x y first second = let both : Err x ≡ Err y = sym first ∙ second in cc
+
+-- what spells a list with few numbers is its spelling
+pub few_spelled : (bytes : List ℕ) (count : ℕ) (dead : List ℕ) → AreBytes bytes → Spells bytes dead → length dead ≤ count → SpellsFew bytes count dead
+few_spelled bytes count dead small spells few = record { posting = spells.posting; same = spelling_is bytes dead small spells; few = few }
+
+pub few_spells : (bytes : List ℕ) (count : ℕ) (dead : List ℕ) → SpellsFew bytes count dead → Spells bytes dead
+few_spells bytes count dead is = subst (λ (bs : List ℕ). Spells bs dead) (sym is.same) (spelling_spells dead is.posting)
+
+-- bytes that spell a list with more numbers spell none with so few
+pub not_few : (bytes : List ℕ) (count : ℕ) (read : List ℕ) → Spells bytes read → count < length read → (dead : List ℕ) → SpellsFew bytes count dead → ⊥
+not_few bytes count read spells many dead is =
+    let same : read ≡ dead = one_list bytes read dead spells (few_spells bytes count dead is) in
+    absurd (omega (arith, many, ap length same, is.few))
+
+-- nor do more bytes than so many numbers can have
+pub too_long : (bytes : List ℕ) (e : Extent) (count : ℕ) → EndsInside (length bytes) e → 4 + 5 * count < e.bytes → (dead : List ℕ) → SpellsFew (extent_bytes bytes e) count dead → ⊥
+too_long bytes e count inside many dead is =
+    let long : length (extent_bytes bytes e) ≡ e.bytes = length_extent bytes e inside in
+    absurd (omega (arith, many, is.few, long, ap length is.same, length_spelling dead, spelled_most dead is.posting))
+
+-- the list of an entry is one
+list_one : (bytes : List ℕ) (list : Option Extent) (count : ℕ) (dead : List ℕ) (s : Stored) → OpensAsList bytes list count dead → ListSpells bytes list s → dead ≡ s.dead
+list_one bytes None count dead s is spells = is ∙ sym spells
+list_one bytes (Some e) count dead s is spells =
+    one_list (extent_bytes bytes e) dead s.dead (few_spells (extent_bytes bytes e) count dead is)
+    (subst (λ (bs : List ℕ). Spells bs s.dead) (sym spells.same) (spelling_spells s.dead spells.posting))
+
+-- its numbers rise, and are numbers of the documents
+no_numbers : IsPosting []
+no_numbers = record { rising = λ i lt. absurd (omega (arith, lt)); below = λ i lt. absurd (omega (arith, lt)); short = omega arith }
+
+list_posting : (bytes : List ℕ) (list : Option Extent) (s : Stored) → ListSpells bytes list s → IsPosting s.dead
+list_posting bytes None s spells = subst IsPosting (sym spells) no_numbers
+list_posting bytes (Some e) s spells = spells.posting
+
+none_named : (n : ℕ) (docs : List Doc) → lists n [] ≡ true → is_live n docs ≡ true
+none_named n docs h = absurd (let no : false ≡ true = h in cc)
+
+list_names : (bytes : List ℕ) (list : Option Extent) (s : Stored) → ListSpells bytes list s → Names s.dead s.documents
+list_names bytes None s spells = subst (λ (ns : List ℕ). Names ns s.documents) (sym spells) (λ n. none_named n s.documents)
+list_names bytes (Some e) s spells = spells.names
+
+-- so there are no more of them than documents
+no_more : (dead : List ℕ) (docs : List Doc) → IsPosting dead → Names dead docs → IsStrictlyIncreasing (numbers_of docs) → length dead ≤ length docs
+no_more dead docs posting names rising =
+    subst (λ (n : ℕ). length dead ≤ n) (length-map docs (λ (d : Doc). d.number))
+    (no_longer dead (numbers_of docs) (posting_rises dead posting) rising (λ n is. listed n docs ∙ names n is))
+
+list_opens : (bytes : List ℕ) (list : Option Extent) (count : ℕ) (s : Stored) → ListSpells bytes list s → IsStrictlyIncreasing (numbers_of s.documents) → count ≡ length s.documents → OpensAsList bytes list count s.dead
+list_opens bytes None count s spells rising long = spells
+list_opens bytes (Some e) count s spells rising long =
+    record { posting = spells.posting; same = spells.same; few = subst (λ (n : ℕ). length s.dead ≤ n) (sym long) (no_more s.dead s.documents spells.posting spells.names rising) }
+
+-- ---- one entry
+
+-- a fault of the segment is one of the entry
+pub fault_plain : (bytes : List ℕ) (e : Entry) (why : OpenFault) → SegmentAs (OpensAsPlain bytes e) (Err why) → SegmentAs (OpensAsSegment bytes e) (Err why)
+fault_plain bytes e TooSmall h = h
+fault_plain bytes e NotAStore h = h
+fault_plain bytes e Damaged h = λ o opens. h o.segment (opens.kind, opens.opened)
+fault_plain bytes e Disk h = tt
+fault_plain bytes e Memory h = tt
 
 -- a fault of an entry is one of its segment with bounds
 pub fault_next : (bytes : List ℕ) (low next : ℕ) (e : Entry) (why : OpenFault) → SegmentAs (OpensAsSegment bytes e) (Err why) → SegmentAs (OpensNext bytes low next e) (Err why)
@@ -66,23 +177,23 @@ fault_next bytes low next e Memory h = tt
 pub none_so_far : (bytes : List ℕ) (next : ℕ) (entries : List Entry) → IsOpenSoFar bytes next entries 0 [] entries
 none_so_far bytes next entries = record { onward = λ rest opens. opens; back = λ all opens. (all, opens) }
 
-module _ (bytes : List ℕ) (next : ℕ) (entries : List Entry) (low : ℕ) (segments : List Segment) where
+module _ (bytes : List ℕ) (next : ℕ) (entries : List Entry) (low : ℕ) (segments : List OpenSegment) where
   -- the next entry is open too
-  pub more_so_far : (e : Entry) (left : List Entry) (s : Segment) → IsOpenSoFar bytes next entries low segments (e ∷ left) → OpensNext bytes low next e s → IsOpenSoFar bytes next entries (last_of s) (segments ++ s ∷ []) left
+  pub more_so_far : (e : Entry) (left : List Entry) (s : OpenSegment) → IsOpenSoFar bytes next entries low segments (e ∷ left) → OpensNext bytes low next e s → IsOpenSoFar bytes next entries (last_of s.segment) (segments ++ s ∷ []) left
   more_so_far e left s before here = record {
     onward = λ rest opens. subst (OpenAsSegments bytes 0 next entries) (sym (append_assoc segments (s ∷ []) rest)) (before.onward (s ∷ rest) (here.0, here.1, here.2, opens));
     back = λ all opens. behind (before.back all opens);
   }
     where
-      behind : (rest : List Segment) × OpenAsSegments bytes low next (e ∷ left) rest → (rest : List Segment) × OpenAsSegments bytes (last_of s) next left rest
+      behind : (rest : List OpenSegment) × OpenAsSegments bytes low next (e ∷ left) rest → (rest : List OpenSegment) × OpenAsSegments bytes (last_of s.segment) next left rest
       behind ([], opens) = absurd opens
-      behind (t ∷ rest, opens) = (rest, subst (λ (n : ℕ). OpenAsSegments bytes n next left rest) (same_ends (extent_bytes bytes e.extent) e.extent.bytes 1 t s opens.0.opened here.0.opened).1 opens.3)
+      behind (t ∷ rest, opens) = (rest, subst (λ (n : ℕ). OpenAsSegments bytes n next left rest) (same_ends (extent_bytes bytes e.extent) e.extent.bytes 1 t.segment s.segment opens.0.opened here.0.opened).1 opens.3)
 
   -- where it is damaged, the entries open as no segments
-  pub none_open : (e : Entry) (left : List Entry) → IsOpenSoFar bytes next entries low segments (e ∷ left) → ((s : Segment) → OpensNext bytes low next e s → ⊥) → (all : List Segment) → OpenAsSegments bytes 0 next entries all → ⊥
+  pub none_open : (e : Entry) (left : List Entry) → IsOpenSoFar bytes next entries low segments (e ∷ left) → ((s : OpenSegment) → OpensNext bytes low next e s → ⊥) → (all : List OpenSegment) → OpenAsSegments bytes 0 next entries all → ⊥
   none_open e left before none all opens = with_rest (before.back all opens)
     where
-      with_rest : (rest : List Segment) × OpenAsSegments bytes low next (e ∷ left) rest → ⊥
+      with_rest : (rest : List OpenSegment) × OpenAsSegments bytes low next (e ∷ left) rest → ⊥
       with_rest ([], opens) = opens
       with_rest (s ∷ rest, opens) = none s (opens.0, opens.1, opens.2)
 
@@ -90,21 +201,25 @@ module _ (bytes : List ℕ) (next : ℕ) (entries : List Entry) (low : ℕ) (seg
   pub all_open : IsOpenSoFar bytes next entries low segments [] → OpenAsSegments bytes 0 next entries segments
   all_open before = subst (OpenAsSegments bytes 0 next entries) (append-nil segments) (before.onward [] tt)
 
+-- and nothing is forgotten among what is deleted of one open segment more
+pub more_grown : (os : List OpenSegment) (o : OpenSegment) → All IsGrown os → IsGrown o → All IsGrown (os ++ o ∷ [])
+more_grown os o all one = All-append IsGrown os (o ∷ []) all (All-cons IsGrown o [] one (All-nil IsGrown))
+
 -- what a place past the end reads as
 abbrev pub no_entry : Entry
 no_entry = record { segment = 0; extent = record { first = 0; units = 0; bytes = 0 }; kind = 0; dead = None }
 
 -- The same, by the place of the next entry, of bytes and entries that are read again as they were.
-module _ (bytes : List ℕ) (table : Body) (low : ℕ) (segments : List Segment) (i : ℕ) (lt : i < length table.entries) (before : IsOpenSoFar bytes table.next_number table.entries low segments (drop i table.entries))
+module _ (bytes : List ℕ) (table : Body) (low : ℕ) (segments : List OpenSegment) (i : ℕ) (lt : i < length table.entries) (before : IsOpenSoFar bytes table.next_number table.entries low segments (drop i table.entries))
     (here : List ℕ) (same : here ≡ bytes) (entries : List Entry) (all : entries ≡ table.entries) where
   ahead : IsOpenSoFar bytes table.next_number table.entries low segments (slice_index_or table.entries i no_entry ∷ drop (i + 1) table.entries)
   ahead = subst (IsOpenSoFar bytes table.next_number table.entries low segments) (drop-cons table.entries i no_entry lt ∙ (rw add-one refl)) before
 
-  moved : (r : Result Segment OpenFault) → SegmentAs (OpensNext here low table.next_number (slice_index_or entries i no_entry)) r → SegmentAs (OpensNext bytes low table.next_number (slice_index_or table.entries i no_entry)) r
+  moved : (r : Result OpenSegment OpenFault) → SegmentAs (OpensNext here low table.next_number (slice_index_or entries i no_entry)) r → SegmentAs (OpensNext bytes low table.next_number (slice_index_or table.entries i no_entry)) r
   moved r h = subst (λ (b : List ℕ). SegmentAs (OpensNext b low table.next_number (slice_index_or table.entries i no_entry)) r) same
       (subst (λ (es : List Entry). SegmentAs (OpensNext here low table.next_number (slice_index_or es i no_entry)) r) all h)
 
-  pub next_so_far : (s : Segment) → OpensNext here low table.next_number (slice_index_or entries i no_entry) s → IsOpenSoFar bytes table.next_number table.entries (last_of s) (segments ++ s ∷ []) (drop (i + 1) table.entries)
+  pub next_so_far : (s : OpenSegment) → OpensNext here low table.next_number (slice_index_or entries i no_entry) s → IsOpenSoFar bytes table.next_number table.entries (last_of s.segment) (segments ++ s ∷ []) (drop (i + 1) table.entries)
   next_so_far s opens = more_so_far bytes table.next_number table.entries low segments (slice_index_or table.entries i no_entry) (drop (i + 1) table.entries) s ahead (moved (Ok s) opens)
 
   fault_here : (why : OpenFault) → SegmentAs (OpensNext bytes low table.next_number (slice_index_or table.entries i no_entry)) (Err why) → SegmentsAs bytes table (Err why)
@@ -118,7 +233,7 @@ module _ (bytes : List ℕ) (table : Body) (low : ℕ) (segments : List Segment)
   fault_so_far why h = fault_here why (moved (Err why) h)
 
 -- with no entry left, the segments are those of all of them
-pub end_so_far : (bytes : List ℕ) (table : Body) (low : ℕ) (segments : List Segment) (i : ℕ) → length table.entries ≤ i → IsOpenSoFar bytes table.next_number table.entries low segments (drop i table.entries) → OpenAsSegments bytes 0 table.next_number table.entries segments
+pub end_so_far : (bytes : List ℕ) (table : Body) (low : ℕ) (segments : List OpenSegment) (i : ℕ) → length table.entries ≤ i → IsOpenSoFar bytes table.next_number table.entries low segments (drop i table.entries) → OpenAsSegments bytes 0 table.next_number table.entries segments
 end_so_far bytes table low segments i le before = all_open bytes table.next_number table.entries low segments (subst (IsOpenSoFar bytes table.next_number table.entries low segments) (drop_all i table.entries le) before)
 
 -- ---- the body and its segments
@@ -144,7 +259,7 @@ segments_refuse bytes half table Damaged current h = record {
   in_force = current.in_force;
   none = λ other segments opens.
       let same = (one_body_in_force bytes half half table other current opens.current).1 in
-      h segments (subst (λ (t : Body). OpenAsSegments bytes 0 t.next_number t.entries segments) (sym same) opens.opened);
+      h segments (subst (λ (t : Body). OpenAsSegments bytes 0 t.next_number t.entries segments) (sym same) opens.segments);
 }
 segments_refuse bytes half table Disk current h = tt
 segments_refuse bytes half table Memory current h = tt
@@ -200,15 +315,42 @@ segment_of bytes docs size s opened is =
       last_is = number_there bytes docs (length docs - 1) (last_of s) is (omega arith) (opened.last_is ∙ ap (λ (n : ℕ). number_at 0 (entry_field bytes (n - 1))) count);
     }
 
--- the segments are the documents that their entries spell
-pub are_segments : (bytes : List ℕ) (low next : ℕ) (es : List Entry) (ss : List Segment) (stored : List Stored) → OpenAsSegments bytes low next es ss → SpellsEntries bytes es stored → AreSegments ss stored
-are_segments bytes low next [] [] [] opened spells = tt
-are_segments bytes low next [] [] (x ∷ stored) opened spells = absurd spells
-are_segments bytes low next [] (s ∷ ss) stored opened spells = absurd opened
-are_segments bytes low next (e ∷ es) [] stored opened spells = absurd opened
-are_segments bytes low next (e ∷ es) (s ∷ ss) [] opened spells = absurd spells
-are_segments bytes low next (e ∷ es) (s ∷ ss) (x ∷ stored) opened spells =
-    (segment_of (extent_bytes bytes e.extent) x.documents e.extent.bytes s opened.0.opened spells.0.segment.1, are_segments bytes (last_of s) next es ss stored opened.3 spells.1)
+-- an open segment is that of the entry's documents, with its dead numbers
+is_open : (bytes : List ℕ) (e : Entry) (o : OpenSegment) (s : Stored) → OpensAsSegment bytes e o → SpellsEntry bytes e s → IsOpenOf o s
+is_open bytes e o s opened spells =
+    let was : o.dead ≡ s.dead = list_one bytes e.dead (count_of o.segment) o.dead s opened.list spells.list in
+    let all : o.deleted ≡ s.dead = opened.deleted ∙ was in
+    let posting = list_posting bytes e.dead s spells.list in
+    record {
+      segment = segment_of (extent_bytes bytes e.extent) s.documents e.extent.bytes o.segment opened.opened spells.segment.1;
+      dead = was;
+      kept = λ n is. ap (lists n) all ∙ is;
+      names = subst (λ (ns : List ℕ). Names ns s.documents) (sym all) (list_names bytes e.dead s spells.list);
+      posting = subst IsPosting (sym all) posting;
+      was = subst IsPosting (sym was) posting;
+    }
+
+-- the open segments are those of what their entries spell
+pub are_open : (bytes : List ℕ) (low next : ℕ) (es : List Entry) (os : List OpenSegment) (stored : List Stored) → OpenAsSegments bytes low next es os → SpellsEntries bytes es stored → AreOpenOf os stored
+are_open bytes low next [] [] [] opened spells = tt
+are_open bytes low next [] [] (x ∷ stored) opened spells = absurd spells
+are_open bytes low next [] (o ∷ os) stored opened spells = absurd opened
+are_open bytes low next (e ∷ es) [] stored opened spells = absurd opened
+are_open bytes low next (e ∷ es) (o ∷ os) [] opened spells = absurd spells
+are_open bytes low next (e ∷ es) (o ∷ os) (x ∷ stored) opened spells =
+    (is_open bytes e o x opened.0 spells.0, are_open bytes (last_of o.segment) next es os stored opened.3 spells.1)
+
+-- no deletion is pending in them: what is present is what is committed
+pub all_present : (bytes : List ℕ) (low next : ℕ) (es : List Entry) (os : List OpenSegment) (stored : List Stored) → OpenAsSegments bytes low next es os → SpellsEntries bytes es stored → present os stored ≡ stored
+all_present bytes low next [] [] [] opened spells = refl
+all_present bytes low next [] [] (x ∷ stored) opened spells = absurd spells
+all_present bytes low next [] (o ∷ os) stored opened spells = absurd opened
+all_present bytes low next (e ∷ es) [] stored opened spells = absurd opened
+all_present bytes low next (e ∷ es) (o ∷ os) [] opened spells = absurd spells
+all_present bytes low next (e ∷ es) (o ∷ os) (x ∷ stored) opened spells =
+    let all : o.deleted ≡ x.dead = opened.0.deleted ∙ list_one bytes e.dead (count_of o.segment) o.dead x opened.0.list spells.0.list in
+    ap (λ (ns : List ℕ). stored_of x.documents ns ∷ present os stored) all
+    ∙ ap (λ more. x ∷ more) (all_present bytes (last_of o.segment) next es os stored opened.3 spells.1)
 
 -- ---- the numbers of a collection rise from entry to entry
 
@@ -259,37 +401,35 @@ rises_split low next (d ∷ e ∷ docs) rest some h =
       subst (λ (n : ℕ). Rises n next rest) last more.2,
     )
 
-rise_through : (bytes : List ℕ) (low next : ℕ) (es : List Entry) (stored : List Stored) → SpellsEntries bytes es stored → Rises low next (all_of stored) → RiseThrough low next stored
+rise_through : (bytes : List ℕ) (low next : ℕ) (es : List Entry) (stored : List Stored) → SpellsEntries bytes es stored → Rises low next (all_in stored) → RiseThrough low next stored
 rise_through bytes low next [] [] spells h = tt
 rise_through bytes low next [] (x ∷ stored) spells h = absurd spells
 rise_through bytes low next (e ∷ es) [] spells h = absurd spells
 rise_through bytes low next (e ∷ es) (x ∷ stored) spells h =
     let docs = x.documents in
-    let parts = rises_split low next docs (all_of stored) spells.0.segment.1.are.some h in
+    let parts = rises_split low next docs (all_in stored) spells.0.segment.1.are.some (subst (Rises low next) (all_cons x stored) h) in
     (parts.0, parts.1, rise_through bytes (slice_index (numbers_of docs) (length docs - 1)) next es stored spells.1 parts.2)
 
--- so far an entry that spells something has no deletion list
-no_list : (bytes : List ℕ) (list : Option Extent) (dead : List ℕ) → ListSpells bytes list dead → list ≡ None
-no_list bytes None dead is = refl
-no_list bytes (Some e) dead is = absurd is
+abbrev InsideEntry : ℕ → Entry → Type 0
+InsideEntry size e = EndsInside size e.extent × ListEndsInside size e.dead
 
 -- entries that spell documents whose numbers rise open as segments
 entries_open : (bytes : List ℕ) (low next : ℕ) (es : List Entry) (stored : List Stored) → LieInside (length bytes) es → SpellsEntries bytes es stored → RiseThrough low next stored
-    → (ss : List Segment) × OpenAsSegments bytes low next es ss
+    → (os : List OpenSegment) × OpenAsSegments bytes low next es os
 entries_open bytes low next [] [] inside spells rise = ([], tt)
 entries_open bytes low next [] (x ∷ stored) inside spells rise = absurd spells
 entries_open bytes low next (e ∷ es) [] inside spells rise = absurd spells
 entries_open bytes low next (e ∷ es) (x ∷ stored) inside spells rise =
     let docs = x.documents in
-    let room = All-head (λ (d : Entry). start_of d.extent + d.extent.bytes ≤ length bytes) e es inside in
+    let room = All-head (InsideEntry (length bytes)) e es inside in
     let plain = spells.0.segment.1 in
-    let long : length (extent_bytes bytes e.extent) ≡ e.extent.bytes = length-take-le e.extent.bytes (drop (start_of e.extent) bytes) (omega (arith, room, length-drop (start_of e.extent) bytes)) in
+    let long = length_extent bytes e.extent room.0 in
     let one = opens (extent_bytes bytes e.extent) docs e.extent.bytes plain (sym long) in
     let of = segment_of (extent_bytes bytes e.extent) docs e.extent.bytes one.0 one.1 plain in
-    let more = entries_open bytes (last_of one.0) next es stored (All-tail (λ (d : Entry). start_of d.extent + d.extent.bytes ≤ length bytes) e es inside) spells.1 (subst (λ (n : ℕ). RiseThrough n next stored) (sym of.last_is) rise.2) in (
-      one.0 ∷ more.0,
+    let more = entries_open bytes (last_of one.0) next es stored (All-tail (InsideEntry (length bytes)) e es inside) spells.1 (subst (λ (n : ℕ). RiseThrough n next stored) (sym of.last_is) rise.2) in (
+      record { segment = one.0; dead = x.dead; deleted = x.dead } ∷ more.0,
       (
-        record { kind = spells.0.segment.0; alive = no_list bytes e.dead x.dead spells.0.list; opened = one.1 },
+        record { kind = spells.0.segment.0; opened = one.1; list = list_opens bytes e.dead (count_of one.0) x spells.0.list plain.are.rising of.count_is; deleted = refl },
         subst (λ (n : ℕ). low < n) (sym of.first_is) rise.0,
         subst (λ (n : ℕ). n < next) (sym of.last_is) rise.1,
         more.1,
@@ -298,15 +438,13 @@ entries_open bytes low next (e ∷ es) (x ∷ stored) inside spells rise =
 
 -- ---- bytes that hold a collection open as a store of it
 
-pub held_open : (bytes : List ℕ) (c : Collection) (holds : Holds bytes c) → (segments : List Segment) × OpensAsStore bytes holds.half holds.committed.body segments
+pub held_open : (bytes : List ℕ) (c : Collection) (holds : Holds bytes c) → (opened : List OpenSegment) × OpensAsStore bytes holds.half holds.committed.body opened
 held_open bytes c holds =
     let b = holds.committed.body in
     let stored = holds.committed.stored in
-    let numbers : IsCollection (collection_of holds.committed) = subst IsCollection (sym holds.stands_for) holds.numbers in
-    let live = live_documents bytes b.entries stored holds.spelled in
-    let rise = rise_through bytes 0 b.next_number b.entries stored holds.spelled (subst (Rises 0 b.next_number) live (rises b.next_number _ numbers.rising numbers.each)) in
+    let rise = rise_through bytes 0 b.next_number b.entries stored holds.spelled (rises b.next_number (all_in stored) holds.numbers.rising holds.numbers.each) in
     let found = entries_open bytes 0 b.next_number b.entries stored (lie_inside bytes b holds.current.sound) holds.spelled rise in
-    (found.0, record { current = holds.current; opened = found.1 })
+    (found.0, record { current = holds.current; segments = found.1 })
 
 some_half : (a b : Half) → Some a ≡ Some b → a ≡ b
 some_half a b same = cc
@@ -325,7 +463,7 @@ held_fault bytes c holds Disk h = tt
 held_fault bytes c holds Memory h = tt
 
 -- what was opened means it
-pub means_held : {D : Type 0} (d : Ghosts D) (bytes : List ℕ) (c : Collection) (s : StoreView D) → Holds bytes c → OpensAsStore bytes (other s.volume.spare) s.volume.body s.volume.segments
+pub means_held : {D : Type 0} (d : Ghosts D) (bytes : List ℕ) (c : Collection) (s : StoreView D) → Holds bytes c → OpensAsStore bytes (other s.volume.spare) s.volume.body s.volume.opened
     → d.content s.volume.disk ≡ bytes → d.is_open s.volume.disk ≡ nowhere → IsFresh s → IsStoreOf d s c
 means_held d bytes c s holds opened same closed fresh =
     let v = s.volume in
@@ -333,18 +471,21 @@ means_held d bytes c s holds opened same closed fresh =
     let bodies : holds.committed.body ≡ v.body = (one_body_in_force bytes holds.half (other v.spare) holds.committed.body v.body holds.current opened.current).1 in
     let spelled : SpellsEntries bytes v.body.entries stored = subst (λ (b : Body). SpellsEntries bytes b.entries stored) bodies holds.spelled in
     let stands : collection_of (committed_by v stored) ≡ c = subst (λ (b : Body). collection_of (record { body = b; stored = stored }) ≡ c) bodies holds.stands_for in
-    let more : live_in stored ++ s.buffer ≡ live_in stored = ap (λ (buffer : List Doc). live_in stored ++ buffer) fresh.buffer ∙ append-nil (live_in stored) in
+    let here : present v.opened stored ≡ stored = all_present bytes 0 v.body.next_number v.body.entries v.opened stored opened.segments spelled in
+    let more : live_in (present v.opened stored) ++ s.buffer ≡ live_in stored =
+    ap (λ (buffer : List Doc). live_in (present v.opened stored) ++ buffer) fresh.buffer ∙ append-nil (live_in (present v.opened stored)) ∙ ap live_in here in
     let now : (state_with s stored).now ≡ c =
-    ap (λ (n : ℕ). collection n (live_in stored ++ s.buffer)) fresh.next ∙ ap (collection v.body.next_number) more ∙ stands in
+    ap (λ (n : ℕ). collection n (live_in (present v.opened stored) ++ s.buffer)) fresh.next ∙ ap (collection v.body.next_number) more ∙ stands in
+    let numbers : IsCollection (whole_of (committed_by v stored)) = subst (λ (b : Body). IsCollection (collection b.next_number (all_in stored))) bodies holds.numbers in
     record {
       state = state_with s stored;
       means = record {
         stored = stored;
         state_is = refl;
-        numbers = subst IsCollection (sym now) holds.numbers;
-        committed = subst IsCollection (sym stands) holds.numbers;
+        numbers = subst IsCollection (sym now) (subst IsCollection holds.stands_for (live_is holds.committed holds.numbers));
+        committed = numbers;
         stand = record {
-          opened = are_segments bytes 0 v.body.next_number v.body.entries v.segments stored opened.opened spelled;
+          opened = are_open bytes 0 v.body.next_number v.body.entries v.opened stored opened.segments spelled;
           kept = λ flag. kept_closed (d.content v.disk) (d.is_open v.disk) v.spare (committed_by v stored)
               (subst (λ (b : List ℕ). HasBody b (other v.spare) v.body) (sym same) opened.current)
               (subst (λ (b : List ℕ). SpellsEntries b v.body.entries stored) (sym same) spelled) closed;
@@ -382,12 +523,13 @@ unbuffered units table sound =
     }
 
 -- what is known of a volume that was opened
-pub ready : {D : Type 0} (d : Ghosts D) (disk : D) (spare : Half) (b : Body) (segments : List Segment) → 64 ≤ units_of_disk (d.content disk) → IsBody (units_of_disk (d.content disk)) b → length segments ≡ length b.entries
-    → (d.honest → HasBody (d.content disk) (other spare) b) → (d.honest → d.is_open disk ≡ nowhere) → IsReady d (volume_of disk b segments spare)
-ready d disk spare b segments large sound count has closed = record {
+pub ready : {D : Type 0} (d : Ghosts D) (disk : D) (spare : Half) (b : Body) (opened : List OpenSegment) → 64 ≤ units_of_disk (d.content disk) → IsBody (units_of_disk (d.content disk)) b → length opened ≡ length b.entries → All IsGrown opened
+    → (d.honest → HasBody (d.content disk) (other spare) b) → (d.honest → d.is_open disk ≡ nowhere) → IsReady d (volume_of disk b opened spare)
+ready d disk spare b opened large sound count grown has closed = record {
   ends = omega (arith, large, units_room (length (d.content disk)));
   sound = sound;
   opened = count;
+  grown = grown;
   firm = λ h clear. firm_shut (d.content disk) (d.is_open disk) spare (has h).in_force (closed h);
   in_force = λ h clear. (has h).spelled;
 }

@@ -16,15 +16,16 @@ use Rattle.pk_search.proofs.LookUpLemmas.{live-found, live-second}
 use Rattle.pk_segment.specs.declared.fault.ReadFault.{ReadFault}
 use Rattle.pk_segment.specs.declared.fault.ReadFault.TheVariants as fault
 use Rattle.pk_segment.specs.Reading.{CountsReads, IsNoDamage}
-use Rattle.pk_state.specs.Committed.{Stored, live_in}
+use Rattle.pk_state.specs.Committed.{Stored, live_in, whole_of}
 use Rattle.pk_state.specs.Legal.{State, LegalStep, RefusesDue, due, marked}
-use Rattle.pk_state.specs.Kept.{AreSegments, IsKept}
+use Rattle.pk_state.specs.Kept.{IsKept}
+use Rattle.pk_search.specs.Opened.{AreOpenOf, present}
 use Rattle.pk_state.specs.Holds.{Holds}
 use Rattle.pk_state.proofs.HoldsLemmas.{kept_holds, kept_read, kept_spelled, one_stored}
 use Rattle.pk_store.specs.Refusing.{refusal_for}
-use Rattle.pk_store.specs.Steps.{HoldsIn, IsCauseOf, IsRightly, IsUndamaged, Steps, StepsTo, may_refuse}
+use Rattle.pk_store.specs.Steps.{HoldsIn, IsCauseOf, IsIdle, IsRightly, IsUndamaged, Steps, StepsTo, may_refuse}
 use Rattle.pk_store.specs.View.{KeepsVolume, Means, StandFor, StoreView, VolumeView, committed_by, state_with}
-use Rattle.pk_store.proofs.StoreSteps.{IsNoCommit, clear_flag, clear_refusal, marked_with, not_idle}
+use Rattle.pk_store.proofs.StoreSteps.{IsNoWriter, clear_flag, clear_refusal, not_idle, whole_with}
 
 -- the store with another volume
 abbrev pub on_volume : {D : Type 0} → StoreView D → VolumeView D → StoreView D
@@ -32,13 +33,13 @@ on_volume s v = record { volume = v; buffer = s.buffer; next = s.next }
 
 -- no call keeps a volume
 pub keeps_volume_none : {D : Type 0} (d : Ghosts D) (v : VolumeView D) → KeepsVolume d v v
-keeps_volume_none d v = record { body = refl; segments = refl; spare = refl; reopen = refl; disk = keeps_disk_none d v.disk }
+keeps_volume_none d v = record { body = refl; opened = refl; spare = refl; reopen = refl; disk = keeps_disk_none d v.disk }
 
 -- What is known of a store where nothing has to be opened again.
 pub record AreKnown {D : Type 0} (d : Ghosts D) (s : StoreView D) (stored : List Stored) : Type 0 where
   pub stand : StandFor d s.volume stored
   pub numbers : IsCollection (state_with s stored).now
-  pub committed : IsCollection (marked_with s stored)
+  pub committed : IsCollection (whole_with s stored)
 
 -- a reader's fault, as a refusal
 undamaged_by : (why : ReadFault) → IsNoDamage why → IsUndamaged (Err (refusal_for why))
@@ -56,26 +57,26 @@ module _ {D : Type 0} (d : Ghosts D) (s : StoreView D) (clear : s.volume.reopen 
   known state m = record {
     stand = m.stand;
     numbers = subst (λ (x : State). IsCollection x.now) m.state_is m.numbers;
-    committed = subst (λ (x : State). IsCollection (marked x)) m.state_is m.committed;
+    committed = subst (λ (x : State). IsCollection (whole_of x.committed)) m.state_is m.committed;
   }
 
   module _ (v : VolumeView D) (keeps : KeepsVolume d s.volume v) where
     same_state : (stored : List Stored) → state_with s stored ≡ state_with (on_volume s v) stored
     same_state stored = λ i. record {
       committed = record { body = sym keeps.body i; stored = stored };
-      now = record { next = s.next; documents = live_in stored ++ s.buffer };
+      now = record { next = s.next; documents = live_in (present (sym keeps.opened i) stored) ++ s.buffer };
       reopen = sym keeps.reopen i;
     }
 
     -- it means the same states after reads
-    means_read : d.honest → (state : State) → Means d s state → Means d (on_volume s v) state
+    pub means_read : d.honest → (state : State) → Means d s state → Means d (on_volume s v) state
     means_read h state m = record {
       stored = m.stored;
       state_is = m.state_is ∙ same_state m.stored;
       numbers = m.numbers;
       committed = m.committed;
       stand = record {
-        opened = subst (λ os. AreSegments os m.stored) (sym keeps.segments) m.stand.opened;
+        opened = subst (λ os. AreOpenOf os m.stored) (sym keeps.opened) m.stand.opened;
         kept = λ _. subst (λ b. IsKept (d.content v.disk) (d.is_open v.disk) v.spare (record { body = b; stored = m.stored })) (sym keeps.body)
             (subst (λ half. IsKept (d.content v.disk) (d.is_open v.disk) half (record { body = s.volume.body; stored = m.stored })) (sym keeps.spare)
             (kept_read d s.volume.disk v.disk s.volume.spare (record { body = s.volume.body; stored = m.stored }) (keeps.disk.read h) (m.stand.kept clear)));
@@ -90,7 +91,7 @@ module _ {D : Type 0} (d : Ghosts D) (s : StoreView D) (clear : s.volume.reopen 
         (state, means_read h state m, subst (λ (x : State). LegalStep false x request reply x) (sym m.state_is) (legal m.stored (known state m)))
 
     -- WHAT A COMMAND OWES that only reads: an answer
-    pub answers_read : (request : Request) (answer : Answer) → d.failed_reads v.disk ≡ d.failed_reads s.volume.disk → IsNoCommit request
+    pub answers_read : (request : Request) (answer : Answer) → d.failed_reads v.disk ≡ d.failed_reads s.volume.disk → IsNoWriter request
         → (d.honest → (stored : List Stored) → AreKnown d s stored → LegalStep false (state_with s stored) request (Ok answer) (state_with s stored))
         → Steps d s request (Ok answer) (on_volume s v)
     answers_read request answer reads none legal = record {
@@ -104,11 +105,11 @@ module _ {D : Type 0} (d : Ghosts D) (s : StoreView D) (clear : s.volume.reopen 
       idle = λ idle. absurd (not_idle s request none idle);
     }
 
-    -- a refusal
-    pub refuses_read : (request : Request) (why : Refusal) → IsNoCommit request
+    -- a refusal, of a command that has work
+    pub refuses_looked : (request : Request) (why : Refusal) → (IsIdle s request → ⊥)
         → (d.honest → (stored : List Stored) → AreKnown d s stored → LegalStep false (state_with s stored) request (Err why) (state_with s stored) × IsUndamaged (Err why))
         → may_refuse request why ≡ true → IsRightly why → IsCauseOf d (Err why) false s.volume v → Steps d s request (Err why) (on_volume s v)
-    refuses_read request why none legal named rightly cause = record {
+    refuses_looked request why busy legal named rightly cause = record {
       failed = false;
       legal = λ h. reads_to h request (Err why) (λ stored is. (legal h stored is).0);
       undamaged = λ h state m. (legal h m.stored (known state m)).1;
@@ -118,11 +119,17 @@ module _ {D : Type 0} (d : Ghosts D) (s : StoreView D) (clear : s.volume.reopen 
       refused = record {
         named = named;
         rightly = rightly;
-        same = record { body = keeps.body; segments = keeps.segments; spare = keeps.spare; buffer = refl; next = refl };
+        same = record { body = keeps.body; opened = keeps.opened; spare = keeps.spare; buffer = refl; next = refl };
         looked_at = λ _. keeps.disk;
       };
-      idle = λ idle. absurd (not_idle s request none idle);
+      idle = λ idle. absurd (busy idle);
     }
+
+    -- or of one that never writes
+    pub refuses_read : (request : Request) (why : Refusal) → IsNoWriter request
+        → (d.honest → (stored : List Stored) → AreKnown d s stored → LegalStep false (state_with s stored) request (Err why) (state_with s stored) × IsUndamaged (Err why))
+        → may_refuse request why ≡ true → IsRightly why → IsCauseOf d (Err why) false s.volume v → Steps d s request (Err why) (on_volume s v)
+    refuses_read request why none = refuses_looked request why (not_idle s request none)
 
     cause_of : {T : Type 0} (why : ReadFault) → CountsReads {T = T} (d.failed_reads s.volume.disk) (d.failed_reads v.disk) (Err why) → IsCauseOf d (Err (refusal_for why)) false s.volume v
     cause_of fault.Damaged counts = (refl, record { reads = counts.damaged refl; writes = keeps.disk.writes }, keeps.reopen)
@@ -130,7 +137,7 @@ module _ {D : Type 0} (d : Ghosts D) (s : StoreView D) (clear : s.volume.reopen 
     cause_of fault.Memory counts = (refl, record { reads = counts.memory refl; writes = keeps.disk.writes }, keeps.reopen)
 
     -- a reader's fault
-    pub refuses_fault : {T : Type 0} (request : Request) (why : ReadFault) → IsNoCommit request → CountsReads {T = T} (d.failed_reads s.volume.disk) (d.failed_reads v.disk) (Err why)
+    pub refuses_fault : {T : Type 0} (request : Request) (why : ReadFault) → IsNoWriter request → CountsReads {T = T} (d.failed_reads s.volume.disk) (d.failed_reads v.disk) (Err why)
         → (d.honest → (stored : List Stored) → AreKnown d s stored → IsNoDamage why)
         → ((state : State) → state.reopen ≡ false → IsNoDamage why → LegalStep false state request (Err (refusal_for why)) state) → may_refuse request (refusal_for why) ≡ true
         → Steps d s request (Err (refusal_for why)) (on_volume s v)
@@ -155,12 +162,12 @@ answer-append query xs ys = ap numbers_of (filter-append (is_hit query) xs ys) �
 
 -- what is committed and the buffer answer is what the live documents do
 pub finds : {D : Type 0} (s : StoreView D) (stored : List Stored) (query : Tree) (numbers : List ℕ) → s.volume.reopen ≡ false
-    → numbers ≡ answer query (live_in stored) ++ answer query s.buffer → LegalStep false (state_with s stored) (find query) (Ok (found numbers)) (state_with s stored)
+    → numbers ≡ answer query (live_in (present s.volume.opened stored)) ++ answer query s.buffer → LegalStep false (state_with s stored) (find query) (Ok (found numbers)) (state_with s stored)
 unfolding LegalStep
 finds s stored query numbers clear e = record {
   clear = clear;
   due = refl;
-  reply = ap found (e ∙ sym (answer-append query (live_in stored) s.buffer));
+  reply = ap found (e ∙ sym (answer-append query (live_in (present s.volume.opened stored)) s.buffer));
   now = refl;
   still_clear = clear;
   mark = refl;
@@ -184,7 +191,7 @@ show_named n fault.Disk = refl
 show_named n fault.Memory = refl
 
 module _ {D : Type 0} (s : StoreView D) (stored : List Stored) (n : ℕ) (clear : s.volume.reopen ≡ false) where
-  shows : (t : List ℕ) → is_live n (live_in stored ++ s.buffer) ≡ true → text_of n (live_in stored ++ s.buffer) ≡ t
+  shows : (t : List ℕ) → is_live n (live_in (present s.volume.opened stored) ++ s.buffer) ≡ true → text_of n (live_in (present s.volume.opened stored) ++ s.buffer) ≡ t
       → LegalStep false (state_with s stored) (show n) (Ok (text_is t)) (state_with s stored)
   unfolding LegalStep
   shows t live e = record {
@@ -198,26 +205,26 @@ module _ {D : Type 0} (s : StoreView D) (stored : List Stored) (n : ℕ) (clear 
   }
 
   -- it is committed
-  pub shown_stored : (t : List ℕ) → is_live n (live_in stored) ≡ true → text_of n (live_in stored) ≡ t → LegalStep false (state_with s stored) (show n) (Ok (text_is t)) (state_with s stored)
-  shown_stored t live e = let found = live-found n (live_in stored) s.buffer live in shows t found.0 (found.1 ∙ e)
+  pub shown_stored : (t : List ℕ) → is_live n (live_in (present s.volume.opened stored)) ≡ true → text_of n (live_in (present s.volume.opened stored)) ≡ t → LegalStep false (state_with s stored) (show n) (Ok (text_is t)) (state_with s stored)
+  shown_stored t live e = let found = live-found n (live_in (present s.volume.opened stored)) s.buffer live in shows t found.0 (found.1 ∙ e)
 
   -- or the buffer says it
-  module _ (dead : is_live n (live_in stored) ≡ false) where
+  module _ (dead : is_live n (live_in (present s.volume.opened stored)) ≡ false) where
     pub shown_buffered : (t : List ℕ) → is_live n s.buffer ≡ true → t ≡ text_of n s.buffer → LegalStep false (state_with s stored) (show n) (Ok (text_is t)) (state_with s stored)
-    shown_buffered t live e = let rest = live-second n (live_in stored) s.buffer dead in shows t (rest.0 ∙ live) (rest.1 ∙ sym e)
+    shown_buffered t live e = let rest = live-second n (live_in (present s.volume.opened stored)) s.buffer dead in shows t (rest.0 ∙ live) (rest.1 ∙ sym e)
 
     pub missing : is_live n s.buffer ≡ false → LegalStep false (state_with s stored) (show n) (Err NoSuchDocument) (state_with s stored)
     missing gone = clear_refusal false (state_with s stored) (state_with s stored) (show n) (Some NoSuchDocument) NoSuchDocument clear
-        (ap (λ b. if b then None else Some NoSuchDocument) ((live-second n (live_in stored) s.buffer dead).0 ∙ gone)) (tt, refl)
+        (ap (λ b. if b then None else Some NoSuchDocument) ((live-second n (live_in (present s.volume.opened stored)) s.buffer dead).0 ∙ gone)) (tt, refl)
 
 -- COUNTS
 pub counts : {D : Type 0} (s : StoreView D) (stored : List Stored) (k : ℕ) → s.volume.reopen ≡ false
-    → k ≡ length (live_in stored) + length s.buffer → LegalStep false (state_with s stored) count (Ok (counted k s.next)) (state_with s stored)
+    → k ≡ length (live_in (present s.volume.opened stored)) + length s.buffer → LegalStep false (state_with s stored) count (Ok (counted k s.next)) (state_with s stored)
 unfolding LegalStep
 counts s stored k clear e = record {
   clear = clear;
   due = refl;
-  reply = ap (λ m. counted m s.next) (e ∙ sym (length-append (live_in stored) s.buffer));
+  reply = ap (λ m. counted m s.next) (e ∙ sym (length-append (live_in (present s.volume.opened stored)) s.buffer));
   now = refl;
   still_clear = clear;
   mark = refl;
@@ -228,7 +235,7 @@ counts s stored k clear e = record {
 module _ {D : Type 0} (d : Ghosts D) (s : StoreView D) where
   pub marked_holds : (state : State) → Means d s state → s.volume.reopen ≡ false → (image : List ℕ) → IsImage (d.content s.volume.disk) (d.is_open s.volume.disk) image → Holds image (marked state)
   marked_holds state m clear image is = subst (λ (x : State). Holds image (marked x)) (sym m.state_is)
-      (kept_holds (d.content s.volume.disk) (d.is_open s.volume.disk) s.volume.spare (committed_by s.volume m.stored) (m.stand.kept clear) (subst (λ (x : State). IsCollection (marked x)) m.state_is m.committed) image is)
+      (kept_holds (d.content s.volume.disk) (d.is_open s.volume.disk) s.volume.spare (committed_by s.volume m.stored) (m.stand.kept clear) (subst (λ (x : State). IsCollection (whole_of x.committed)) m.state_is m.committed) image is)
 
   -- the bytes are an image of their own
   pub marked_now : (state : State) → Means d s state → s.volume.reopen ≡ false → Holds (d.content s.volume.disk) (marked state)

@@ -1,10 +1,12 @@
 -- What opening a store and creating one answer.
-use Rattle.std.specs.Prelude.{◌≡◌, ◌↔◌, ◌⊎◌, ◌≤◌, ◌<◌, ℕ, false, List, [], ◌∷◌, None, Some, length}
+use Rattle.std.specs.Prelude.{◌≡◌, ◌↔◌, ◌⊎◌, ◌≤◌, ◌<◌, ℕ, false, List, [], ◌∷◌, length}
+use Rattle.std.specs.Prelude.{None, Some, Option}
 use Rattle.std.specs.Prelude.{Result, Ok, Err, IfOk}
 use Rattle.pk_disk.specs.declared.disk.Disk.{Ghosts}
 use Rattle.pk_disk.specs.Disk.{IsImage, nowhere}
 use Rattle.pk_disk.specs.Since.{NoneNew, OnlyNew}
 use Rattle.pk_disk.specs.Units.{extent_bytes}
+use Rattle.pk_disk.specs.declared.units.Extent.{Extent}
 use Rattle.pk_manifest.specs.declared.half.Half.{Half}
 use Rattle.pk_manifest.specs.declared.half.Half.TheVariants.{A, B}
 use Rattle.pk_manifest.specs.declared.manifest.Part.{Part as Entry}
@@ -14,8 +16,10 @@ use Rattle.pk_manifest.specs.Firm.{half_places}
 use Rattle.pk_manifest.specs.Spelling.{Body}
 use Rattle.pk_model.specs.Collection.{Collection, empty}
 use Rattle.pk_replace.specs.Cause.{NoneFailed, ReadFailed, WriteFailed}
-use Rattle.pk_segment.specs.declared.segment.Segment.{Segment}
-use Rattle.pk_segment.specs.Opened.{IsOpened, first_of, last_of}
+use Rattle.pk_posting.specs.Posting.{IsPosting}
+use Rattle.pk_posting.specs.Spelling.{spelling as list_spelling}
+use Rattle.pk_search.specs.declared.opened.OpenSegment.{OpenSegment}
+use Rattle.pk_segment.specs.Opened.{IsOpened, count_of, first_of, last_of}
 use Rattle.pk_state.specs.Holds.{Holds}
 use Rattle.pk_state.specs.Legal.{State, marked}
 use Rattle.pk_store.specs.declared.refused.CreateFault.{CreateFault}
@@ -35,34 +39,48 @@ abbrev pub disk_of : {D F : Type 0} → Result (StoreView D) (Refused D F) → D
 disk_of (Ok s) = s.volume.disk
 disk_of (Err refused) = refused.disk
 
--- The entry is a segment of kind 1 without a deletion list, whose header and whose directory's ends
--- open as this one.
-pub record OpensAsSegment (bytes : List ℕ) (e : Entry) (s : Segment) : Type 0 where
+-- The bytes are the posting list of these numbers, no more than so many.
+pub record SpellsFew (bytes : List ℕ) (count : ℕ) (dead : List ℕ) : Type 0 where
+  pub posting : IsPosting dead
+  pub same : bytes ≡ list_spelling dead
+  pub few : length dead ≤ count
+
+-- the dead numbers are those of the entry's deletion list, no more than so many; without one there
+-- are none
+abbrev pub OpensAsList : List ℕ → Option Extent → ℕ → List ℕ → Type 0
+OpensAsList bytes None count dead = dead ≡ []
+OpensAsList bytes (Some e) count dead = SpellsFew (extent_bytes bytes e) count dead
+
+-- The entry is a segment of kind 1, whose header and whose directory's ends open as this one, with
+-- the dead numbers of its deletion list; no other one is deleted.
+pub record OpensAsSegment (bytes : List ℕ) (e : Entry) (o : OpenSegment) : Type 0 where
   pub kind : e.kind ≡ 1
-  pub alive : e.dead ≡ None
-  pub opened : IsOpened (extent_bytes bytes e.extent) e.extent.bytes 1 s
+  pub opened : IsOpened (extent_bytes bytes e.extent) e.extent.bytes 1 o.segment
+  pub list : OpensAsList bytes e.dead (count_of o.segment) o.dead
+  pub deleted : o.deleted ≡ o.dead
 
 -- Each entry opens as the segment at its place; their numbers rise from segment to segment, above
 -- low, and stay below next.
-abbrev pub OpenAsSegments : List ℕ → ℕ → ℕ → List Entry → List Segment → Type 0
+abbrev pub OpenAsSegments : List ℕ → ℕ → ℕ → List Entry → List OpenSegment → Type 0
 OpenAsSegments bytes low next [] [] = Unit {0}
-OpenAsSegments bytes low next [] (s ∷ ss) = ⊥
+OpenAsSegments bytes low next [] (o ∷ os) = ⊥
 OpenAsSegments bytes low next (e ∷ es) [] = ⊥
-OpenAsSegments bytes low next (e ∷ es) (s ∷ ss) =
-    OpensAsSegment bytes e s × (low < first_of s) × (last_of s < next)
-    × OpenAsSegments bytes (last_of s) next es ss
+OpenAsSegments bytes low next (e ∷ es) (o ∷ os) =
+    OpensAsSegment bytes e o × (low < first_of o.segment) × (last_of o.segment < next)
+    × OpenAsSegments bytes (last_of o.segment) next es os
 
--- WHAT OPENING JUDGES: the body in force and the ends of its segments, nothing else.
-pub record OpensAsStore (bytes : List ℕ) (half : Half) (b : Body) (segments : List Segment)
+-- WHAT OPENING JUDGES: the body in force, the ends of its segments and their deletion lists,
+-- nothing else.
+pub record OpensAsStore (bytes : List ℕ) (half : Half) (b : Body) (opened : List OpenSegment)
     : Type 0 where
   pub current : HasBody bytes half b
-  pub opened : OpenAsSegments bytes 0 b.next_number b.entries segments
+  pub segments : OpenAsSegments bytes 0 b.next_number b.entries opened
 
 -- a half is in force, and it opens as nothing
 pub record IsUnsound (bytes : List ℕ) : Type 0 where
   pub half : Half
   pub in_force : half_in_force bytes ≡ Some half
-  pub none : (b : Body) (segments : List Segment) → OpensAsStore bytes half b segments → ⊥
+  pub none : (b : Body) (opened : List OpenSegment) → OpensAsStore bytes half b opened → ⊥
 
 -- the refusals of opening, by the bytes
 abbrev pub RefusesOpening : List ℕ → OpenFault → Type 0
@@ -74,7 +92,7 @@ RefusesOpening bytes Memory = Unit {0}
 
 -- what is answered, by the bytes
 abbrev pub Judges : {D : Type 0} → List ℕ → Result (StoreView D) (Refused D OpenFault) → Type 0
-Judges bytes (Ok s) = OpensAsStore bytes (other s.volume.spare) s.volume.body s.volume.segments
+Judges bytes (Ok s) = OpensAsStore bytes (other s.volume.spare) s.volume.body s.volume.opened
 Judges bytes (Err refused) = RefusesOpening bytes refused.why
 
 -- the store means this collection, all of it committed

@@ -1,17 +1,18 @@
 -- What is going to be written, and what is committed once it is.
 use Rattle.std.specs.Prelude.{◌≡◌, ◌+◌, ◌≤◌, ◌<◌, ◌⊎◌, ◌&&◌, ℕ, Bool, true, false, not, List}
-use Rattle.std.specs.Prelude.{[], ◌∷◌, ◌++◌}
+use Rattle.std.specs.Prelude.{[], ◌∷◌, ◌++◌, if◌then◌else◌}
 use Rattle.std.specs.Prelude.{map, length, All, Option, Some, None, Result, Ok, Err, OnOk}
 use Rattle.std.specs.Global.{Vec}
 use Rattle.std.specs.List.Sorted.{IsStrictlyIncreasing}
 use Rattle.pk_disk.specs.declared.disk.Disk.{Ghosts}
 use Rattle.pk_disk.specs.Disk.{IsImage, in_range}
 use Rattle.pk_disk.specs.Since.{OnlyNew}
-use Rattle.pk_disk.specs.Units.{IsFitted, units_for, units_in}
+use Rattle.pk_disk.specs.Units.{IsFitted, start_of, units_for, units_in}
 use Rattle.pk_disk.specs.declared.units.Extent.{Extent}
 use Rattle.pk_manifest.specs.declared.half.Half.{Half}
 use Rattle.pk_manifest.specs.Bodies.{other}
-use Rattle.pk_manifest.specs.Sound.{IsBody, named}
+use Rattle.pk_manifest.specs.Sound.{IsBody, named, segment_limit}
+use Rattle.pk_manifest.specs.declared.manifest.Part.{Part as Entry}
 use Rattle.pk_manifest.specs.Spelling.{Body, spelling, view}
 use Rattle.pk_model.specs.Collection.{Doc, IsCollection, numbers_of}
 use Rattle.pk_model.specs.Limits.{end_of_ids, end_of_numbers, max_segments}
@@ -25,41 +26,86 @@ use Rattle.pk_replace.specs.Claims.{claim_of, places}
 use Rattle.pk_replace.specs.Course.{touched_by}
 use Rattle.pk_segment.specs.declared.segment.Segment.{Segment}
 use Rattle.pk_segment.specs.Opened.{IsSegmentOf}
-use Rattle.pk_segment.specs.Plain.{SegmentSpells, longest, plain_length}
+use Rattle.pk_posting.specs.Spelling.{spelling as list_spelling}
+use Rattle.pk_search.specs.declared.opened.OpenSegment.{OpenSegment}
+use Rattle.pk_search.specs.Opened.{AreOpenOf, pends, present}
+use Rattle.pk_segment.specs.Plain.{SegmentSpells, longest, plain_length, plain_spelling}
 use Rattle.pk_space.specs.declared.runs.Full.{Full as NoRoom}
 use Rattle.pk_space.specs.Free.{IsFirstFit, IsFullAt}
 use Rattle.pk_space.specs.Places.{PlacedAs, FullAs}
-use Rattle.pk_state.specs.Committed.{Stored, Committed, collection_of}
+use Rattle.pk_state.specs.Committed.{Stored, Committed, collection_of, whole_of}
 use Rattle.pk_state.specs.Holds.{HoldsOne}
-use Rattle.pk_state.specs.Kept.{AreEntries, AreSegments, claims_of}
+use Rattle.pk_state.specs.Kept.{AreEntries, claims_of}
 use Rattle.pk_state.specs.Writing.{is_too_large, new_entry, new_stored, next_body}
-use Rattle.pk_state.specs.Writing.{segment_writes}
 use Rattle.pk_store.specs.declared.planning.Plan.{Plan}
-use Rattle.pk_store.specs.View.{KeepsVolume, StandFor, VolumeView, committed_by}
+use Rattle.pk_store.specs.View.{IsGrown, KeepsVolume, StandFor, VolumeView, committed_by}
 
--- the body that follows, with one more segment where one is placed
-abbrev pub body_after : Body → ℕ → List Extent → Body
-body_after b next [] = next_body b next 0 b.entries
-body_after b next (e ∷ places) = next_body b next 1 (b.entries ++ new_entry b e ∷ [])
+-- the entry with a list in this extent
+abbrev pub with_list : Entry → Extent → Entry
+with_list e x = record { segment = e.segment; extent = e.extent; kind = e.kind; dead = Some x }
 
--- what is committed after a commit of these documents, with no deletion pending
-abbrev pub commit_to : Committed → List Doc → ℕ → List Extent → Committed
-commit_to c docs next [] = record { body = body_after c.body next []; stored = c.stored }
-commit_to c docs next (e ∷ places) = record {
-  body = body_after c.body next (e ∷ places);
-  stored = c.stored ++ new_stored docs ∷ [];
+-- the entries, those with a pending deletion with their new lists in these extents, one after the
+-- other
+abbrev pub relisted : List Entry → List OpenSegment → List Extent → List Entry
+relisted [] opened extents = []
+relisted (e ∷ es) [] extents = e ∷ es
+relisted (e ∷ es) (o ∷ opened) [] = e ∷ es
+relisted (e ∷ es) (o ∷ opened) (x ∷ extents) =
+    if pends o then with_list e x ∷ relisted es opened extents
+    else e ∷ relisted es opened (x ∷ extents)
+
+-- the bytes of the new lists
+abbrev pub new_lists : List OpenSegment → List (List ℕ)
+new_lists [] = []
+new_lists (o ∷ opened) =
+    if pends o then list_spelling o.deleted ∷ new_lists opened else new_lists opened
+
+-- and of a segment of these documents, none for no document
+abbrev pub new_segments : List Doc → List (List ℕ)
+new_segments [] = []
+new_segments (d ∷ docs) = plain_spelling (d ∷ docs) ∷ []
+
+-- all that a commit writes besides the body
+abbrev pub commit_bytes : List OpenSegment → List Doc → List (List ℕ)
+commit_bytes opened docs = new_segments docs ++ new_lists opened
+
+-- an open segment whose deletions are committed
+abbrev pub settled : OpenSegment → OpenSegment
+settled o = record { segment = o.segment; dead = o.deleted; deleted = o.deleted }
+
+abbrev pub AreSettled : List OpenSegment → Type 0
+AreSettled [] = Unit {0}
+AreSettled (o ∷ opened) = (o.deleted ≡ o.dead) × AreSettled opened
+
+-- what is committed after a commit of these documents and of all that is deleted
+abbrev pub commit_to : Committed → List OpenSegment → List Doc → ℕ → List Extent → Committed
+commit_to c opened [] next extents = record {
+  body = next_body c.body next 0 (relisted c.body.entries opened extents);
+  stored = present opened c.stored;
+}
+commit_to c opened (d ∷ docs) next [] = record {
+  body = next_body c.body next 0 (relisted c.body.entries opened []);
+  stored = present opened c.stored;
+}
+commit_to c opened (d ∷ docs) next (e ∷ extents) = record {
+  body = next_body c.body next 1
+      (relisted c.body.entries opened extents ++ new_entry c.body e ∷ []);
+  stored = present opened c.stored ++ new_stored (d ∷ docs) ∷ [];
 }
 
--- one claim, of these bytes
-abbrev pub one_claim : ℕ → List ℕ → List Claim
-one_claim at bytes = record { at = at; bytes = bytes } ∷ []
+-- bytes, each from the start of the extent at its place
+abbrev pub laid_in : List Extent → List (List ℕ) → List Claim
+laid_in [] writes = []
+laid_in (e ∷ extents) [] = []
+laid_in (e ∷ extents) (w ∷ writes) =
+    record { at = start_of e; bytes = w } ∷ laid_in extents writes
 
--- the plan puts that body in force, with these open segments more and these pieces
-pub record IsPlanOf (b : Body) (segments : List Segment) (next : ℕ) (places : List Extent)
-    (opened : List Segment) (pieces : List Claim) (p : Plan) : Type 0 where
-  pub manifest_is : view p.manifest ≡ body_after b next places
-  pub segments_is : p.segments.items ≡ segments ++ opened
-  pub pieces_are : map claim_of p.pieces.items ≡ pieces
+-- the plan puts that body in force, with these open segments and these bytes in those extents
+pub record IsPlanOf (b : Body) (opened : List OpenSegment) (extents : List Extent)
+    (writes : List (List ℕ)) (p : Plan) : Type 0 where
+  pub manifest_is : view p.manifest ≡ b
+  pub opened_is : p.opened.items ≡ opened
+  pub pieces_are : map claim_of p.pieces.items ≡ laid_in extents writes
   pub body_is : p.body.items ≡ spelling (view p.manifest)
 
 -- A PLAN FOR A BODY, on a disk of so many bytes: the body that follows is sound, a generation
@@ -69,7 +115,8 @@ pub record IsPlan (size : ℕ) (b : Body) (p : Plan) : Type 0 where
   pub later : (view p.manifest).generation ≡ b.generation + 1
   pub sound : IsBody (units_in size) (view p.manifest)
   pub body_is : p.body.items ≡ spelling (view p.manifest)
-  pub opened : length p.segments.items ≡ length (view p.manifest).entries
+  pub opened : length p.opened.items ≡ length (view p.manifest).entries
+  pub grown : All IsGrown p.opened.items
   pub inside : Each (IsInside size) (map claim_of p.pieces.items)
   pub apart : AreApart (map claim_of p.pieces.items)
 
@@ -78,25 +125,25 @@ pub record IsPlan (size : ℕ) (b : Body) (p : Plan) : Type 0 where
 pub record GoesTo (p : Plan) (old new : Committed) : Type 0 where
   pub body : new.body ≡ view p.manifest
   pub entries : AreEntries new.body.entries new.stored
-  pub segments : AreSegments p.segments.items new.stored
+  pub opened : AreOpenOf p.opened.items new.stored
   pub untouched : (spare : Half)
       → Each (IsUntouched (touched_by spare (places (map claim_of p.pieces.items))))
       (claims_of old.body.entries old.stored)
   pub among : Each (λ c. IsAmong c (claims_of old.body.entries old.stored)
       ⊎ IsAmong c (map claim_of p.pieces.items)) (claims_of new.body.entries new.stored)
 
--- HOW A PLAN ENDS. Its body and segments are the volume's; or the volume is as it was; or it has to
+-- HOW A PLAN ENDS. Its body and open segments are the volume's; or the volume is as it was; or it has to
 -- be opened again.
 pub record IsCarried {D : Type 0} (old : VolumeView D) (p : Plan) (new : VolumeView D)
     : Type 0 where
   pub body : new.body ≡ view p.manifest
-  pub segments : new.segments ≡ p.segments.items
+  pub opened : new.opened ≡ p.opened.items
   pub spare : new.spare ≡ other old.spare
   pub reopen : new.reopen ≡ false
 
 pub record IsFlagged {D : Type 0} (old new : VolumeView D) : Type 0 where
   pub body : new.body ≡ old.body
-  pub segments : new.segments ≡ old.segments
+  pub opened : new.opened ≡ old.opened
   pub spare : new.spare ≡ old.spare
   pub reopen : new.reopen ≡ true
 
@@ -113,8 +160,8 @@ pub record Goes {D : Type 0} (d : Ghosts D) (v : VolumeView D) (p : Plan) (store
     (new : Committed) : Type 0 where
   pub stand : StandFor d v stored
   pub to : GoesTo p (committed_by v stored) new
-  pub numbers : IsCollection (collection_of (committed_by v stored))
-  pub next_numbers : IsCollection (collection_of new)
+  pub numbers : IsCollection (whole_of (committed_by v stored))
+  pub next_numbers : IsCollection (whole_of new)
 
 -- A PLAN CARRIED OUT. Each image since the start holds what was committed or what follows; after Ok
 -- the entries stand for what follows; after a write that failed each image left holds one of the
@@ -162,25 +209,64 @@ BuildsAs docs (Err SegmentTooLarge) = longest < plain_length docs
 BuildsAs docs (Err Memory) = Unit {0}
 BuildsAs docs (Err why) = ⊥
 
--- the plan is one of a commit of these documents, placed at the first fit
-pub record PlansCommit (b : Body) (segments : List Segment) (docs : List Doc) (next : ℕ) (p : Plan)
+-- what may be written: at least five bytes each, and no more than a segment has
+abbrev pub CanBeWritten : List (List ℕ) → Type 0
+CanBeWritten writes = All (λ w. (5 ≤ length w) × (length w ≤ segment_limit)) writes
+
+-- a plan that writes these bytes at the first fit, and puts the body of their extents in force with
+-- these open segments, or why there is none
+abbrev pub PlansWith : Body → List (List ℕ) → List OpenSegment → (List Extent → Body)
+    → Result Plan Refusal → Type 0
+PlansWith b writes opened body (Ok p) =
+    (extents : List Extent) × PlacedAs b.units (named b) (map length writes) extents
+    × IsPlanOf (body extents) opened extents writes p
+PlansWith b writes opened body (Err (Full need largest)) =
+    FullAs b.units (named b) (map length writes) need largest
+PlansWith b writes opened body (Err Memory) = Unit {0}
+PlansWith b writes opened body (Err why) = ⊥
+
+-- an open segment just built
+abbrev pub fresh_segment : Segment → OpenSegment
+fresh_segment s = record { segment = s; dead = []; deleted = [] }
+
+-- the body after a commit without a document, and with a segment in the first of the extents
+abbrev pub body_with_lists : Body → List OpenSegment → ℕ → List Extent → Body
+body_with_lists b opened next extents = next_body b next 0 (relisted b.entries opened extents)
+
+abbrev pub body_with_segment : Body → List OpenSegment → ℕ → List Extent → Body
+body_with_segment b opened next [] = body_with_lists b opened next []
+body_with_segment b opened next (e ∷ extents) =
+    next_body b next 1 (relisted b.entries opened extents ++ new_entry b e ∷ [])
+
+-- the entries of a segment that there may be, and how many ids they take
+abbrev pub entry_in : Body → Option Extent → List Entry
+entry_in b None = []
+entry_in b (Some e) = new_entry b e ∷ []
+
+abbrev pub ids_in : Option Extent → ℕ
+ids_in None = 0
+ids_in (Some e) = 1
+
+-- the plan is one of a commit of these documents and of all that is deleted, placed at the first fit
+pub record PlansCommit (b : Body) (opened : List OpenSegment) (docs : List Doc) (next : ℕ) (p : Plan)
     : Type 0 where
   pub next_is : (view p.manifest).next_number ≡ next
-  pub places : List Extent
-  pub placed : PlacedAs b.units (named b) (segment_writes docs) places
+  pub settled : AreSettled p.opened.items
+  pub extents : List Extent
+  pub placed : PlacedAs b.units (named b) (map length (commit_bytes opened docs)) extents
   pub fits : is_too_large docs ≡ false
-  pub goes : (stored : List Stored) → AreEntries b.entries stored → AreSegments segments stored
+  pub goes : (stored : List Stored) → AreEntries b.entries stored → AreOpenOf opened stored
       → GoesTo p (record { body = b; stored = stored })
-      (commit_to (record { body = b; stored = stored }) docs next places)
+      (commit_to (record { body = b; stored = stored }) opened docs next extents)
 
 -- a plan, or why there is none
-abbrev pub PlansAs : ℕ → Body → List Segment → List Doc → ℕ → Result Plan Refusal → Type 0
-PlansAs size b segments docs next (Ok p) = IsPlan size b p × PlansCommit b segments docs next p
-PlansAs size b segments docs next (Err SegmentTooLarge) = is_too_large docs ≡ true
-PlansAs size b segments docs next (Err (Full need largest)) =
-    (is_too_large docs ≡ false) × FullAs b.units (named b) (segment_writes docs) need largest
-PlansAs size b segments docs next (Err Memory) = Unit {0}
-PlansAs size b segments docs next (Err why) = ⊥
+abbrev pub PlansAs : ℕ → Body → List OpenSegment → List Doc → ℕ → Result Plan Refusal → Type 0
+PlansAs size b opened docs next (Ok p) = IsPlan size b p × PlansCommit b opened docs next p
+PlansAs size b opened docs next (Err SegmentTooLarge) = is_too_large docs ≡ true
+PlansAs size b opened docs next (Err (Full need largest)) = (is_too_large docs ≡ false)
+    × FullAs b.units (named b) (map length (commit_bytes opened docs)) need largest
+PlansAs size b opened docs next (Err Memory) = Unit {0}
+PlansAs size b opened docs next (Err why) = ⊥
 
 -- the refusal that a body and so many documents fix, if any: no id is left, or no entry for them
 abbrev pub DueAs : Body → ℕ → Option Refusal → Type 0

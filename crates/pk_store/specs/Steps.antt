@@ -1,6 +1,7 @@
 -- What a command does to a store.
 use Rattle.std.specs.Prelude.{◌≡◌, ◌<◌, ◌==◌, ◌&&◌, ℕ, Bool, true, false, not, List, [], ◌∷◌}
 use Rattle.std.specs.Prelude.{length}
+use Rattle.std.specs.List.{list_any}
 use Rattle.std.specs.Prelude.{Result, Ok, Err}
 use Rattle.pk_disk.specs.declared.disk.Disk.{Ghosts}
 use Rattle.pk_disk.specs.Frames.{KeepsDisk}
@@ -11,11 +12,13 @@ use Rattle.pk_model.specs.declared.commands.Refusal.TheVariants.{NumbersUsedUp, 
 use Rattle.pk_model.specs.declared.commands.Refusal.TheVariants.{TooManySegments, SegmentTooLarge}
 use Rattle.pk_model.specs.declared.commands.Refusal.TheVariants.{Memory, Full, Damaged, Disk}
 use Rattle.pk_model.specs.Steps.{Request, Answer, add, delete, find, show, commit, count}
-use Rattle.pk_model.specs.Steps.{merge, tidy, committed}
+use Rattle.pk_model.specs.Steps.{merge, tidy, committed, merged}
 use Rattle.pk_replace.specs.Cause.{NoneFailed, ReadFailed, WriteFailed}
+use Rattle.pk_search.specs.Opened.{pends}
 use Rattle.pk_state.specs.Committed.{has_documents}
 use Rattle.pk_state.specs.Holds.{Holds, HoldsOne}
 use Rattle.pk_state.specs.Legal.{State, marked, LegalStep}
+use Rattle.pk_state.specs.Writing.{is_merged}
 use Rattle.pk_store.specs.View.{StoreView, VolumeView, Means}
 
 -- A LEGAL STEP, from each state that the store means to one that it means afterwards. A write or a
@@ -82,6 +85,9 @@ refuses_add why = false
 abbrev pub refuses_delete : Refusal → Bool
 refuses_delete Reopen = true
 refuses_delete NoSuchDocument = true
+refuses_delete Memory = true
+refuses_delete Damaged = true
+refuses_delete Disk = true
 refuses_delete why = false
 
 abbrev pub refuses_find : Refusal → Bool
@@ -105,6 +111,11 @@ refuses_commit (Full need largest) = true
 refuses_commit Disk = true
 refuses_commit why = false
 
+abbrev pub refuses_merge : Refusal → Bool
+refuses_merge TooManySegments = false
+refuses_merge Damaged = true
+refuses_merge why = refuses_commit why
+
 abbrev pub refuses_count : Refusal → Bool
 refuses_count Reopen = true
 refuses_count why = false
@@ -115,7 +126,7 @@ may_refuse (delete n) = refuses_delete
 may_refuse (find query) = refuses_find
 may_refuse (show n) = refuses_show
 may_refuse commit = refuses_commit
-may_refuse merge = λ why. false
+may_refuse merge = refuses_merge
 may_refuse tidy = λ why. false
 may_refuse count = refuses_count
 
@@ -127,7 +138,7 @@ IsRightly why = Unit {0}
 
 pub record IsSame {D : Type 0} (old new : StoreView D) : Type 0 where
   pub body : new.volume.body ≡ old.volume.body
-  pub segments : new.volume.segments ≡ old.volume.segments
+  pub opened : new.volume.opened ≡ old.volume.opened
   pub spare : new.volume.spare ≡ old.volume.spare
   pub buffer : new.buffer ≡ old.buffer
   pub next : new.next ≡ old.next
@@ -143,26 +154,32 @@ abbrev pub OnRefusal : Result Answer Refusal → (Refusal → Type 0) → Type 0
 OnRefusal (Ok answer) P = Unit {0}
 OnRefusal (Err why) P = P why
 
--- something is new: a document, or the next number
+-- something is new: a document, a deletion, or the next number
 abbrev pub is_new : {D : Type 0} → StoreView D → Bool
-is_new s = not (not (has_documents s.buffer) && (s.next == s.volume.body.next_number))
+is_new s = not (not (has_documents s.buffer)
+    && (not (list_any pends s.volume.opened) && (s.next == s.volume.body.next_number)))
 
 -- the command has nothing to do: then it is accepted, and touches nothing
 abbrev pub IsIdle : {D : Type 0} → StoreView D → Request → Type 0
 IsIdle s commit = (s.volume.reopen ≡ false) × (is_new s ≡ false)
+IsIdle s merge = (s.volume.reopen ≡ false) × (is_merged s.volume.body.entries ≡ true)
 IsIdle s (add text) = ⊥
 IsIdle s (delete n) = ⊥
 IsIdle s (find query) = ⊥
 IsIdle s (show n) = ⊥
-IsIdle s merge = ⊥
 IsIdle s tidy = ⊥
 IsIdle s count = ⊥
+
+-- what it answers then
+abbrev pub idle_answer : Request → Answer
+idle_answer merge = merged
+idle_answer request = committed
 
 -- WHAT A COMMAND DOES. On an honest disk it is a legal step of each state that the store means, no
 -- damage is met, and each image since the call's start holds what it may. On every disk Disk is
 -- answered exactly where a call of the device failed, the flag is set exactly where a write or a
--- sync did, a refusal is rightly one of the command's and changes nothing else, and a commit with
--- nothing to do is accepted and touches nothing.
+-- sync did, a refusal is rightly one of the command's and changes nothing else, and a commit or
+-- a merge with nothing to do is accepted and touches nothing.
 pub record Steps {D : Type 0} (d : Ghosts D) (old : StoreView D) (request : Request)
     (reply : Result Answer Refusal) (new : StoreView D) : Type 0 where
   pub failed : Bool
@@ -173,7 +190,7 @@ pub record Steps {D : Type 0} (d : Ghosts D) (old : StoreView D) (request : Requ
   pub size : length (d.content new.volume.disk) ≡ length (d.content old.volume.disk)
   pub cause : IsCauseOf d reply failed old.volume new.volume
   pub refused : OnRefusal reply (IsRefused d failed request old new)
-  pub idle : IsIdle old request → (reply ≡ Ok committed) × (new ≡ old)
+  pub idle : IsIdle old request → (reply ≡ Ok (idle_answer request)) × (new ≡ old)
 
 -- A RUN: a step for each command in turn, on every disk.
 abbrev pub AreSteps : {D : Type 0} → Ghosts D → StoreView D → List Request

@@ -11,25 +11,26 @@ use Rattle.pk_manifest.specs.Sound.{IsBody}
 use Rattle.pk_manifest.specs.Spelling.{Body, spelling}
 use Rattle.pk_model.specs.Collection.{Doc, IsCollection}
 use Rattle.pk_model.specs.Limits.{end_of_numbers, max_buffered_bytes, max_buffered_documents}
-use Rattle.pk_segment.specs.declared.segment.Segment.{Segment}
-use Rattle.pk_state.specs.Committed.{Stored, Committed, live_in}
+use Rattle.pk_search.specs.declared.opened.OpenSegment.{OpenSegment}
+use Rattle.pk_search.specs.Opened.{AreOpenOf, present}
+use Rattle.pk_state.specs.Committed.{Stored, Committed, live_in, whole_of}
 use Rattle.pk_state.specs.Holds.{HoldsOne}
-use Rattle.pk_state.specs.Kept.{AreSegments, IsKept}
+use Rattle.pk_state.specs.Kept.{IsKept}
 use Rattle.pk_state.specs.Legal.{State, marked}
 
--- What is committed, on its disk: the body that is kept with its open segments, the half that the
--- next body goes to, and whether the disk must be opened again.
+-- What is committed, on its disk, and what of it is deleted: the body that is kept with its open
+-- segments, the half that the next body goes to, and whether the disk must be opened again.
 pub record VolumeView (D : Type 0) : Type 0 where
   pub disk : D
   pub body : Body
-  pub segments : List Segment
+  pub opened : List OpenSegment
   pub spare : Half
   pub reopen : Bool
 
 -- a volume that needn't be opened again
-abbrev pub volume_of : {D : Type 0} → D → Body → List Segment → Half → VolumeView D
-volume_of disk body segments spare =
-    record { disk = disk; body = body; segments = segments; spare = spare; reopen = false }
+abbrev pub volume_of : {D : Type 0} → D → Body → List OpenSegment → Half → VolumeView D
+volume_of disk body opened spare =
+    record { disk = disk; body = body; opened = opened; spare = spare; reopen = false }
 
 -- A store: what is committed, what is not, and the next number.
 pub record StoreView (D : Type 0) : Type 0 where
@@ -45,7 +46,7 @@ committed_by v stored = record { body = v.body; stored = stored }
 abbrev pub state_with : {D : Type 0} → StoreView D → List Stored → State
 state_with s stored = record {
   committed = committed_by s.volume stored;
-  now = record { next = s.next; documents = live_in stored ++ s.buffer };
+  now = record { next = s.next; documents = live_in (present s.volume.opened stored) ++ s.buffer };
   reopen = s.volume.reopen;
 }
 
@@ -58,13 +59,18 @@ pub record IsBuffered (committed next : ℕ) (buffer : List Doc) : Type 0 where
   pub few : length buffer ≤ max_buffered_documents
   pub small : sum_by (λ (d : Doc). length d.text) buffer ≤ max_buffered_bytes
 
+-- no number of its deletion list is forgotten among those that are deleted, as far as counting goes
+abbrev pub IsGrown : OpenSegment → Type 0
+IsGrown o = length o.dead ≤ length o.deleted
+
 -- What is known of a volume, whatever its segments hold: its body is sound there, one open segment
 -- stands for each of its entries, and on an honest disk the body stands fast in the half that isn't
 -- the spare one, unless a write has failed.
 pub record IsReady {D : Type 0} (d : Ghosts D) (v : VolumeView D) : Type 0 where
   pub ends : bodies_end ≤ length (d.content v.disk)
   pub sound : IsBody (units_of_disk (d.content v.disk)) v.body
-  pub opened : length v.segments ≡ length v.body.entries
+  pub opened : length v.opened ≡ length v.body.entries
+  pub grown : All IsGrown v.opened
   pub firm : d.honest → v.reopen ≡ false → IsFirm (d.content v.disk) (d.is_open v.disk) v.spare
   pub in_force : d.honest → v.reopen ≡ false
       → body_of (d.content v.disk) (other v.spare) ≡ spelling v.body
@@ -72,7 +78,7 @@ pub record IsReady {D : Type 0} (d : Ghosts D) (v : VolumeView D) : Type 0 where
 -- The entries of the volume stand for these: its open segments do, and the disk keeps them.
 pub record StandFor {D : Type 0} (d : Ghosts D) (v : VolumeView D) (stored : List Stored)
     : Type 0 where
-  pub opened : AreSegments v.segments stored
+  pub opened : AreOpenOf v.opened stored
   pub kept : v.reopen ≡ false
       → IsKept (d.content v.disk) (d.is_open v.disk) v.spare (committed_by v stored)
 
@@ -82,7 +88,7 @@ pub record Means {D : Type 0} (d : Ghosts D) (s : StoreView D) (state : State) :
   pub stored : List Stored
   pub state_is : state ≡ state_with s stored
   pub numbers : IsCollection state.now
-  pub committed : IsCollection (marked state)
+  pub committed : IsCollection (whole_of state.committed)
   pub stand : StandFor d s.volume stored
   pub left : s.volume.reopen ≡ true → (image : List ℕ)
       → IsImage (d.content s.volume.disk) (d.is_open s.volume.disk) image
@@ -91,7 +97,7 @@ pub record Means {D : Type 0} (d : Ghosts D) (s : StoreView D) (state : State) :
 -- the volume is as it was, and its disk was only read
 pub record KeepsVolume {D : Type 0} (d : Ghosts D) (old new : VolumeView D) : Type 0 where
   pub body : new.body ≡ old.body
-  pub segments : new.segments ≡ old.segments
+  pub opened : new.opened ≡ old.opened
   pub spare : new.spare ≡ old.spare
   pub reopen : new.reopen ≡ old.reopen
   pub disk : KeepsDisk d old.disk new.disk

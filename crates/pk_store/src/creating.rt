@@ -121,9 +121,9 @@ impl<D: Disk> Store<D> {
             Err(why) => Err(Refused { disk, why }),
             Ok(manifest) => {
                 let next = manifest.next_number;
-                let segments = Vec::new(alloc);
+                let opened = Vec::new(alloc);
                 Ok(Store {
-                    volume: Volume::new(disk, manifest, segments, Half::B),
+                    volume: Volume::new(disk, manifest, opened, Half::B),
                     buffer: Buffer::new(alloc),
                     next,
                 })

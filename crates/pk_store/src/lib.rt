@@ -45,6 +45,7 @@ mod committing;
 mod creating;
 mod finding;
 pub mod laws;
+mod merging;
 mod opening;
 mod planning;
 mod refused;

@@ -3,30 +3,36 @@
 //! 1. A sync closes all positions, so that a later crash leaves what is judged now.
 //! 2. The gates and the body in force are read.
 //! 3. Of each segment that it names, in their order, the header and the first and the last entry
-//!    of the directory are.
+//!    of the directory are, and its deletion list is, as a whole.
 //!
-//! Nothing is written, and what a text holds is not judged before it is read.
-ghost use Rattle.std.specs.Prelude.{◌≡◌, ◌≤◌, ◌+◌, length, IfOk};
+//! A deletion list has to spell a list, one no longer than the segment has documents; whether its
+//! numbers are numbers of these is not asked. Nothing is written, and what a text holds is not
+//! judged before it is read.
+ghost use Rattle.std.specs.Prelude.{◌≡◌, ◌≤◌, ℕ, List, length, All, IfOk, IsErrOf};
 ghost use Rattle.pk_disk.specs.Disk.{nowhere};
 ghost use Rattle.pk_disk.specs.Frames.{KeepsDisk};
 ghost use Rattle.pk_disk.specs.Since.{NoneNew};
-ghost use Rattle.pk_disk.specs.Units.{start_of};
 ghost use Rattle.pk_manifest.specs.Bodies.{bodies_end};
 ghost use Rattle.pk_manifest.specs.Current.{units_of_disk};
 ghost use Rattle.pk_manifest.specs.Sound.{IsBody};
 ghost use Rattle.pk_manifest.specs.Spelling.{view};
-ghost use Rattle.pk_state.specs.Kept.{LieInside};
-ghost use Rattle.pk_store.specs.Judging.{JudgesFound, IsLarge, OpensNext, SegmentAs};
+ghost use Rattle.pk_segment.specs.Opened.{count_of};
+ghost use Rattle.pk_state.specs.Kept.{EndsInside, LieInside, ListEndsInside};
+ghost use Rattle.pk_store.specs.Judging.{JudgesFound, IsLarge, OpensAsPlain, OpensNext, SegmentAs};
 ghost use Rattle.pk_store.specs.Judging.{SegmentCause, SegmentsAs};
-ghost use Rattle.pk_store.specs.Opening.{OnSynced, OpenCause, Opens, OpensAsSegment};
+ghost use Rattle.pk_store.specs.Opening.{OnSynced, OpenCause, Opens, OpensAsList};
+ghost use Rattle.pk_store.specs.Opening.{OpensAsSegment, SpellsFew};
+ghost use Rattle.pk_store.specs.View.{IsGrown};
 
 use crate::refused::{OpenFault, Refused};
 use crate::store::Store;
 use crate::volume::Volume;
 use pk_buffer::Buffer;
-use pk_disk::{Disk, units_in};
+use pk_dead::Dead;
+use pk_disk::{Disk, Extent, units_in};
 use pk_manifest::{Half, Manifest, ManifestFault, Part, read_current};
-use pk_posting::SourceFault;
+use pk_posting::{DecodeFault, SourceFault};
+use pk_search::OpenSegment;
 use pk_segment::{ExtentSource, Segment};
 use std::alloc::Global;
 
@@ -36,6 +42,12 @@ pub(crate) const LEAST_UNITS: u32 = 64;
 // The one kind of segment that is read.
 const PLAIN: u32 = 1;
 
+// No list has more bytes than these, for its count,
+const LIST_COUNT_BYTES: u64 = 4;
+
+// and these for each of its numbers.
+const LIST_NUMBER_BYTES: u64 = 5;
+
 /// What opening reads on a disk.
 #[derive(Drop)]
 pub(crate) struct Found {
@@ -43,8 +55,8 @@ pub(crate) struct Found {
     pub(crate) manifest: Manifest,
     /// The half that it stands in.
     pub(crate) half: Half,
-    /// The segments that it names, each at the place of its entry.
-    pub(crate) segments: Vec<Segment>,
+    /// The segments that it names, each at the place of its entry, with what of them is deleted.
+    pub(crate) opened: Vec<OpenSegment>,
 }
 
 impl From<ManifestFault> for OpenFault {
@@ -63,14 +75,14 @@ impl From<ManifestFault> for OpenFault {
     }
 }
 
-// The segment of an entry: one of kind 1 without a deletion list.
-fn open_entry<D: Disk>(disk: &mut D, entry: Part) -> Result<Segment, OpenFault>
-    requires { start_of entry.extent + entry.extent.bytes ≤ length (D.content disk.old) }
-    ensures opened { D.honest → SegmentAs (OpensAsSegment (D.content disk.old) entry) result }
+// The segment of an entry: one of kind 1.
+fn open_plain<D: Disk>(disk: &mut D, entry: Part) -> Result<Segment, OpenFault>
+    requires { EndsInside (length (D.content disk.old)) entry.extent }
+    ensures opened { D.honest → SegmentAs (OpensAsPlain (D.content disk.old) entry) result }
     ensures keeps { KeepsDisk D.Disk disk.old disk.new }
     ensures cause { SegmentCause result (D.failed_reads disk.old) (D.failed_reads disk.new) }
 {
-    if entry.kind != PLAIN || entry.dead.is_some() {
+    if entry.kind != PLAIN {
         return Err(OpenFault::Damaged);
     }
     let mut source = ExtentSource::on(disk, entry.extent);
@@ -81,18 +93,92 @@ fn open_entry<D: Disk>(disk: &mut D, entry: Part) -> Result<Segment, OpenFault>
     }
 }
 
-// The segment of an entry, if its numbers are above `low` and below the next number.
-fn open_next<D: Disk>(disk: &mut D, entry: Part, low: u32, next: u32) -> Result<Segment, OpenFault>
-    requires { start_of entry.extent + entry.extent.bytes ≤ length (D.content disk.old) }
-    ensures opened { D.honest → SegmentAs (OpensNext (D.content disk.old) low next entry) result }
+// The list that the bytes spell, if it has no more numbers than so many.
+fn list_of(alloc: Global, bytes: &[u8], count: u32) -> Result<Dead, DecodeFault>
+    ensures list { IfOk result (SpellsFew bytes.now count) }
+    ensures damaged { IsErrOf result DecodeFault.Damaged
+        → (dead : List ℕ) → SpellsFew bytes.now count dead → ⊥ }
+{
+    let dead = Dead::read(alloc, bytes)?;
+    if dead.len() > count as usize {
+        return Err(DecodeFault::Damaged);
+    }
+    Ok(dead)
+}
+
+// The numbers of a deletion list, of a segment with so many documents. A list that is too long for
+// these takes no memory.
+fn read_list<D: Disk>(
+    alloc: Global,
+    disk: &mut D,
+    list: Option<Extent>,
+    count: u32,
+) -> Result<Dead, OpenFault>
+    requires { ListEndsInside (length (D.content disk.old)) list }
+    ensures list { D.honest → SegmentAs (OpensAsList (D.content disk.old) list count) result }
     ensures keeps { KeepsDisk D.Disk disk.old disk.new }
     ensures cause { SegmentCause result (D.failed_reads disk.old) (D.failed_reads disk.new) }
 {
-    let segment = open_entry(disk, entry)?;
-    if segment.first() <= low || segment.last() >= next {
+    let Some(extent) = list else {
+        return Ok(Dead::new(alloc));
+    };
+    if u64::from(extent.bytes) > LIST_COUNT_BYTES + LIST_NUMBER_BYTES * u64::from(count) {
         return Err(OpenFault::Damaged);
     }
-    Ok(segment)
+    let Ok(mut bytes) = vec![in alloc; 0u8; extent.bytes as usize] else {
+        return Err(OpenFault::Memory);
+    };
+    let Ok(()) = disk.read(extent.start(), &mut bytes) else {
+        return Err(OpenFault::Disk);
+    };
+    match list_of(alloc, &bytes, count) {
+        Ok(dead) => Ok(dead),
+        Err(DecodeFault::Damaged) => Err(OpenFault::Damaged),
+        Err(DecodeFault::Memory) => Err(OpenFault::Memory),
+    }
+}
+
+// The segment of an entry with the numbers of its deletion list, and no others deleted.
+fn open_entry<D: Disk>(alloc: Global, disk: &mut D, entry: Part) -> Result<OpenSegment, OpenFault>
+    requires segment { EndsInside (length (D.content disk.old)) entry.extent }
+    requires list { ListEndsInside (length (D.content disk.old)) entry.dead }
+    ensures opened { D.honest → SegmentAs (OpensAsSegment (D.content disk.old) entry) result }
+    ensures grown { IfOk result IsGrown }
+    ensures keeps { KeepsDisk D.Disk disk.old disk.new }
+    ensures cause { SegmentCause result (D.failed_reads disk.old) (D.failed_reads disk.new) }
+{
+    let segment = open_plain(disk, entry)?;
+    let dead = read_list(alloc, disk, entry.dead, segment.count())?;
+    let Ok(deleted) = dead.copy(alloc) else {
+        return Err(OpenFault::Memory);
+    };
+    Ok(OpenSegment {
+        segment,
+        dead,
+        deleted,
+    })
+}
+
+// The segment of an entry, if its numbers are above `low` and below the next number.
+fn open_next<D: Disk>(
+    alloc: Global,
+    disk: &mut D,
+    entry: Part,
+    low: u32,
+    next: u32,
+) -> Result<OpenSegment, OpenFault>
+    requires segment { EndsInside (length (D.content disk.old)) entry.extent }
+    requires list { ListEndsInside (length (D.content disk.old)) entry.dead }
+    ensures opened { D.honest → SegmentAs (OpensNext (D.content disk.old) low next entry) result }
+    ensures grown { IfOk result IsGrown }
+    ensures keeps { KeepsDisk D.Disk disk.old disk.new }
+    ensures cause { SegmentCause result (D.failed_reads disk.old) (D.failed_reads disk.new) }
+{
+    let opened = open_entry(alloc, disk, entry)?;
+    if opened.segment.first() <= low || opened.segment.last() >= next {
+        return Err(OpenFault::Damaged);
+    }
+    Ok(opened)
 }
 
 // The segments of the entries. Their numbers rise from segment to segment, below the next number.
@@ -100,19 +186,20 @@ fn open_segments<D: Disk>(
     alloc: Global,
     disk: &mut D,
     manifest: &Manifest,
-) -> Result<Vec<Segment>, OpenFault>
+) -> Result<Vec<OpenSegment>, OpenFault>
     requires { LieInside (length (D.content disk.old)) manifest.now.entries.items }
     ensures opened { D.honest → SegmentsAs (D.content disk.old) (view manifest.now) result }
     ensures count { IfOk result (λ v. length v.items ≡ length manifest.now.entries.items) }
+    ensures grown { IfOk result (λ v. All IsGrown v.items) }
     ensures keeps { KeepsDisk D.Disk disk.old disk.new }
     ensures cause { SegmentCause result (D.failed_reads disk.old) (D.failed_reads disk.new) }
 {
     let mut segments = Vec::new(alloc);
     let mut low = 0;
     for entry in &manifest.entries {
-        let segment = open_next(disk, *entry, low, manifest.next_number)?;
-        low = segment.last();
-        let Ok(()) = segments.push(segment) else {
+        let opened = open_next(alloc, disk, *entry, low, manifest.next_number)?;
+        low = opened.segment.last();
+        let Ok(()) = segments.push(opened) else {
             return Err(OpenFault::Memory);
         };
     }
@@ -126,17 +213,18 @@ fn look<D: Disk>(alloc: Global, disk: &mut D) -> Result<Found, OpenFault>
     ensures sound { IfOk result
         (λ found. IsBody (units_of_disk (D.content disk.old)) (view found.manifest)) }
     ensures count { IfOk result
-        (λ found. length found.segments.items ≡ length found.manifest.entries.items) }
+        (λ found. length found.opened.items ≡ length found.manifest.entries.items) }
+    ensures grown { IfOk result (λ found. All IsGrown found.opened.items) }
     ensures keeps { KeepsDisk D.Disk disk.old disk.new }
     ensures large { IsLarge result }
     ensures cause { OpenCause D.Disk disk.old disk.new result }
 {
     let (manifest, half) = read_current(alloc, disk)?;
-    let segments = open_segments(alloc, disk, &manifest)?;
+    let opened = open_segments(alloc, disk, &manifest)?;
     Ok(Found {
         manifest,
         half,
-        segments,
+        opened,
     })
 }
 
@@ -147,7 +235,8 @@ fn judge<D: Disk>(alloc: Global, disk: &mut D) -> Result<Found, OpenFault>
     ensures sound { IfOk result
         (λ found. IsBody (units_of_disk (D.content disk.old)) (view found.manifest)) }
     ensures count { IfOk result
-        (λ found. length found.segments.items ≡ length found.manifest.entries.items) }
+        (λ found. length found.opened.items ≡ length found.manifest.entries.items) }
+    ensures grown { IfOk result (λ found. All IsGrown found.opened.items) }
     ensures none_new { D.honest → NoneNew D.moment D.images_since disk.old disk.new }
     ensures content { D.honest → D.content disk.new ≡ D.content disk.old }
     ensures closed { D.honest → OnSynced result (D.is_open disk.new ≡ nowhere) }
@@ -163,12 +252,14 @@ fn judge<D: Disk>(alloc: Global, disk: &mut D) -> Result<Found, OpenFault>
 
 impl<D: Disk> Store<D> {
     /// Opens the store on a disk: a sync, the gates and the body in force, and of each segment that
-    /// it names the header and the first and the last entry. Nothing else is judged.
+    /// it names the header, the first and the last entry, and the whole deletion list. Nothing else
+    /// is judged.
     ///
     /// Refused, with the disk handed back, as too small (fewer than 64 units: no call of the device
     /// was made); as disk where the sync or a read failed; as not a store where both gates are
-    /// closed; as damaged where the body in force or a segment's header or ends are not sound, or
-    /// the numbers don't rise from segment to segment below the next number; or as memory.
+    /// closed; as damaged where the body in force or a segment's header or ends are not sound, a
+    /// deletion list is no spelling of a list or has more numbers than its segment has documents,
+    /// or the numbers don't rise from segment to segment below the next number; or as memory.
     ///
     /// No more than `cache_blocks` decoded blocks will be kept, none with 0, at most 65,536. So far
     /// there are none to keep.
@@ -191,7 +282,7 @@ impl<D: Disk> Store<D> {
                 let next = found.manifest.next_number;
                 let spare = found.half.other();
                 Ok(Store {
-                    volume: Volume::new(disk, found.manifest, found.segments, spare),
+                    volume: Volume::new(disk, found.manifest, found.opened, spare),
                     buffer: Buffer::new(alloc),
                     next,
                 })

@@ -1,26 +1,29 @@
 //! What is going to be written: all its memory is taken and all its places are, and nothing of the
 //! disk was touched.
-ghost use Rattle.std.specs.Prelude.{◌≡◌, ◌≤◌, ◌<◌, ◌+◌, ◌++◌, ◌∷◌, [], ℕ, List, length, All, IfOk};
-ghost use Rattle.std.specs.Prelude.{None, OnOk};
-ghost use Rattle.pk_disk.specs.Units.{start_of, units_in};
-ghost use Rattle.std.specs.List.Sorted.{IsStrictlyIncreasing};
+ghost use Rattle.std.specs.Prelude.{◌≡◌, ◌≤◌, ◌<◌, ◌+◌, ◌++◌, ◌∷◌, [], ℕ, List, length, map, All};
+ghost use Rattle.std.specs.Prelude.{IfOk, OnOk};
 ghost use Rattle.pk_manifest.specs.Sound.{IsBody, entry_limit};
 ghost use Rattle.pk_manifest.specs.Spelling.{view};
+ghost use Rattle.pk_model.specs.Collection.{Doc};
 ghost use Rattle.pk_model.specs.Limits.{end_of_ids};
-ghost use Rattle.pk_model.specs.Collection.{Doc, numbers_of};
+ghost use Rattle.pk_replace.specs.Claims.{claim_of};
 ghost use Rattle.pk_segment.specs.Opened.{IsSegmentOf};
-ghost use Rattle.pk_segment.specs.Plain.{SegmentSpells, docs_of};
+ghost use Rattle.pk_segment.specs.Plain.{SegmentSpells};
 ghost use Rattle.pk_space.specs.Space.{is_free};
-ghost use Rattle.pk_state.specs.Writing.{new_entry};
-ghost use Rattle.pk_store.specs.Plan.{AreNext, BuildsAs, DueAs, IsPlanOf, PlacesAs, PlansAs};
-ghost use Rattle.pk_store.specs.Plan.{IsTaken, body_after, one_claim};
+ghost use Rattle.pk_state.specs.Writing.{next_body};
+ghost use Rattle.pk_store.specs.Plan.{CanBeWritten, IsPlanOf, IsTaken, fresh_segment};
+ghost use Rattle.pk_store.specs.Plan.{PlacesAs, entry_in, ids_in, laid_in, new_lists, relisted};
+ghost use Rattle.pk_store.specs.Plan.{settled, with_list};
+ghost use Rattle.pk_store.specs.View.{IsGrown};
 
+use pk_dead::Dead;
 use pk_disk::Extent;
 use pk_manifest::{Manifest, Part};
-use pk_model::{Document, Refusal};
+use pk_model::Refusal;
 use pk_posting::SliceSource;
 use pk_replace::Piece;
-use pk_segment::{BuildFault, Segment, build};
+use pk_search::OpenSegment;
+use pk_segment::Segment;
 use pk_space::{Full, Space};
 use std::alloc::{AllocError, Global};
 
@@ -34,11 +37,11 @@ pub(crate) struct Plan {
     /// What that body says.
     pub(crate) manifest: Manifest,
     /// The segments that it names, open.
-    pub(crate) segments: Vec<Segment>,
+    pub(crate) opened: Vec<OpenSegment>,
 }
 
-// The segment that these bytes spell, open.
-fn open_built(bytes: &[u8]) -> Segment
+/// The segment that these bytes spell, open.
+pub(crate) fn open_built(bytes: &[u8]) -> Segment
     requires { (docs : List Doc) × SegmentSpells bytes.now docs 1 }
     ensures { (docs : List Doc) → SegmentSpells bytes.now docs 1 → IsSegmentOf result docs }
 {
@@ -49,20 +52,37 @@ fn open_built(bytes: &[u8]) -> Segment
     segment
 }
 
-// The segment of the documents, and it open.
-fn new_segment(alloc: Global, documents: &[Document]) -> Result<(Vec<u8>, Segment), Refusal>
-    requires some { 0 < length documents.now }
-    requires rising { IsStrictlyIncreasing (numbers_of (docs_of documents.now)) }
-    requires least { All (λ d. 1 ≤ d.number.0) documents.now }
-    ensures { BuildsAs (docs_of documents.now) result }
+/// Puts the bytes of the new lists behind what is to be written.
+pub(crate) fn put_lists(
+    alloc: Global,
+    opened: &[OpenSegment],
+    writes: &mut Vec<Vec<u8>>,
+) -> Result<(), AllocError>
+    requires grown { All IsGrown opened.now }
+    ensures lists { OnOk result (map (λ w. w.items) writes.new.items
+        ≡ map (λ w. w.items) writes.old.items ++ new_lists opened.now) }
+    ensures sizes { OnOk result (CanBeWritten (new_lists opened.now)) }
 {
-    let bytes = match build(alloc, documents, 1) {
-        Ok(bytes) => bytes,
-        Err(BuildFault::TooLarge) => return Err(Refusal::SegmentTooLarge),
-        Err(BuildFault::Memory) => return Err(Refusal::Memory),
+    let Some((segment, others)) = opened.split_first() else {
+        return Ok(());
     };
-    let segment = open_built(&bytes);
-    Ok((bytes, segment))
+    if segment.is_pending() {
+        let bytes = segment.deleted.spell(alloc)?;
+        writes.push(bytes)?;
+    }
+    put_lists(alloc, others, writes)
+}
+
+/// The lengths of what is to be written.
+pub(crate) fn lengths_of(alloc: Global, writes: &[Vec<u8>]) -> Result<Vec<u32>, AllocError>
+    requires { CanBeWritten (map (λ w. w.items) writes.now) }
+    ensures { IfOk result (λ v. v.items ≡ map length (map (λ w. w.items) writes.now)) }
+{
+    let mut lengths = Vec::with_capacity(alloc, writes.len())?;
+    for bytes in writes {
+        lengths.push(bytes.len() as u32)?;
+    }
+    Ok(lengths)
 }
 
 // The first run of free units that fits so many bytes, which are free no more.
@@ -74,9 +94,13 @@ fn place(space: &mut Space, bytes: u32) -> Result<Extent, Full>
     Ok(Extent::of_bytes(first, bytes))
 }
 
-// Extents of these lengths in their order, each at the first run of free units that fits, beside
-// what the body names and what was placed before.
-fn place_all(alloc: Global, manifest: &Manifest, lengths: &[u32]) -> Result<Vec<Extent>, Refusal>
+/// Extents of these lengths in their order, each at the first run of free units that fits, beside
+/// what the body names and what was placed before.
+pub(crate) fn place_all(
+    alloc: Global,
+    manifest: &Manifest,
+    lengths: &[u32],
+) -> Result<Vec<Extent>, Refusal>
     requires some { All (λ n. 1 ≤ n) lengths.now }
     requires sound { IsBody manifest.now.units (view manifest.now) }
     ensures { PlacesAs (view manifest.now) lengths.now result }
@@ -97,129 +121,168 @@ fn place_all(alloc: Global, manifest: &Manifest, lengths: &[u32]) -> Result<Vec<
     Ok(extents)
 }
 
-// The body that follows, with the same segments.
-fn next_manifest(
-    alloc: Global,
-    manifest: &Manifest,
-    next_number: u32,
-) -> Result<Manifest, AllocError>
-    requires generation { manifest.now.generation < end_of_ids }
-    ensures { IfOk result (λ m. view m ≡ body_after (view manifest.now) next_number []) }
+// The entry with its deletion list in this extent.
+fn with_list(entry: Part, extent: Extent) -> Part
+    ensures { result ≡ with_list entry extent }
 {
-    Ok(Manifest {
-        generation: manifest.generation + 1,
-        units: manifest.units,
-        next_number,
-        next_segment: manifest.next_segment,
-        entries: Vec::from_slice(alloc, &manifest.entries)?,
-    })
+    Part {
+        dead: Some(extent),
+        ..entry
+    }
 }
 
-// Names one more segment, in this extent.
-fn put_part(manifest: &mut Manifest, extent: Extent) -> Result<(), AllocError>
-    requires { manifest.old.next_segment < end_of_ids }
-    ensures numbers { OnOk result ((manifest.new.generation ≡ manifest.old.generation)
-        × (manifest.new.units ≡ manifest.old.units)
-        × (manifest.new.next_number ≡ manifest.old.next_number)
-        × (manifest.new.next_segment ≡ manifest.old.next_segment + 1)) }
-    ensures entries { OnOk result (manifest.new.entries.items
-        ≡ manifest.old.entries.items ++ new_entry (view manifest.old) extent ∷ []) }
+/// Puts the entries behind the others, those with a pending deletion with their new lists.
+pub(crate) fn put_entries(
+    out: &mut Vec<Part>,
+    entries: &[Part],
+    opened: &[OpenSegment],
+    extents: &[Extent],
+) -> Result<(), AllocError>
+    ensures { OnOk result (out.new.items
+        ≡ out.old.items ++ relisted entries.now opened.now extents.now) }
 {
-    manifest.entries.push(Part {
-        segment: manifest.next_segment,
-        extent,
-        kind: 1,
-        dead: None,
+    let Some((entry, more)) = entries.split_first() else {
+        return Ok(());
+    };
+    let Some((segment, others)) = opened.split_first() else {
+        return out.extend_from_slice(entries);
+    };
+    let Some((extent, rest)) = extents.split_first() else {
+        return out.extend_from_slice(entries);
+    };
+    if segment.is_pending() {
+        out.push(with_list(*entry, *extent))?;
+        put_entries(out, more, others, rest)
+    } else {
+        out.push(*entry)?;
+        put_entries(out, more, others, extents)
+    }
+}
+
+/// Puts the open segments behind the others, each with all its deletions in its list.
+pub(crate) fn put_settled(
+    alloc: Global,
+    out: &mut Vec<OpenSegment>,
+    opened: &[OpenSegment],
+) -> Result<(), AllocError>
+    ensures { OnOk result (out.new.items ≡ out.old.items ++ map settled opened.now) }
+{
+    let Some((segment, others)) = opened.split_first() else {
+        return Ok(());
+    };
+    out.push(OpenSegment {
+        segment: segment.segment,
+        dead: segment.deleted.copy(alloc)?,
+        deleted: segment.deleted.copy(alloc)?,
     })?;
-    manifest.next_segment += 1;
+    put_settled(alloc, out, others)
+}
+
+// Puts the bytes behind the other pieces, each at the start of its extent.
+fn put_pieces(
+    pieces: &mut Vec<Piece>,
+    mut writes: Vec<Vec<u8>>,
+    extents: &[Extent],
+) -> Result<(), AllocError>
+    requires { length writes.items ≡ length extents.now }
+    ensures { OnOk result (map claim_of pieces.new.items ≡ map claim_of pieces.old.items
+        ++ laid_in extents.now (map (λ w. w.items) writes.items)) }
+{
+    let Some((extent, others)) = extents.split_last() else {
+        return Ok(());
+    };
+    let Some(bytes) = writes.pop() else {
+        return Ok(());
+    };
+    put_pieces(pieces, writes, others)?;
+    pieces.push(Piece {
+        at: extent.start(),
+        bytes,
+    })?;
     Ok(())
 }
 
-// The plan without a document: the next number alone is new.
-fn plan_next_number(
+/// The plan that puts this body in force, with these open segments and these bytes in the extents
+/// at their places.
+pub(crate) fn plan_for(
     alloc: Global,
-    manifest: &Manifest,
-    segments: &[Segment],
-    next_number: u32,
+    manifest: Manifest,
+    opened: Vec<OpenSegment>,
+    writes: Vec<Vec<u8>>,
+    extents: &[Extent],
 ) -> Result<Plan, AllocError>
-    requires generation { manifest.now.generation < end_of_ids }
-    requires few { length manifest.now.entries.items ≤ entry_limit }
-    ensures { IfOk result (IsPlanOf (view manifest.now) segments.now next_number [] [] []) }
+    requires few { length manifest.entries.items ≤ entry_limit }
+    requires same { length writes.items ≡ length extents.now }
+    ensures { IfOk result (IsPlanOf (view manifest) opened.items extents.now
+        (map (λ w. w.items) writes.items)) }
 {
-    let manifest = next_manifest(alloc, manifest, next_number)?;
     let body = manifest.spell(alloc)?;
-    Ok(Plan {
-        pieces: Vec::new(alloc),
-        body,
-        manifest,
-        segments: Vec::from_slice(alloc, segments)?,
-    })
-}
-
-// The plan of a new segment of these bytes, in this extent.
-fn plan_segment(
-    alloc: Global,
-    manifest: &Manifest,
-    segments: &[Segment],
-    next_number: u32,
-    extent: Extent,
-    bytes: Vec<u8>,
-    segment: Segment,
-) -> Result<Plan, AllocError>
-    requires generation { manifest.now.generation < end_of_ids }
-    requires id { manifest.now.next_segment < end_of_ids }
-    requires room { length manifest.now.entries.items < entry_limit }
-    ensures { IfOk result (IsPlanOf (view manifest.now) segments.now next_number (extent ∷ [])
-        (segment ∷ []) (one_claim (start_of extent) bytes.items)) }
-{
-    let mut manifest = next_manifest(alloc, manifest, next_number)?;
-    put_part(&mut manifest, extent)?;
-    let body = manifest.spell(alloc)?;
-    let mut segments = Vec::from_slice(alloc, segments)?;
-    segments.push(segment)?;
-    let piece = Piece {
-        at: extent.start(),
-        bytes,
-    };
-    let pieces = Vec::from_array(alloc, [piece])?;
+    let mut pieces = Vec::with_capacity(alloc, extents.len())?;
+    put_pieces(&mut pieces, writes, extents)?;
     Ok(Plan {
         pieces,
         body,
         manifest,
-        segments,
+        opened,
     })
 }
 
-/// The plan of a commit of these documents and this next number, over a body and its open segments.
-///
-/// Refused as segment too large, as full, or as memory.
-pub(crate) fn plan_commit(
-    alloc: Global,
-    manifest: &Manifest,
-    segments: &[Segment],
-    documents: &[Document],
-    next_number: u32,
-) -> Result<Plan, Refusal>
-    requires sound { IsBody manifest.now.units (view manifest.now) }
-    requires opened { length segments.now ≡ length manifest.now.entries.items }
-    requires due { DueAs (view manifest.now) (length documents.now) None }
-    requires next { AreNext (view manifest.now) (docs_of documents.now) next_number }
-    ensures { (size : ℕ) → IsBody (units_in size) (view manifest.now)
-        → PlansAs size (view manifest.now) segments.now (docs_of documents.now) next_number result }
+/// These bytes alone, to be written.
+pub(crate) fn one_write(alloc: Global, bytes: Vec<u8>) -> Result<Vec<Vec<u8>>, AllocError>
+    ensures { IfOk result (λ v. v.items ≡ bytes ∷ []) }
 {
-    if documents.is_empty() {
-        return Ok(plan_next_number(alloc, manifest, segments, next_number)?);
-    }
-    let (bytes, segment) = new_segment(alloc, documents)?;
-    let extents = place_all(alloc, manifest, &[bytes.len() as u32])?;
-    let extent = extents[0];
-    Ok(plan_segment(
-        alloc,
-        manifest,
-        segments,
-        next_number,
-        extent,
-        bytes,
+    let mut writes = Vec::with_capacity(alloc, 1)?;
+    writes.push(bytes)?;
+    Ok(writes)
+}
+
+/// The open segments with all their deletions in their lists, and a new one.
+pub(crate) fn settled_with(
+    alloc: Global,
+    opened: &[OpenSegment],
+    segment: Segment,
+) -> Result<Vec<OpenSegment>, AllocError>
+    ensures { IfOk result (λ v. v.items
+        ≡ map settled opened.now ++ fresh_segment segment ∷ []) }
+{
+    let mut kept = Vec::with_capacity(alloc, opened.len() + 1)?;
+    put_settled(alloc, &mut kept, opened)?;
+    kept.push(OpenSegment {
         segment,
-    )?)
+        dead: Dead::new(alloc),
+        deleted: Dead::new(alloc),
+    })?;
+    Ok(kept)
+}
+
+/// The body that follows: these entries, and behind them that of a new segment in this extent, if
+/// there is one.
+pub(crate) fn next_manifest(
+    manifest: &Manifest,
+    next_number: u32,
+    mut entries: Vec<Part>,
+    segment: Option<Extent>,
+) -> Result<Manifest, AllocError>
+    requires generation { manifest.now.generation < end_of_ids }
+    requires id { manifest.now.next_segment < end_of_ids }
+    ensures { IfOk result (λ m. view m ≡ next_body (view manifest.now) next_number (ids_in segment)
+        (entries.items ++ entry_in (view manifest.now) segment)) }
+{
+    let mut next_segment = manifest.next_segment;
+    if let Some(extent) = segment {
+        entries.push(Part {
+            segment: next_segment,
+            extent,
+            kind: 1,
+            dead: None,
+        })?;
+        next_segment += 1;
+    }
+    Ok(Manifest {
+        generation: manifest.generation + 1,
+        units: manifest.units,
+        next_number,
+        next_segment,
+        entries,
+    })
 }

@@ -7,7 +7,8 @@ pub enum OpenFault {
     TooSmall,
     /// Both gates of the disk are closed.
     NotAStore,
-    /// The body in force, or the header or the numbers of one of its segments, is not sound.
+    /// The body in force, or the header or the numbers of one of its segments, is not sound; or a
+    /// deletion list is no spelling of a list, or has more numbers than its segment has documents.
     Damaged,
     /// The device failed.
     Disk,

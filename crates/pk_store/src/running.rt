@@ -1,6 +1,6 @@
 //! Lists of commands.
 ghost use Rattle.std.specs.Prelude.{◌≡◌, map, IfOk, OnErr};
-ghost use Rattle.pk_model.specs.Steps.{add, commit, count, delete, find, show};
+ghost use Rattle.pk_model.specs.Steps.{add, commit, count, delete, find, merge, show};
 ghost use Rattle.pk_model.specs.Tree.{tree_of};
 ghost use Rattle.pk_model.specs.Views.{reply_of, request_of};
 ghost use Rattle.pk_store.specs.Steps.{AreSteps, RunsTo, Steps};
@@ -41,6 +41,7 @@ impl<D: Disk> Store<D> {
             Command::Find(query) => self.reply_to_find(alloc, query),
             Command::Show(number) => self.reply_to_show(alloc, *number),
             Command::Commit => self.reply_to_commit(alloc),
+            Command::Merge => self.reply_to_merge(alloc),
             Command::Count => self.reply_to_count(),
         }
     }
@@ -86,6 +87,15 @@ impl<D: Disk> Store<D> {
     {
         match self.commit(alloc) {
             Ok(()) => Reply::Committed,
+            Err(why) => Reply::Refused(why),
+        }
+    }
+
+    fn reply_to_merge(&mut self, alloc: Global) -> Reply
+        ensures { Steps D.Disk self.old merge (reply_of result) self.new }
+    {
+        match self.merge(alloc) {
+            Ok(()) => Reply::Merged,
             Err(why) => Reply::Refused(why),
         }
     }

@@ -1,30 +1,38 @@
-//! What is committed, on its disk: the body in force with its open segments, and the one way in
-//! which another body takes its place.
+//! What is committed, on its disk, and what of it is deleted: the body in force with its open
+//! segments, and the one way in which another body takes its place.
 ghost use Rattle.std.specs.Prelude.{◌≡◌, ◌≤◌, ◌<◌, ◌^◌, ℕ, List, false, length};
-ghost use Rattle.std.specs.List.Sorted.{IsStrictlyIncreasing};
+ghost use Rattle.std.specs.List.{list_any};
 ghost use Rattle.pk_disk.specs.Frames.{KeepsDisk};
 ghost use Rattle.pk_manifest.specs.Spelling.{view};
-ghost use Rattle.pk_model.specs.Collection.{numbers_of};
+ghost use Rattle.pk_model.specs.Collection.{IsCollection};
 ghost use Rattle.pk_model.specs.Tree.{tree_of};
 ghost use Rattle.pk_search.specs.Finding.{FoundAs, LooksUpAs};
+ghost use Rattle.pk_search.specs.Opened.{pends, present};
 ghost use Rattle.pk_segment.specs.Plain.{docs_of};
 ghost use Rattle.pk_segment.specs.Reading.{CountsReads};
-ghost use Rattle.pk_state.specs.Committed.{Stored, live_in};
+ghost use Rattle.pk_state.specs.Committed.{Stored, live_in, whole_of};
+ghost use Rattle.pk_store.specs.Deleting.{DeletesAt, DeletesIn};
+ghost use Rattle.pk_state.specs.Writing.{is_merged};
+ghost use Rattle.pk_store.specs.Merging.{PlansAll};
 ghost use Rattle.pk_store.specs.Plan.{AreNext, Carries, DueAs, IsPlan, PlansAs};
-ghost use Rattle.pk_store.specs.View.{IsReady, KeepsVolume, StandFor, volume_of};
+ghost use Rattle.pk_store.specs.View.{IsReady, KeepsVolume, StandFor, committed_by, volume_of};
 
-use crate::planning::{Plan, plan_commit};
+use crate::committing::plan_commit;
+use crate::merging::{MAX_DELETED, inputs_of, plan_merged, refusal_of};
+use crate::planning::Plan;
 use pk_disk::Disk;
 use pk_manifest::{Half, Manifest};
+use pk_merge::merged;
 use pk_model::limits::{END_OF_IDS, MAX_SEGMENTS};
 use pk_model::{DocNo, Document, Query, Refusal};
+use pk_posting::SourceFault;
 use pk_replace::{Pieces, StreamFault, replace_with};
-use pk_search::{count_stored, find_stored, text_stored};
-use pk_segment::{ReadFault, Segment};
+use pk_search::{OpenSegment, count_stored, find_stored, place_stored, text_stored};
+use pk_segment::ReadFault;
 use std::alloc::Global;
 use std::marker::Model;
 
-/// What is committed, on its disk.
+/// What is committed, on its disk, and what of it is deleted.
 #[derive(Drop)]
 pub(crate) struct Volume<D: Disk> {
     /// The disk.
@@ -32,7 +40,7 @@ pub(crate) struct Volume<D: Disk> {
     /// What the body in force says.
     manifest: Manifest,
     /// The segments that it names, each at the place of its entry.
-    segments: Vec<Segment>,
+    opened: Vec<OpenSegment>,
     /// The half that the next body goes to.
     spare: Half,
     /// A write or a sync failed: the disk has to be opened again.
@@ -48,7 +56,7 @@ impl<D: Disk> Model for Volume<D> {
     ghost view = { λ v. record {
       disk = v.disk;
       body = body_of v.manifest;
-      segments = v.segments.items;
+      opened = v.opened.items;
       spare = v.spare;
       reopen = v.reopen;
     } };
@@ -56,7 +64,7 @@ impl<D: Disk> Model for Volume<D> {
     ghost invariant = { λ v. IsReady D.Disk (record {
       disk = v.disk;
       body = body_of v.manifest;
-      segments = v.segments.items;
+      opened = v.opened.items;
       spare = v.spare;
       reopen = v.reopen;
     }) };
@@ -64,14 +72,19 @@ impl<D: Disk> Model for Volume<D> {
 
 impl<D: Disk> Volume<D> {
     /// The volume of a disk whose body in force says this, with these segments open.
-    pub(crate) fn new(disk: D, manifest: Manifest, segments: Vec<Segment>, spare: Half) -> Volume<D>
-        requires { IsReady D.Disk (volume_of disk (view manifest) segments.items spare) }
-        ensures { result ≡ volume_of disk (view manifest) segments.items spare }
+    pub(crate) fn new(
+        disk: D,
+        manifest: Manifest,
+        opened: Vec<OpenSegment>,
+        spare: Half,
+    ) -> Volume<D>
+        requires { IsReady D.Disk (volume_of disk (view manifest) opened.items spare) }
+        ensures { result ≡ volume_of disk (view manifest) opened.items spare }
     {
         Volume {
             disk,
             manifest,
-            segments,
+            opened,
             spare,
             reopen: false,
         }
@@ -91,8 +104,8 @@ impl<D: Disk> Volume<D> {
         self.manifest.next_number
     }
 
-    /// Puts the numbers of the committed documents that satisfy the query behind those that were
-    /// found.
+    /// Puts the numbers of the committed documents that are not deleted and satisfy the query
+    /// behind those that were found.
     pub(crate) fn find(
         &mut self,
         alloc: Global,
@@ -101,7 +114,8 @@ impl<D: Disk> Volume<D> {
     ) -> Result<(), ReadFault>
         ensures found { D.honest → (stored : List Stored) → StandFor D.Disk self.old stored
             → self.old.reopen ≡ false
-            → FoundAs (tree_of query.now) (live_in stored) found.old.items found.new.items result }
+            → FoundAs (tree_of query.now) (live_in (present self.old.opened stored)) found.old.items
+            found.new.items result }
         ensures keeps { KeepsVolume D.Disk self.old self.new }
         ensures reads { CountsReads (D.failed_reads self.old.disk) (D.failed_reads self.new.disk)
             result }
@@ -110,21 +124,21 @@ impl<D: Disk> Volume<D> {
             alloc,
             &mut self.disk,
             &self.manifest.entries,
-            &self.segments,
+            &self.opened,
             query,
             found,
         )
     }
 
-    /// The text of the committed document of this number, if there is one.
+    /// The text of the committed document of this number, if there is one that is not deleted.
     pub(crate) fn text_of(
         &mut self,
         alloc: Global,
         number: DocNo,
     ) -> Result<Option<String>, ReadFault>
         ensures text { D.honest → (stored : List Stored) → StandFor D.Disk self.old stored
-            → self.old.reopen ≡ false → IsStrictlyIncreasing (numbers_of (live_in stored))
-            → LooksUpAs (live_in stored) number.0 result }
+            → self.old.reopen ≡ false → IsCollection (whole_of (committed_by self.old stored))
+            → LooksUpAs (live_in (present self.old.opened stored)) number.0 result }
         ensures keeps { KeepsVolume D.Disk self.old self.new }
         ensures reads { CountsReads (D.failed_reads self.old.disk) (D.failed_reads self.new.disk)
             result }
@@ -133,18 +147,56 @@ impl<D: Disk> Volume<D> {
             alloc,
             &mut self.disk,
             &self.manifest.entries,
-            &self.segments,
+            &self.opened,
             number,
         )
     }
 
-    /// How many documents are committed.
+    /// How many documents are committed and not deleted.
     pub(crate) fn count(&self) -> u64
         ensures is { D.honest → (stored : List Stored) → StandFor D.Disk self.now stored
-            → self.now.reopen ≡ false → result ≡ length (live_in stored) }
+            → IsCollection (whole_of (committed_by self.now stored))
+            → result ≡ length (live_in (present self.now.opened stored)) }
         ensures few { result < 2 ^ 38 }
     {
-        count_stored(&self.segments)
+        count_stored(&self.opened)
+    }
+
+    /// Whether a deletion of a committed document is not committed.
+    pub(crate) fn is_pending(&self) -> bool
+        ensures { result ≡ list_any pends self.now.opened }
+    {
+        self.opened.iter().any(|segment| segment.is_pending())
+    }
+
+    /// Deletes the committed document of this number, if there is one that is not deleted; the disk
+    /// is only read. Memory is taken for one number.
+    ///
+    /// Refused as no such document, as damaged where the segment is none, as disk where a read
+    /// failed, or as memory.
+    pub(crate) fn delete(&mut self, number: DocNo) -> Result<(), Refusal>
+        ensures { DeletesIn D.Disk self.old number.0 result self.new }
+    {
+        match place_stored(&mut self.disk, &self.manifest.entries, &self.opened, number) {
+            Ok(Some(place)) => self.delete_at(place, number),
+            Ok(None) => Err(Refusal::NoSuchDocument),
+            Err(SourceFault::Damaged) => Err(Refusal::Damaged),
+            Err(SourceFault::Disk) => Err(Refusal::Disk),
+        }
+    }
+
+    // Puts the number among the deleted ones of the segment at a place.
+    fn delete_at(&mut self, place: usize, number: DocNo) -> Result<(), Refusal>
+        requires within { place < length self.old.opened }
+        requires least { 1 ≤ number.0 }
+        ensures { DeletesAt self.old place number.0 result self.new }
+    {
+        let segment = &mut self.opened[place];
+        if segment.deleted.len() >= MAX_DELETED.min(segment.segment.count()) as usize {
+            return Err(Refusal::Damaged);
+        }
+        segment.deleted.add(number.0)?;
+        Ok(())
     }
 
     /// The refusal that the body in force and so many documents to be committed fix, if any.
@@ -171,16 +223,37 @@ impl<D: Disk> Volume<D> {
     ) -> Result<Plan, Refusal>
         requires due { DueAs self.now.body (length documents.now) None }
         requires next { AreNext self.now.body (docs_of documents.now) next_number }
-        ensures { PlansAs (length (D.content self.now.disk)) self.now.body self.now.segments
+        ensures { PlansAs (length (D.content self.now.disk)) self.now.body self.now.opened
             (docs_of documents.now) next_number result }
     {
-        plan_commit(
-            alloc,
-            &self.manifest,
-            &self.segments,
-            documents,
-            next_number,
-        )
+        plan_commit(alloc, &self.manifest, &self.opened, documents, next_number)
+    }
+
+    /// Whether nothing is left to merge: there is no segment, or just one, of the kind that is
+    /// written and without a deletion list.
+    pub(crate) fn is_merged(&self) -> bool
+        ensures { result ≡ is_merged self.now.body.entries }
+    {
+        match self.manifest.entries.as_slice() {
+            [] => true,
+            [entry] => entry.kind == 1 && entry.dead.is_none(),
+            _ => false,
+        }
+    }
+
+    /// The plan of a merge of all segments; the disk is only read.
+    ///
+    /// Refused as segment too large, as full, as damaged where a segment is none, as disk where a
+    /// read failed, or as memory.
+    pub(crate) fn plan_merge(&mut self, alloc: Global) -> Result<Plan, Refusal>
+        requires due { DueAs self.old.body 0 None }
+        ensures { PlansAll D.Disk self.old (length (D.content self.old.disk)) result self.new }
+    {
+        let inputs = inputs_of(alloc, &self.manifest.entries, &self.opened)?;
+        match merged(alloc, &mut self.disk, &inputs, 1) {
+            Ok(bytes) => plan_merged(alloc, &self.manifest, &self.opened, bytes),
+            Err(fault) => Err(refusal_of(fault)),
+        }
     }
 
     /// Puts the plan's body in force with its pieces, and keeps what it says.
@@ -196,7 +269,7 @@ impl<D: Disk> Volume<D> {
         match replace_with(&mut self.disk, self.spare, writer, &plan.body) {
             Ok(()) => {
                 self.manifest = plan.manifest;
-                self.segments = plan.segments;
+                self.opened = plan.opened;
                 self.spare = self.spare.other();
                 Ok(())
             }

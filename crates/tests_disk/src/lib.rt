@@ -1,4 +1,5 @@
-//! Tests of the disk layer, by public calls: disks, free units, bodies and gates.
+//! Tests of the disk layer, by public calls: disks, pages, free units, bodies and gates, segments
+//! and their merges.
 #![tactic(auto)]
 
 #[cfg(test)]
@@ -7,6 +8,8 @@ mod disk;
 mod filedisk;
 #[cfg(test)]
 mod manifest;
+#[cfg(test)]
+mod merge;
 #[cfg(test)]
 mod replace;
 #[cfg(test)]

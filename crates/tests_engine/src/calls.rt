@@ -27,8 +27,20 @@ fn a_list_of_commands_is_answered_in_turn(rt: HostRuntime) -> Result<(), Fail> {
     commands.push(Command::Show(DocNo(1)))?;
     commands.push(Command::Count)?;
     commands.push(Command::Delete(DocNo(2)))?;
+    commands.push(Command::Delete(DocNo(1)))?;
+    commands.push(Command::Merge)?;
     let replies = new_store(alloc)?.run(alloc, &commands)?;
-    let [added, committed, found, text, counts, deleted] = replies.as_slice() else {
+    let [
+        added,
+        committed,
+        found,
+        text,
+        counts,
+        missing,
+        deleted,
+        merged,
+    ] = replies.as_slice()
+    else {
         return Err(Fail::new("as many replies as commands"));
     };
     assert!(rt; matches!(added, Reply::Added(DocNo(1))));
@@ -40,7 +52,9 @@ fn a_list_of_commands_is_answered_in_turn(rt: HostRuntime) -> Result<(), Fail> {
         next: 2,
     };
     assert!(rt; matches!(counts, Reply::Counted(c) if *c == expected));
-    assert!(rt; matches!(deleted, Reply::Refused(Refusal::NoSuchDocument)));
+    assert!(rt; matches!(missing, Reply::Refused(Refusal::NoSuchDocument)));
+    assert!(rt; matches!(deleted, Reply::Deleted(DocNo(1))));
+    assert!(rt; matches!(merged, Reply::Merged));
     Ok(())
 }
 

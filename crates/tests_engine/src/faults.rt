@@ -1,38 +1,8 @@
 //! Sessions in which a call of the device fails, and what a crash leaves of them.
 
 use crate::script::play_parts;
-use std::alloc::Global;
+use crate::sweeps::{EITHER, ON, ONCE, Sweep, play_sweep};
 use std::test::Fail;
-
-/// Sessions that meet a failing call, which is any from `first` to `last`.
-struct Sweep {
-    /// What goes before the opening that the calls are counted from.
-    before: &'static str,
-    first: u64,
-    last: u64,
-    /// Whether the call fails alone, all later ones do too, or first one and then the other.
-    how: &'static [&'static str],
-    /// From the opening to the closing.
-    session: &'static str,
-    /// What a crash leaves that makes each open position 00 or FF.
-    shut: &'static str,
-    /// What one leaves that makes each A7, or keeps what was written.
-    open: &'static str,
-}
-
-const ONCE: &[&str] = &[" once"];
-
-const ON: &[&str] = &[""];
-
-const EITHER: &[&str] = &[" once", ""];
-
-/// What a crash does to open positions, and whether a gate that was being opened is open then.
-const CRASHES: [(&str, bool); 4] = [
-    ("!crash A7\n", true),
-    ("!crash 00\n", false),
-    ("!crash FF\n", false),
-    ("!crash\n", true),
-];
 
 /// A new disk, and a new store.
 const DISK: &str = "!disk 32768\n";
@@ -415,7 +385,9 @@ const SECOND_COMMIT: [Sweep; 3] = [
             show 2 => refused reopen
             add z => refused reopen
             delete 2 => refused reopen
+            delete 1 => refused reopen
             commit => refused reopen
+            merge => refused reopen
             find ( => refused query unexpected at 1
             find -- => refused query no word at 0
             what => refused unknown
@@ -595,26 +567,11 @@ const SWEEPS: [&[Sweep]; 6] = [
     &READING,
 ];
 
-/// Plays the sessions of a sweep whose failing call is the `k`th, each with each crash.
-fn play_call(alloc: Global, sweep: &Sweep, k: u64) -> Result<(), Fail> {
-    for how in sweep.how {
-        let plan = format!(in alloc; "!fail {k}{how}\n")?;
-        for (crash, opens) in CRASHES {
-            let left = if opens { sweep.open } else { sweep.shut };
-            let parts = [sweep.before, plan.as_str(), sweep.session, crash, left];
-            play_parts(alloc, &parts)?;
-        }
-    }
-    Ok(())
-}
-
 #[test]
 fn each_call_that_fails_is_answered(rt: HostRuntime) -> Result<(), Fail> {
     for sweeps in SWEEPS {
         for sweep in sweeps {
-            for k in sweep.first..=sweep.last {
-                play_call(rt.alloc(), sweep, k)?;
-            }
+            play_sweep(rt.alloc(), sweep)?;
         }
     }
     Ok(())

@@ -10,9 +10,17 @@ mod buffer;
 #[cfg(test)]
 mod calls;
 #[cfg(test)]
+mod deletions;
+#[cfg(test)]
 mod faults;
 #[cfg(test)]
+mod list_faults;
+#[cfg(test)]
+mod lists;
+#[cfg(test)]
 mod lying;
+#[cfg(test)]
+mod memory;
 #[cfg(test)]
 mod opening;
 #[cfg(test)]
@@ -25,3 +33,5 @@ mod script;
 mod serving;
 #[cfg(test)]
 mod sessions;
+#[cfg(test)]
+mod sweeps;

@@ -82,20 +82,25 @@ impl Disk for Liar {
 
 /// Lines that meet the disk, and how their replies may begin: bytes alone can bring about damage
 /// and a missing document, and nothing else, since no call fails and memory is ample.
-const ASKED: [(&str, &str, &str); 8] = [
+const ASKED: [(&str, &str, &str); 12] = [
     ("add x", "added ", "added "),
+    ("delete 1", "deleted ", "refused damaged"),
     ("commit", "committed", "committed"),
     ("find x", "found ", "refused damaged"),
     ("show 0", "text ", "refused damaged"),
     ("show 1", "text ", "refused damaged"),
     ("show 2", "text ", "refused damaged"),
     ("show 4", "text ", "refused damaged"),
+    ("delete 3", "deleted ", "refused damaged"),
+    ("merge", "merged", "refused damaged"),
+    ("find NOT x", "found ", "refused damaged"),
     ("count", "count ", "count "),
 ];
 
 /// Whether a line may be answered so.
 fn is_allowed(line: &str, reply: &str, start: &str, other: &str) -> bool {
-    if line.starts_with("show") && reply == "refused no such document" {
+    let looks_up = line.starts_with("show") || line.starts_with("delete");
+    if looks_up && reply == "refused no such document" {
         return true;
     }
     reply.starts_with(start) || reply.starts_with(other)
@@ -111,7 +116,11 @@ fn ask<D: Disk>(rt: &impl Abort, alloc: Global, store: &mut Store<D>) -> Result<
 }
 
 /// Opens a disk and asks its store twice, if it has one. Answers whether it has.
-fn has_store<D: Disk + Drop>(rt: &impl Abort, alloc: Global, disk: D) -> Result<bool, AllocError> {
+pub fn has_store<D: Disk + Drop>(
+    rt: &impl Abort,
+    alloc: Global,
+    disk: D,
+) -> Result<bool, AllocError> {
     match Store::open_on(alloc, disk, 0) {
         Ok(mut store) => {
             ask(rt, alloc, &mut store)?;
@@ -148,7 +157,7 @@ fn a_lossy_disk_is_answered(rt: HostRuntime) -> Result<(), Fail> {
 #[test]
 fn a_disk_that_begins_to_lie_is_answered(rt: HostRuntime) -> Result<(), Fail> {
     let alloc = rt.alloc();
-    for served in 0..60 {
+    for served in 0..120 {
         let mut store = new_store(alloc)?;
         assert_eq!(rt; store.add(alloc, "x y"), Ok(DocNo(1)));
         assert_eq!(rt; store.commit(alloc), Ok(()));

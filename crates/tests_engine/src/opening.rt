@@ -25,7 +25,7 @@ const STORE: &str = "
 ";
 
 /// What creating and opening tell of that store, byte by byte.
-const STORES: [&str; 5] = [
+const STORES: [&str; 6] = [
     // It is opened, and no store is made over it.
     "
     !open => opened
@@ -83,7 +83,7 @@ const STORES: [&str; 5] = [
     !set 26648 02
     !open => damaged
     ",
-    // Kind 2 and a deletion list stand in a sound body, and are of later stores.
+    // Kind 2 stands in a sound body, and is of later stores.
     "
     !set 1056 01 00 00 00
     !set 1100 {00 *24}
@@ -92,9 +92,26 @@ const STORES: [&str; 5] = [
     !close
     !set 1080 02
     !open => damaged
-    !set 1080 01
-    !set 1084 36 00 00 00 01 00 00 00 09 00 00 00
-    !open => damaged
+    ",
+    // With the last generation, and with the last segment id, nothing is written.
+    "
+    !set 1032 {FF *8}
+    !open => opened
+    merge => refused numbers used up
+    delete 1 => deleted 1
+    commit => refused numbers used up
+    count => count 1 next 9
+    !close
+    !set 1032 03 {00 *7}
+    !set 1048 {FF *8}
+    !open => opened
+    merge => refused numbers used up
+    delete 1 => deleted 1
+    commit => refused numbers used up
+    find a => found 1: 2
+    !close
+    !open => opened
+    find a => found 2: 1 2
     ",
 ];
 
@@ -272,9 +289,11 @@ const ENDS: [(&str, &str, &str, &str); 5] = [
     ),
 ];
 
-/// A commit with nothing to write needs neither id; a refused one leaves all as it was.
+/// A commit and a merge with nothing to write need neither id; a refused commit leaves all as it
+/// was.
 const LAST_IDS: &str = "
     commit => committed
+    merge => merged
     add a => added 1
     commit => refused numbers used up
     count => count 1 next 2

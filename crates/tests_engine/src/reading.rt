@@ -62,12 +62,26 @@ fn look_up(script: &mut String, n: u32) -> Result<(), AllocError> {
     Ok(())
 }
 
+/// Opens the store, and deletes a document twice: its entry is looked for once, and no text is
+/// read.
+fn delete(script: &mut String, n: u32) -> Result<(), AllocError> {
+    let most = OPENING + 12 * halvings(n);
+    script.push_str("!open => opened\n")?;
+    if n != 50 {
+        writeln!(script, "delete {n} => deleted {n}")?;
+    }
+    writeln!(script, "delete {n} => refused no such document")?;
+    writeln!(script, "!close\n!reads {most}")?;
+    Ok(())
+}
+
 #[test]
 fn a_look_up_reads_few_bytes(rt: HostRuntime) -> Result<(), Fail> {
     let alloc = rt.alloc();
     let mut script = store(alloc)?;
     for n in 1..=108u32 {
         look_up(&mut script, n)?;
+        delete(&mut script, n)?;
     }
     play(alloc, script.as_str())?;
     Ok(())
@@ -81,7 +95,10 @@ const BESIDE: &str = "
     show 0 => refused no such document
     show 110 => refused no such document
     show 4294967295 => refused no such document
-    count => count 108 next 110
+    delete 110 => refused no such document
+    delete 109 => deleted 109
+    delete 109 => refused no such document
+    count => count 107 next 110
     !close
     !reads 8354
 ";

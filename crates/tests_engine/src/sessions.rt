@@ -84,7 +84,9 @@ const SESSIONS: [&str; 17] = [
     add => refused unknown
     quit{ *1} => refused unknown
     commit{ *1} => refused unknown
-    merge => refused unknown
+    Merge => refused unknown
+    merge{ *1} => refused unknown
+    merge 1 => refused unknown
     tidy => refused unknown
     count => count 0 next 1
     ",
@@ -177,7 +179,7 @@ const SESSIONS: [&str; 17] = [
     count => count 4 next 5
     ",
     // The segment of 10,204 hyphens has 24 bytes of header, 12 of directory and the text: 10,240
-    // bytes, 20 units. Of the 30 units for segments two don't fit.
+    // bytes, 20 units. Of the 30 units for segments two don't fit, until the first is merged away.
     "
     add {-*10204} => added 1
     commit => committed
@@ -185,12 +187,16 @@ const SESSIONS: [&str; 17] = [
     commit => refused full need 20 largest 10
     count => count 2 next 3
     delete 2 => deleted 2
+    delete 1 => deleted 1
     commit => committed
-    delete 1 => refused no such document
+    merge => merged
+    add {-*10204} => added 3
+    commit => committed
+    count => count 1 next 4
     !close
     !open => opened
-    count => count 1 next 3
-    show 1 => text {-*10204}
+    count => count 1 next 4
+    show 3 => text {-*10204}
     ",
     // The text that just fits into the 10 units that are left has 5,084 bytes.
     "
@@ -245,7 +251,7 @@ fn sessions_go_as_written(rt: HostRuntime) -> Result<(), Fail> {
 
 /// The last number, lines for each number from 1 to it, and the lines behind them.
 const MANY: [(u32, &str, &str); 2] = [
-    // 64 segments. Without a document a commit isn't refused.
+    // 64 segments. Without a document a commit isn't refused, and a merge makes room.
     (
         64,
         "
@@ -262,6 +268,16 @@ const MANY: [(u32, &str, &str); 2] = [
         !close
         !open => opened
         count => count 64 next 66
+        add c => added 66
+        commit => refused too many segments
+        merge => merged
+        commit => committed
+        merge => merged
+        count => count 65 next 67
+        !close
+        !open => opened
+        count => count 65 next 67
+        find c => found 1: 66
         ",
     ),
     // 4,096 uncommitted documents.
@@ -320,7 +336,7 @@ const WRONG: [(&str, usize, &str); 10] = [
     ("count => count 0 next 1\n", 1, "no store"),
     ("!disk 32768\n!set 32768 00\n", 2, "outside"),
     ("!disk 32768\n!fail 4\n!create => created\n", 3, "disk"),
-    ("!merge\n", 1, "no such step"),
+    ("!tidy\n", 1, "no such step"),
 ];
 
 #[test]

@@ -1,5 +1,5 @@
--- Each document of now is a committed one, and none is dropped.
-use Rattle.pk_state.proofs.OpenedLemmas.{opened_state}
+-- Each document of now is a committed one.
+use Rattle.pk_state.proofs.StateLemmas.{opened_state}
 use Rattle.pk_state.proofs.laws.a_store_just_opened_is_in_a_state.Goals as goal
 
 pub returns : goal.returns

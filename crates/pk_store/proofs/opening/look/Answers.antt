@@ -22,12 +22,12 @@ open_segments-requires g c =
     subst (λ (n : ℕ). LieInside n c.in_ok-manifest.manifest.entries.items) (sym c.read_current.ensures.size)
     (lie_inside (g.D.Disk.content c.args.disk.now) (view c.in_ok-manifest.manifest) c.in_ok-manifest.ensures.sound)
 
-pub returns-in_err-segments-clause-found : goal.returns-in_err-segments-clause-found
-returns-in_err-segments-clause-found g c = λ honest.
+pub returns-in_err-opened-clause-found : goal.returns-in_err-opened-clause-found
+returns-in_err-opened-clause-found g c = λ honest.
     let bytes = g.D.Disk.content c.args.disk.now in
     let table = view c.in_ok-manifest.manifest in
-    let found = err_from_is_err_and c.from_residual-in_err-segments.result c.from_residual-in_err-segments.ensures.1 in
-    let why = c.in_err-segments.field-0.0 in
+    let found = err_from_is_err_and c.from_residual-in_err-opened.result c.from_residual-in_err-opened.ensures.1 in
+    let why = c.in_err-opened.field-0.0 in
     subst (λ (r : Result Found OpenFault). JudgesFound bytes r) (sym (found.1 ∙ ap Err found.2))
     (segments_refuse bytes c.in_ok-manifest.half table why (c.in_ok-manifest.ensures.answer honest)
-    (subst (λ (b : List ℕ). SegmentsAs b table (Err why)) (c.read_current.ensures.read honest).bytes (c.in_err-segments.ensures.opened honest)))
+    (subst (λ (b : List ℕ). SegmentsAs b table (Err why)) (c.read_current.ensures.read honest).bytes (c.in_err-opened.ensures.opened honest)))

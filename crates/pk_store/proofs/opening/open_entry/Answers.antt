@@ -1,12 +1,17 @@
--- Where the segment's bytes are damaged, it opens as none.
-use Rattle.std.proofs.Common.{◌∙◌, ap, Err}
-use Rattle.pk_disk.specs.Units.{extent_bytes}
-use Rattle.pk_segment.specs.Opened.{IsOpened}
+-- A fault of the segment is one of the entry.
+use Rattle.std.proofs.Common.{sym, subst, Err, Result}
+use Rattle.std.proofs.lemmas.Result.{err_from_is_err_and}
+use Rattle.pk_search.specs.declared.opened.OpenSegment.{OpenSegment}
+use Rattle.pk_store.specs.declared.refused.OpenFault.{OpenFault}
+use Rattle.pk_store.specs.Judging.{OpensAsPlain, SegmentAs}
+use Rattle.pk_store.specs.Opening.{OpensAsSegment}
+use Rattle.pk_store.proofs.OpeningLemmas.{fault_plain}
 use Rattle.pk_store.proofs.opening.open_entry.Goals as goal
 
-pub returns-in-Err-Damaged-clause-opened : goal.returns-in-Err-Damaged-clause-opened
-returns-in-Err-Damaged-clause-opened g c = λ honest s opens.
-    let source = c.on-source.ensures in
-    let here : IsOpened (extent_bytes (g.D.Disk.content c.on-source.result.disk.now) c.on-source.result.extent) c.args.entry.extent.bytes 1 s
-    = rw (source.disk, source.extent) opens.opened in
-    c.open.ensures.damaged honest (c.in-Err-Damaged.is ∙ ap Err c.in-Err-Damaged.field-0-is) s here
+pub returns-in_err-segment-clause-opened : goal.returns-in_err-segment-clause-opened
+returns-in_err-segment-clause-opened g c = λ honest.
+    let bytes = g.D.Disk.content c.args.disk.now in
+    let found = err_from_is_err_and c.from_residual.result c.from_residual.ensures.1 in
+    subst (λ (r : Result OpenSegment OpenFault). SegmentAs (OpensAsSegment bytes c.args.entry) r) (sym found.1)
+    (fault_plain bytes c.args.entry found.0
+    (subst (λ (why : OpenFault). SegmentAs (OpensAsPlain bytes c.args.entry) (Err why)) (sym found.2) (c.in_err-segment.ensures.opened honest)))

@@ -1,17 +1,17 @@
 -- A fault of the entry is one of the entry with bounds.
 use Rattle.std.proofs.Common.{sym, subst, Err, Result}
 use Rattle.std.proofs.lemmas.Result.{err_from_is_err_and}
-use Rattle.pk_segment.specs.declared.segment.Segment.{Segment}
+use Rattle.pk_search.specs.declared.opened.OpenSegment.{OpenSegment}
 use Rattle.pk_store.specs.declared.refused.OpenFault.{OpenFault}
 use Rattle.pk_store.specs.Judging.{OpensNext, SegmentAs}
 use Rattle.pk_store.specs.Opening.{OpensAsSegment}
 use Rattle.pk_store.proofs.OpeningLemmas.{fault_next}
 use Rattle.pk_store.proofs.opening.open_next.Goals as goal
 
-pub returns-in_err-segment-clause-opened : goal.returns-in_err-segment-clause-opened
-returns-in_err-segment-clause-opened g c = λ honest.
+pub returns-in_err-opened-clause-opened : goal.returns-in_err-opened-clause-opened
+returns-in_err-opened-clause-opened g c = λ honest.
     let bytes = g.D.Disk.content c.args.disk.now in
     let found = err_from_is_err_and c.from_residual.result c.from_residual.ensures.1 in
-    subst (λ (r : Result Segment OpenFault). SegmentAs (OpensNext bytes c.args.low c.args.next c.args.entry) r) (sym found.1)
+    subst (λ (r : Result OpenSegment OpenFault). SegmentAs (OpensNext bytes c.args.low c.args.next c.args.entry) r) (sym found.1)
     (fault_next bytes c.args.low c.args.next c.args.entry found.0
-    (subst (λ (why : OpenFault). SegmentAs (OpensAsSegment bytes c.args.entry) (Err why)) (sym found.2) (c.in_err-segment.ensures.opened honest)))
+    (subst (λ (why : OpenFault). SegmentAs (OpensAsSegment bytes c.args.entry) (Err why)) (sym found.2) (c.in_err-opened.ensures.opened honest)))

@@ -2,7 +2,7 @@
 use Rattle.std.proofs.Common.{ap, arith, length, List, ℕ, subst, sym}
 use Rattle.pk_segment.specs.Plain.{DirectorySpells}
 use Rattle.pk_segment.proofs.DirectoryLemmas.{directory_of}
-use Rattle.pk_store.proofs.PlanLemmas.{no_fault, spelled_length}
+use Rattle.pk_store.proofs.PlacingLemmas.{no_fault, spelled_length}
 use Rattle.pk_store.proofs.planning.open_built.Goals as goal
 
 pub new-source-requires : goal.new-source-requires

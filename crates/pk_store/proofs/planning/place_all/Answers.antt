@@ -8,7 +8,7 @@ use Rattle.pk_manifest.specs.Sound.{named}
 use Rattle.pk_manifest.specs.Spelling.{view}
 use Rattle.pk_manifest.proofs.Fields.{extents_of_disk}
 use Rattle.pk_space.specs.Space.{is_free}
-use Rattle.pk_store.proofs.PlanLemmas.{IsPlacing, all_placed, one_full, one_placed}
+use Rattle.pk_store.proofs.PlacingLemmas.{IsPlacing, all_placed, one_full, one_placed}
 use Rattle.pk_store.proofs.planning.place_all.Goals as goal
 
 pub of-requires : goal.of-requires

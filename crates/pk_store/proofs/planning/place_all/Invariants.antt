@@ -3,7 +3,7 @@ use Rattle.std.proofs.Common.{drop}
 use Rattle.pk_manifest.specs.Sound.{named}
 use Rattle.pk_manifest.specs.Spelling.{view}
 use Rattle.pk_space.specs.Space.{is_free}
-use Rattle.pk_store.proofs.PlanLemmas.{IsPlacing}
+use Rattle.pk_store.proofs.PlacingLemmas.{IsPlacing}
 use Rattle.pk_store.proofs.planning.place_all.Given as goal
 
 abbrev pub invariant-loop-bytes : goal.invariant-loop-bytes

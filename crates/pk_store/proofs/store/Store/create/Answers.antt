@@ -1,12 +1,15 @@
 -- What was created is a store of the empty collection.
-use Rattle.std.proofs.Common.{◌≡◌, ◌≤◌, ◌∙◌, ℕ, [], length, ap, sym, subst, arith}
+use Rattle.std.proofs.Common.{◌≡◌, ◌≤◌, ◌∙◌, ℕ, List, [], length, ap, sym, subst, arith}
+use Rattle.std.specs.Prelude.{All}
+use Rattle.std.proofs.lemmas.List.Elements.{All-nil}
 use Rattle.pk_disk.specs.Units.{units_in}
 use Rattle.pk_manifest.specs.declared.half.Half.TheVariants.{A, B}
 use Rattle.pk_manifest.specs.Current.{HasBody, units_of_disk}
 use Rattle.pk_manifest.specs.Sound.{IsBody}
 use Rattle.pk_manifest.specs.Spelling.{Body, view}
 use Rattle.pk_store.specs.Opening.{first_body}
-use Rattle.pk_store.specs.View.{StoreView, volume_of}
+use Rattle.pk_search.specs.declared.opened.OpenSegment.{OpenSegment}
+use Rattle.pk_store.specs.View.{IsGrown, StoreView, volume_of}
 use Rattle.pk_store.proofs.CreatingLemmas.{create_large, first_sound_on, first_store, holds_first}
 use Rattle.pk_store.proofs.OpeningLemmas.{ready, unbuffered}
 use Rattle.pk_store.proofs.StoreSteps.{view_of}
@@ -22,9 +25,10 @@ new-requires g c =
     let units : c.units_in.result ≡ units_of_disk old = c.units_in.ensures ∙ ap units_in c.len.ensures in
     let large : 64 ≤ units_of_disk (D.content c.put_first.new.disk) = omega (arith, units, ap units_in size, c.if-units_in-lt-LEAST_UNITS.false) in
     let sound : IsBody (units_of_disk old) body = subst (λ (b : Body). IsBody (units_of_disk old) b) (sym first) (first_sound_on old) in
-    ready D c.put_first.new.disk B body c.new-segments.result.items large
+    ready D c.put_first.new.disk B body c.new-opened.result.items large
     (subst (λ (n : ℕ). IsBody (units_in n) body) (sym size) sound)
-    (ap length c.new-segments.ensures.items ∙ sym (ap (λ (b : Body). length b.entries) first))
+    (ap length c.new-opened.ensures.items ∙ sym (ap (λ (b : Body). length b.entries) first))
+    (subst (λ (os : List OpenSegment). All IsGrown os) (sym c.new-opened.ensures.items) (All-nil IsGrown))
     (λ honest. subst (λ (b : Body). HasBody (D.content c.put_first.new.disk) A b) (sym first) (c.in-Ok.ensures.done honest))
     (λ honest. c.in-Ok.ensures.closed honest)
 
@@ -58,8 +62,8 @@ returns-in-Ok g c =
     let new = D.content c.put_first.new.disk in
     let first : view c.in-Ok.manifest ≡ first_body (units_of_disk old) = c.in-Ok.ensures.first in
     let units : c.units_in.result ≡ units_of_disk old = c.units_in.ensures ∙ ap units_in c.len.ensures in
-    let volume = volume_of c.put_first.new.disk (view c.in-Ok.manifest) c.new-segments.result.items B in
-    let is : volume ≡ volume_of c.put_first.new.disk (first_body (units_of_disk old)) [] B = λ i. volume_of c.put_first.new.disk (first i) (c.new-segments.ensures.items i) B in
+    let volume = volume_of c.put_first.new.disk (view c.in-Ok.manifest) c.new-opened.result.items B in
+    let is : volume ≡ volume_of c.put_first.new.disk (first_body (units_of_disk old)) [] B = λ i. volume_of c.put_first.new.disk (first i) (c.new-opened.ensures.items i) B in
     let next : c.in-Ok.manifest.next_number ≡ 1 = ap (λ (b : Body). b.next_number) first in
     let shown : StoreView _ = view_of volume c.new-in-Ok.result c.in-Ok.manifest.next_number in
     rw c.new.ensures (record {

@@ -7,6 +7,7 @@ use Rattle.pk_model.specs.Views.{numbers_in}
 use Rattle.pk_model.specs.declared.commands.Refusal.TheVariants.{Reopen, Memory}
 use Rattle.pk_search.proofs.FindingLemmas.{found_both}
 use Rattle.pk_segment.specs.declared.fault.ReadFault.TheVariants as fault
+use Rattle.pk_search.specs.Opened.{present}
 use Rattle.pk_state.specs.Committed.{live_in}
 use Rattle.pk_store.specs.View.{state_with}
 use Rattle.pk_store.proofs.ReadSteps.{answers_read, refuses_read, refuses_fault, find_fails, find_named, finds}
@@ -47,6 +48,6 @@ returns-clause-step g c =
     let shown = view_of c.self.inside.volume c.self.inside.buffer c.self.inside.next in
     rw (sym c.self.view_is) (answers_read g.D.Disk shown (sym c.must_reopen.ensures ∙ c.if-must_reopen.false) c.find.new.self c.in_default.ensures.keeps (find query) (found (numbers_in c.append.new.self.items)) c.in_default.ensures.reads.ok tt
     (λ h stored is. finds shown stored query (numbers_in c.append.new.self.items) (sym c.must_reopen.ensures ∙ c.if-must_reopen.false)
-    (found_both c.new-numbers.result.items c.find.new.found.items c.in-Ok.uncommitted.items c.append.new.self.items (answer query (live_in stored)) (answer query c.self.inside.buffer)
+    (found_both c.new-numbers.result.items c.find.new.found.items c.in-Ok.uncommitted.items c.append.new.self.items (answer query (live_in (present c.self.inside.volume.opened stored))) (answer query c.self.inside.buffer)
     c.new-numbers.ensures.items (c.in_default.ensures.found h stored is.stand (sym c.must_reopen.ensures ∙ c.if-must_reopen.false))
     c.in-Ok.ensures.found c.in-Ok-append.ensures.items)))

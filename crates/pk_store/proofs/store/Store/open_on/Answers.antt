@@ -7,7 +7,7 @@ use Rattle.pk_manifest.specs.Current.{HasBody, units_of_disk}
 use Rattle.pk_manifest.specs.Sound.{IsBody}
 use Rattle.pk_manifest.specs.Spelling.{view}
 use Rattle.pk_manifest.proofs.Firm.{other_other}
-use Rattle.pk_store.specs.Opening.{OpensAsStore}
+use Rattle.pk_store.specs.Opening.{IsFresh, OpensAsStore}
 use Rattle.pk_store.specs.View.{StoreView, volume_of}
 use Rattle.pk_store.proofs.OpeningLemmas.{found_refuses, held_fault, means_held, ready, refused_large, unbuffered}
 use Rattle.pk_store.proofs.StoreSteps.{view_of}
@@ -23,8 +23,8 @@ new-requires g c =
     let units : c.units_in.result ≡ units_of_disk old = c.units_in.ensures ∙ ap units_in c.len.ensures in
     let large : 64 ≤ units_of_disk (D.content c.judge.new.disk) = omega (arith, units, ap units_in size, c.if-units_in-lt-LEAST_UNITS.false) in
     let back : other c.other-spare.result ≡ half = ap other c.other-spare.ensures ∙ other_other half in
-    ready D c.judge.new.disk c.other-spare.result body c.in-Ok.found.segments.items large
-    (subst (λ (n : ℕ). IsBody (units_in n) body) (sym size) c.in-Ok.ensures.sound) c.in-Ok.ensures.count
+    ready D c.judge.new.disk c.other-spare.result body c.in-Ok.found.opened.items large
+    (subst (λ (n : ℕ). IsBody (units_in n) body) (sym size) c.in-Ok.ensures.sound) c.in-Ok.ensures.count c.in-Ok.ensures.grown
     (λ honest. subst (λ (b : List ℕ). HasBody b (other c.other-spare.result) body) (sym (c.judge.ensures.content honest))
     (subst (λ (h : Half). HasBody old h body) (sym back) (c.in-Ok.ensures.found honest).current))
     (λ honest. c.in-Ok.ensures.closed honest)
@@ -55,20 +55,21 @@ returns-in-Ok g c =
     let D = g.D.Disk in
     let old = D.content c.args.disk in
     let body = view c.in-Ok.found.manifest in
-    let segments = c.in-Ok.found.segments.items in
+    let opened = c.in-Ok.found.opened.items in
     let units : c.units_in.result ≡ units_of_disk old = c.units_in.ensures ∙ ap units_in c.len.ensures in
     let back : other c.other-spare.result ≡ c.in-Ok.found.half = ap other c.other-spare.ensures ∙ other_other c.in-Ok.found.half in
-    let volume = volume_of c.judge.new.disk body segments c.other-spare.result in
+    let volume = volume_of c.judge.new.disk body opened c.other-spare.result in
     let shown : StoreView _ = view_of volume c.new-in-Ok.result c.in-Ok.found.manifest.next_number in
+    let fresh : IsFresh shown = record { clear = refl; buffer = c.new-in-Ok.ensures; next = refl } in
     rw c.new.ensures (record {
-      judged = λ honest. subst (λ (h : Half). OpensAsStore old h body segments) (sym back) (c.in-Ok.ensures.found honest);
+      judged = λ honest. subst (λ (h : Half). OpensAsStore old h body opened) (sym back) (c.in-Ok.ensures.found honest);
       means = λ honest collection holds. means_held D old collection shown holds
-          (subst (λ (h : Half). OpensAsStore old h body segments) (sym back) (c.in-Ok.ensures.found honest))
-          (c.judge.ensures.content honest) (c.in-Ok.ensures.closed honest) (record { clear = refl; buffer = c.new-in-Ok.ensures; next = refl });
+          (subst (λ (h : Half). OpensAsStore old h body opened) (sym back) (c.in-Ok.ensures.found honest))
+          (c.judge.ensures.content honest) (c.in-Ok.ensures.closed honest) fresh;
       none_new = c.judge.ensures.none_new;
       content = c.judge.ensures.content;
       closed = c.in-Ok.ensures.closed;
-      fresh = record { clear = refl; buffer = c.new-in-Ok.ensures; next = refl };
+      fresh = fresh;
       small = omega (arith, units, c.if-units_in-lt-LEAST_UNITS.false);
       size = c.judge.ensures.size;
       cause = c.in-Ok.ensures.cause;

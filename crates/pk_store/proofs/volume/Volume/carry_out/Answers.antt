@@ -11,35 +11,35 @@ use Rattle.pk_store.proofs.volume.Volume.carry_out.Goals as goal
 
 pub replace_with-requires-clause-body : goal.replace_with-requires-clause-body
 replace_with-requires-clause-body g c =
-    let v : VolumeView _ = record { disk = c.self.inside.disk; body = view c.self.inside.manifest; segments = c.self.inside.segments.items; spare = c.self.inside.spare; reopen = c.self.inside.reopen } in
+    let v : VolumeView _ = record { disk = c.self.inside.disk; body = view c.self.inside.manifest; opened = c.self.inside.opened.items; spare = c.self.inside.spare; reopen = c.self.inside.reopen } in
     let plan : IsPlan (length (g.D.Disk.content v.disk)) v.body c.args.plan = subst (λ (x : VolumeView _). IsPlan (length (g.D.Disk.content x.disk)) x.body c.args.plan) (sym c.self.view_is) c.requires.planned in
     let clear : v.reopen ≡ false = ap (λ (x : VolumeView _). x.reopen) c.self.view_is ∙ c.requires.clear in
     ap length c.deref-2.ensures.value ∙ body_long g.D.Disk v c.args.plan c.self.invariant clear plan
 
 pub replace_with-requires-clause-can : goal.replace_with-requires-clause-can
 replace_with-requires-clause-can g c =
-    let v : VolumeView _ = record { disk = c.self.inside.disk; body = view c.self.inside.manifest; segments = c.self.inside.segments.items; spare = c.self.inside.spare; reopen = c.self.inside.reopen } in
+    let v : VolumeView _ = record { disk = c.self.inside.disk; body = view c.self.inside.manifest; opened = c.self.inside.opened.items; spare = c.self.inside.spare; reopen = c.self.inside.reopen } in
     let plan : IsPlan (length (g.D.Disk.content v.disk)) v.body c.args.plan = subst (λ (x : VolumeView _). IsPlan (length (g.D.Disk.content x.disk)) x.body c.args.plan) (sym c.self.view_is) c.requires.planned in
     let clear : v.reopen ≡ false = ap (λ (x : VolumeView _). x.reopen) c.self.view_is ∙ c.requires.clear in
     subst (λ (ps : List Piece). Each (IsInside (length (g.D.Disk.content c.self.inside.disk))) (map claim_of ps) × AreApart (map claim_of ps)) (sym c.deref.ensures.value) (plan.inside, plan.apart)
 
 pub replace_with-requires-clause-greater : goal.replace_with-requires-clause-greater
 replace_with-requires-clause-greater g c =
-    let v : VolumeView _ = record { disk = c.self.inside.disk; body = view c.self.inside.manifest; segments = c.self.inside.segments.items; spare = c.self.inside.spare; reopen = c.self.inside.reopen } in
+    let v : VolumeView _ = record { disk = c.self.inside.disk; body = view c.self.inside.manifest; opened = c.self.inside.opened.items; spare = c.self.inside.spare; reopen = c.self.inside.reopen } in
     let plan : IsPlan (length (g.D.Disk.content v.disk)) v.body c.args.plan = subst (λ (x : VolumeView _). IsPlan (length (g.D.Disk.content x.disk)) x.body c.args.plan) (sym c.self.view_is) c.requires.planned in
     let clear : v.reopen ≡ false = ap (λ (x : VolumeView _). x.reopen) c.self.view_is ∙ c.requires.clear in
     λ h. subst (λ (b : List ℕ). generation_of (body_of (g.D.Disk.content c.self.inside.disk) (other c.self.inside.spare)) < generation_of b) (sym c.deref-2.ensures.value) (greater g.D.Disk v c.args.plan c.self.invariant clear plan h)
 
 pub invariant_of-self : goal.invariant_of-self
 invariant_of-self g c =
-    let v : VolumeView _ = record { disk = c.self.inside.disk; body = view c.self.inside.manifest; segments = c.self.inside.segments.items; spare = c.self.inside.spare; reopen = c.self.inside.reopen } in
+    let v : VolumeView _ = record { disk = c.self.inside.disk; body = view c.self.inside.manifest; opened = c.self.inside.opened.items; spare = c.self.inside.spare; reopen = c.self.inside.reopen } in
     let plan : IsPlan (length (g.D.Disk.content v.disk)) v.body c.args.plan = subst (λ (x : VolumeView _). IsPlan (length (g.D.Disk.content x.disk)) x.body c.args.plan) (sym c.self.view_is) c.requires.planned in
     let clear : v.reopen ≡ false = ap (λ (x : VolumeView _). x.reopen) c.self.view_is ∙ c.requires.clear in
     rw c.other-self-inside.ensures (ready_done g.D.Disk v c.args.plan c.self.invariant clear plan c.replace_with.new.disk c.in-Ok.ensures.size (rw (c.deref.ensures.value, c.deref-2.ensures.value) at c.in-Ok.ensures.done))
 
 pub returns-in-Ok : goal.returns-in-Ok
 returns-in-Ok g c =
-    let v : VolumeView _ = record { disk = c.self.inside.disk; body = view c.self.inside.manifest; segments = c.self.inside.segments.items; spare = c.self.inside.spare; reopen = c.self.inside.reopen } in
+    let v : VolumeView _ = record { disk = c.self.inside.disk; body = view c.self.inside.manifest; opened = c.self.inside.opened.items; spare = c.self.inside.spare; reopen = c.self.inside.reopen } in
     let plan : IsPlan (length (g.D.Disk.content v.disk)) v.body c.args.plan = subst (λ (x : VolumeView _). IsPlan (length (g.D.Disk.content x.disk)) x.body c.args.plan) (sym c.self.view_is) c.requires.planned in
     let clear : v.reopen ≡ false = ap (λ (x : VolumeView _). x.reopen) c.self.view_is ∙ c.requires.clear in
     rw (sym c.self.view_is) (rw c.other-self-inside.ensures (carries_done g.D.Disk v c.args.plan c.self.invariant clear plan c.replace_with.new.disk c.in-Ok.ensures.size tt
@@ -47,14 +47,14 @@ returns-in-Ok g c =
 
 pub invariant_of-self-in-Err-Read : goal.invariant_of-self-in-Err-Read
 invariant_of-self-in-Err-Read g c =
-    let v : VolumeView _ = record { disk = c.self.inside.disk; body = view c.self.inside.manifest; segments = c.self.inside.segments.items; spare = c.self.inside.spare; reopen = c.self.inside.reopen } in
+    let v : VolumeView _ = record { disk = c.self.inside.disk; body = view c.self.inside.manifest; opened = c.self.inside.opened.items; spare = c.self.inside.spare; reopen = c.self.inside.reopen } in
     let plan : IsPlan (length (g.D.Disk.content v.disk)) v.body c.args.plan = subst (λ (x : VolumeView _). IsPlan (length (g.D.Disk.content x.disk)) x.body c.args.plan) (sym c.self.view_is) c.requires.planned in
     let clear : v.reopen ≡ false = ap (λ (x : VolumeView _). x.reopen) c.self.view_is ∙ c.requires.clear in
     ready_read g.D.Disk v c.args.plan c.self.invariant clear plan c.replace_with.new.disk c.in-Err-Read.ensures.size (rw c.in-Err-Read.field-0-is at (c.in-Err-Read.ensures.unwritten tt))
 
 pub returns-in-Err-Read : goal.returns-in-Err-Read
 returns-in-Err-Read g c =
-    let v : VolumeView _ = record { disk = c.self.inside.disk; body = view c.self.inside.manifest; segments = c.self.inside.segments.items; spare = c.self.inside.spare; reopen = c.self.inside.reopen } in
+    let v : VolumeView _ = record { disk = c.self.inside.disk; body = view c.self.inside.manifest; opened = c.self.inside.opened.items; spare = c.self.inside.spare; reopen = c.self.inside.reopen } in
     let plan : IsPlan (length (g.D.Disk.content v.disk)) v.body c.args.plan = subst (λ (x : VolumeView _). IsPlan (length (g.D.Disk.content x.disk)) x.body c.args.plan) (sym c.self.view_is) c.requires.planned in
     let clear : v.reopen ≡ false = ap (λ (x : VolumeView _). x.reopen) c.self.view_is ∙ c.requires.clear in
     rw (sym c.self.view_is) (carries_read g.D.Disk v c.args.plan c.self.invariant clear plan c.replace_with.new.disk c.in-Err-Read.ensures.size
@@ -62,14 +62,14 @@ returns-in-Err-Read g c =
 
 pub invariant_of-self-in-Err-Write : goal.invariant_of-self-in-Err-Write
 invariant_of-self-in-Err-Write g c =
-    let v : VolumeView _ = record { disk = c.self.inside.disk; body = view c.self.inside.manifest; segments = c.self.inside.segments.items; spare = c.self.inside.spare; reopen = c.self.inside.reopen } in
+    let v : VolumeView _ = record { disk = c.self.inside.disk; body = view c.self.inside.manifest; opened = c.self.inside.opened.items; spare = c.self.inside.spare; reopen = c.self.inside.reopen } in
     let plan : IsPlan (length (g.D.Disk.content v.disk)) v.body c.args.plan = subst (λ (x : VolumeView _). IsPlan (length (g.D.Disk.content x.disk)) x.body c.args.plan) (sym c.self.view_is) c.requires.planned in
     let clear : v.reopen ≡ false = ap (λ (x : VolumeView _). x.reopen) c.self.view_is ∙ c.requires.clear in
     ready_failed g.D.Disk v c.args.plan c.self.invariant clear plan c.replace_with.new.disk c.in-Err-Write.ensures.size
 
 pub returns-in-Err-Write : goal.returns-in-Err-Write
 returns-in-Err-Write g c =
-    let v : VolumeView _ = record { disk = c.self.inside.disk; body = view c.self.inside.manifest; segments = c.self.inside.segments.items; spare = c.self.inside.spare; reopen = c.self.inside.reopen } in
+    let v : VolumeView _ = record { disk = c.self.inside.disk; body = view c.self.inside.manifest; opened = c.self.inside.opened.items; spare = c.self.inside.spare; reopen = c.self.inside.reopen } in
     let plan : IsPlan (length (g.D.Disk.content v.disk)) v.body c.args.plan = subst (λ (x : VolumeView _). IsPlan (length (g.D.Disk.content x.disk)) x.body c.args.plan) (sym c.self.view_is) c.requires.planned in
     let clear : v.reopen ≡ false = ap (λ (x : VolumeView _). x.reopen) c.self.view_is ∙ c.requires.clear in
     rw (sym c.self.view_is) (carries_failed g.D.Disk v c.args.plan c.self.invariant clear plan c.replace_with.new.disk c.in-Err-Write.ensures.size

@@ -1,0 +1,142 @@
+-- What was gathered: its length, one document more, and what is left of several.
+use Rattle.std.proofs.Common.{◌≡◌, ℕ, zero, suc, ◌+◌, ◌<◌, ◌≤◌, List, [], ◌∷◌, ◌++◌, length, take, drop, true, false, Some, sym, ap, subst, ◌∙◌, append_assoc, append-nil, arith, Result, Ok, Err, Vec, Global}
+use Rattle.std.specs.Prelude.{All, IfErr, IfOk, Option, slice_get}
+use Rattle.std.specs.List.Sorted.{IsStrictlyIncreasing}
+use Rattle.std.proofs.lemmas.Grind.{flat_map-append}
+use Rattle.std.proofs.lemmas.List.{length-append, map-append, take-append-drop}
+use Rattle.std.proofs.lemmas.List.Elements.{All-map, All-push, filter-append}
+use Rattle.pk_model.specs.declared.documents.Document.{Document}
+use Rattle.pk_model.specs.Collection.{Doc, numbers_of}
+use Rattle.pk_model.specs.Views.{doc_of}
+use Rattle.pk_model.proofs.CollectionLemmas.{increasing-snoc}
+use Rattle.pk_segment.specs.declared.fault.ReadFault.{ReadFault}
+use Rattle.pk_segment.specs.declared.fault.ReadFault.TheVariants as reading
+use Rattle.pk_segment.specs.Directory.{doc_in}
+use Rattle.pk_segment.specs.Plain.{docs_of, longest, plain_length, texts}
+use Rattle.pk_segment.specs.Reading.{IsNoDamage}
+use Rattle.pk_segment.proofs.PlainLemmas.{parts_of, length_texts_cons}
+use Rattle.pk_state.specs.Committed.{lists}
+use Rattle.pk_merge.specs.declared.fault.MergeFault.{MergeFault}
+use Rattle.pk_merge.specs.declared.fault.MergeFault.TheVariants.{TooLarge, Damaged, Disk, Memory}
+use Rattle.pk_merge.specs.declared.gathered.Gathered.{Gathered}
+use Rattle.pk_merge.specs.Gathering.{GathersAs, KeepsAs, RiseFrom, docs_in, left_by}
+use Rattle.pk_merge.specs.Merging.{IsMerged, MergeFails, MergedAs, merge_of}
+use Rattle.pk_merge.proofs.RiseLemmas.{rise_next}
+
+-- LENGTHS
+
+length_texts : (xs ys : List Doc) → length (texts (xs ++ ys)) ≡ length (texts xs) + length (texts ys)
+length_texts xs ys = ap length (flat_map-append (λ (d : Doc). d.text) xs ys) ∙ length-append (texts xs) (texts ys)
+
+plain_append : (xs ys : List Doc) → plain_length (xs ++ ys) + 24 ≡ plain_length xs + plain_length ys
+plain_append xs ys = omega (arith, parts_of (xs ++ ys), parts_of xs, parts_of ys, length-append xs ys, length_texts xs ys)
+
+-- one document more
+pub plain_one : (xs : List Doc) (d : Doc) → plain_length (xs ++ d ∷ []) ≡ plain_length xs + 12 + length d.text
+plain_one xs d = omega (arith, plain_append xs (d ∷ []), parts_of (d ∷ []), length_texts_cons d [])
+
+pub plain_none : plain_length [] ≡ 24
+plain_none = parts_of []
+
+-- a part that is too long makes the whole too long
+pub longer : (xs ys zs : List Doc) → zs ≡ xs ++ ys → longest < plain_length xs → longest < plain_length zs
+longer xs ys zs same long = omega (arith, long, ap plain_length same, plain_append xs ys, parts_of ys)
+
+-- WHAT IS LEFT
+
+pub left_append : (dead : List ℕ) (xs ys : List Doc) → left_by dead (xs ++ ys) ≡ left_by dead xs ++ left_by dead ys
+left_append dead xs ys = filter-append _ xs ys
+
+-- ONE DOCUMENT that is kept
+
+pub kept_rise : (ds now : List Document) (d : Document) (last : ℕ) → now ≡ ds ++ d ∷ [] → IsStrictlyIncreasing (numbers_of (docs_of ds))
+    → All (λ (x : Document). (1 ≤ x.number.0) × (x.number.0 ≤ last)) ds → last < d.number.0 → IsStrictlyIncreasing (numbers_of (docs_of now))
+kept_rise ds now d last same rising each above =
+    let numbers = ap numbers_of (map-append doc_of ds (d ∷ [])) ∙ map-append (λ (x : Doc). x.number) (docs_of ds) (doc_of d ∷ []) in
+    let below = All-map (λ (n : ℕ). n < d.number.0) (λ (x : Doc). x.number) (docs_of ds)
+    (All-map (λ (x : Doc). x.number < d.number.0) doc_of ds (λ k x h. omega (arith, (each k x h).1, above))) in
+    rw (same, numbers) (increasing-snoc (numbers_of (docs_of ds)) d.number.0 rising below)
+
+pub kept_each : (ds now : List Document) (d : Document) (last : ℕ) → now ≡ ds ++ d ∷ []
+    → All (λ (x : Document). (1 ≤ x.number.0) × (x.number.0 ≤ last)) ds → last < d.number.0
+    → All (λ (x : Document). (1 ≤ x.number.0) × (x.number.0 ≤ d.number.0)) now
+kept_each ds now d last same each above =
+    rw same (All-push (λ (x : Document). (1 ≤ x.number.0) × (x.number.0 ≤ d.number.0)) ds d
+    (λ k x h. ((each k x h).0, omega (arith, (each k x h).1, above))) (omega (arith, above), omega arith))
+
+pub kept_size : (ds now : List Document) (d : Document) → now ≡ ds ++ d ∷ []
+    → plain_length (docs_of now) ≡ plain_length (docs_of ds) + 12 + length (doc_of d).text
+kept_size ds now d same = ap (λ (xs : List Document). plain_length (docs_of xs)) same
+    ∙ ap plain_length (map-append doc_of ds (d ∷ [])) ∙ plain_one (docs_of ds) (doc_of d)
+
+-- the document that was read is the one at its place
+pub doc_got : (docs : List Doc) (i : ℕ) (d : Doc) → slice_get docs i ≡ Some d → d ≡ doc_in docs i
+doc_got [] i d e = cc
+doc_got (x ∷ docs) zero d e = cc
+doc_got (x ∷ docs) (suc i) d e = doc_got docs i d e
+
+-- a listed document is passed
+pub passes : (old new : Gathered) (dead : List ℕ) (d : Doc) (more : List Doc) (n : ℕ) → new.documents ≡ old.documents → new.last ≡ n → n ≡ d.number
+    → lists n dead ≡ true → RiseFrom old.last (d ∷ more) → (docs_in new ≡ docs_in old ++ left_by dead (d ∷ [])) × RiseFrom new.last more
+passes old new dead d more n same last number there rise = (
+  let here : lists d.number dead ≡ true = subst (λ (k : ℕ). lists k dead ≡ true) number there in
+      rw here (ap (λ (v : Vec Document Global). docs_of v.items) same ∙ sym (append-nil (docs_in old))),
+  subst (λ (k : ℕ). RiseFrom k more) (sym (last ∙ number)) (rise_next old.last d more rise),
+)
+
+-- another one is kept
+pub keeps : {T : Type 0} (old new : Gathered) (dead : List ℕ) (d e : Doc) (more : List Doc) (r : Result T MergeFault) → e ≡ d → lists d.number dead ≡ false
+    → RiseFrom old.last (d ∷ more) → KeepsAs old e new r → GathersAs (left_by dead (d ∷ [])) more old new r
+keeps old new dead d e more (Ok u) same none rise kept = (
+  rw none (kept.0 ∙ ap (λ (x : Doc). docs_in old ++ x ∷ []) same),
+  subst (λ (k : ℕ). RiseFrom k more) (sym (kept.1 ∙ ap (λ (x : Doc). x.number) same)) (rise_next old.last d more rise),
+)
+keeps old new dead d e more (Err TooLarge) same none rise kept = rw none (subst (λ (x : Doc). longest < plain_length (docs_in old ++ x ∷ [])) same kept)
+keeps old new dead d e more (Err Damaged) same none rise kept = absurd kept
+keeps old new dead d e more (Err Disk) same none rise kept = absurd kept
+keeps old new dead d e more (Err Memory) same none rise kept = tt
+
+-- A FAULT on the way stays one
+
+pub gathers_fault : {U : Type 0} (left more : List Doc) (old new : Gathered) (r : Result U MergeFault) (x : MergeFault) → r ≡ Err x
+    → MergeFails (docs_in old ++ left) x → GathersAs left more old new r
+gathers_fault left more old new r x is fault = rw is fault
+
+-- a reader's fault is no damage
+pub fails_read : (docs : List Doc) (y : ReadFault) → IsNoDamage y → MergeFails docs (merge_of y)
+fails_read docs reading.Damaged cause = absurd cause
+fails_read docs reading.Disk cause = tt
+fails_read docs reading.Memory cause = tt
+
+-- a part that fails makes the whole fail
+pub fails_longer : (xs ys zs : List Doc) (y : MergeFault) → zs ≡ xs ++ ys → MergeFails xs y → MergeFails zs y
+fails_longer xs ys zs TooLarge same fault = longer xs ys zs same fault
+fails_longer xs ys zs Damaged same fault = absurd fault
+fails_longer xs ys zs Disk same fault = tt
+fails_longer xs ys zs Memory same fault = tt
+
+-- ONE PART AFTER THE OTHER, where what is left of two parts is what is left of each
+module _ {X : Type 0} (left : List X → List Doc) (parts : (xs ys : List X) → left (xs ++ ys) ≡ left xs ++ left ys) where
+  pub left_next : (xs : List X) (i : ℕ) (x : X) (old before part : List Doc) → take (i + 1) xs ≡ take i xs ++ x ∷ [] → part ≡ left (x ∷ [])
+      → before ≡ old ++ left (take i xs) → before ++ part ≡ old ++ left (take (i + 1) xs)
+  left_next xs i x old before part here is so_far =
+      ap (λ (ds : List Doc). ds ++ part) so_far ∙ append_assoc old (left (take i xs)) part
+      ∙ ap (λ (ds : List Doc). old ++ (left (take i xs) ++ ds)) is
+      ∙ ap (λ (ds : List Doc). old ++ ds) (sym (parts (take i xs) (x ∷ [])) ∙ ap left (sym here))
+
+  pub left_on : (xs : List X) (i : ℕ) (x : X) (old before part : List Doc) → take (i + 1) xs ≡ take i xs ++ x ∷ [] → part ≡ left (x ∷ [])
+      → before ≡ old ++ left (take i xs) → old ++ left xs ≡ (before ++ part) ++ left (drop (i + 1) xs)
+  left_on xs i x old before part here is so_far =
+      ap (λ (ds : List X). old ++ left ds) (sym (take-append-drop (i + 1) xs))
+      ∙ ap (λ (ds : List Doc). old ++ ds) (parts (take (i + 1) xs) (drop (i + 1) xs))
+      ∙ sym (append_assoc old (left (take (i + 1) xs)) (left (drop (i + 1) xs)))
+      ∙ ap (λ (ds : List Doc). ds ++ left (drop (i + 1) xs)) (sym (left_next xs i x old before part here is so_far))
+
+-- THE WHOLE
+pub merged_fault : (docs : List Doc) (kind : ℕ) (r : Result (Option (Vec ℕ Global)) MergeFault) (x : MergeFault) → r ≡ Err x → MergeFails docs x → MergedAs docs kind r
+merged_fault docs kind r x is fault = rw is fault
+
+pub merged_all : (docs : List Doc) (kind : ℕ) (g : Gathered) (r : Result (Option (Vec ℕ Global)) MergeFault) → docs_in g ≡ docs → IfOk r (IsMerged (docs_in g) kind)
+    → IfErr r (λ fault. fault ≡ Memory) → MergedAs docs kind r
+merged_all docs kind g (Ok bytes) all built memory = subst (λ (ds : List Doc). IsMerged ds kind bytes) all built
+merged_all docs kind g (Err fault) all built memory = subst (λ (x : MergeFault). MergeFails docs x) (sym memory) tt

@@ -1,0 +1,4 @@
+-- The lemma pages.
+pub mod GatherLemmas
+pub mod InputLemmas
+pub mod RiseLemmas

@@ -1,0 +1,95 @@
+-- What the inputs of a merge spell, and what a merge answers.
+use Rattle.std.specs.Prelude.{
+  ◌≡◌,
+  ◌⊎◌,
+  ◌≤◌,
+  ◌<◌,
+  ◌+◌,
+  ℕ,
+  List,
+  [],
+  ◌∷◌,
+  Option,
+  None,
+  Some,
+  Result,
+  Ok,
+  Err,
+  OnOk,
+  IsErrOf,
+}
+use Rattle.std.specs.Global.{Vec}
+use Rattle.pk_disk.specs.Units.{extent_bytes, start_of}
+use Rattle.pk_merge.specs.declared.fault.MergeFault.{MergeFault}
+use Rattle.pk_merge.specs.declared.fault.MergeFault.TheVariants.{TooLarge, Damaged, Disk, Memory}
+use Rattle.pk_merge.specs.declared.merging.MergeInput.{MergeInput}
+use Rattle.pk_model.specs.Collection.{Doc}
+use Rattle.pk_posting.specs.Source.{Rose}
+use Rattle.pk_segment.specs.declared.building.BuildFault.{BuildFault}
+use Rattle.pk_segment.specs.declared.building.BuildFault.TheVariants as building
+use Rattle.pk_segment.specs.declared.fault.ReadFault.{ReadFault}
+use Rattle.pk_segment.specs.declared.fault.ReadFault.TheVariants as reading
+use Rattle.pk_segment.specs.Plain.{SegmentSpells, longest, plain_length}
+use Rattle.pk_state.specs.Committed.{Stored}
+
+-- what a fault of a reader means to a merge
+abbrev pub merge_of : ReadFault → MergeFault
+merge_of reading.Damaged = Damaged
+merge_of reading.Disk = Disk
+merge_of reading.Memory = Memory
+
+-- what a fault of building means to a merge
+abbrev pub built_of : BuildFault → MergeFault
+built_of building.TooLarge = TooLarge
+built_of building.Memory = Memory
+
+-- it is of a kind that is read
+abbrev pub HasKind : MergeInput → Type 0
+HasKind i = (i.kind ≡ 1) ⊎ (i.kind ≡ 2)
+
+-- its extent lies within a disk of so many bytes
+abbrev pub LiesInside : ℕ → MergeInput → Type 0
+LiesInside size i = start_of i.extent + i.extent.bytes ≤ size
+
+-- The input's extent spells the documents of what is stored, and its deletion list is the one that
+-- is stored.
+pub record SpellsInput (bytes : List ℕ) (i : MergeInput) (s : Stored) : Type 0 where
+  pub segment : SegmentSpells (extent_bytes bytes i.extent) s.documents i.kind
+  pub dead : i.dead.now ≡ s.dead
+
+-- each input spells what stands at its place
+abbrev pub SpellsInputs : List ℕ → List MergeInput → List Stored → Type 0
+SpellsInputs bytes [] [] = Unit {0}
+SpellsInputs bytes [] (s ∷ stored) = ⊥
+SpellsInputs bytes (i ∷ is) [] = ⊥
+SpellsInputs bytes (i ∷ is) (s ∷ stored) = SpellsInput bytes i s × SpellsInputs bytes is stored
+
+-- the segment of a kind of the documents; none exactly where there is none
+abbrev pub IsMerged : List Doc → ℕ → Option (Vec ℕ) → Type 0
+IsMerged docs kind None = docs ≡ []
+IsMerged docs kind (Some bytes) = SegmentSpells bytes.items docs kind
+
+-- too large is what passes the longest segment, and the device and memory may fail
+abbrev pub MergeFails : List Doc → MergeFault → Type 0
+MergeFails docs TooLarge = longest < plain_length docs
+MergeFails docs Damaged = ⊥
+MergeFails docs Disk = Unit {0}
+MergeFails docs Memory = Unit {0}
+
+-- the segment of a kind of the documents, or why there is none
+abbrev pub MergedAs : List Doc → ℕ → Result (Option (Vec ℕ)) MergeFault → Type 0
+MergedAs docs kind (Ok bytes) = IsMerged docs kind bytes
+MergedAs docs kind (Err fault) = MergeFails docs fault
+
+-- it is the segment of a kind of some documents, or none
+abbrev pub IsSomeMerged : ℕ → Option (Vec ℕ) → Type 0
+IsSomeMerged kind bytes = (docs : List Doc) × IsMerged docs kind bytes
+
+-- Disk is answered exactly where the count of failures rose; with any other answer it is as before.
+pub record CountsMerge {T : Type 0} (before now : ℕ) (result : Result T MergeFault) : Type 0 where
+  pub later : before ≤ now
+  pub ok : OnOk result (now ≡ before)
+  pub too_large : IsErrOf result TooLarge → now ≡ before
+  pub damaged : IsErrOf result Damaged → now ≡ before
+  pub memory : IsErrOf result Memory → now ≡ before
+  pub disk : IsErrOf result Disk → Rose before now

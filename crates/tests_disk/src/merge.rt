@@ -1,0 +1,190 @@
+//! Segments merged: what their deletion lists leave, damage, reads that fail, and little memory.
+
+ghost use Rattle.std.specs.Prelude.{◌≡◌, ◌≤◌, ◌<◌, length, All, IfOk};
+ghost use Rattle.std.specs.List.Sorted.{IsStrictlyIncreasing};
+ghost use Rattle.pk_model.specs.Collection.{numbers_of};
+ghost use Rattle.pk_segment.specs.Plain.{docs_of};
+
+use crate::segment::{ROW, document};
+use pk_dead::Dead;
+use pk_disk::{Disk, Extent, FaultDisk, MemoryDisk};
+use pk_merge::{MergeFault, MergeInput, merged};
+use pk_model::Document;
+use pk_segment::build;
+use std::alloc::{AllocError, Global};
+use std::process::Abort;
+use std::test::Fail;
+
+// The segment of document 3 `c`.
+const THIRD: [u8; 37] = [
+    1, 0, 0, 0, 1, 0, 0, 0, 1, 0, 0, 0, 0, 0, 0, 0, 0, 0, 0, 0, 0, 0, 0, 0, // header
+    3, 0, 0, 0, 0, 0, 0, 0, 1, 0, 0, 0, // directory
+    0x63, // text
+];
+
+// The segment of documents 2 `a` and 3 `c`.
+const LEFT: [u8; 50] = [
+    1, 0, 0, 0, 2, 0, 0, 0, 2, 0, 0, 0, 0, 0, 0, 0, 0, 0, 0, 0, 0, 0, 0, 0, // header
+    2, 0, 0, 0, 0, 0, 0, 0, 1, 0, 0, 0, // directory
+    3, 0, 0, 0, 1, 0, 0, 0, 1, 0, 0, 0, // its second entry
+    0x61, 0x63, // texts
+];
+
+// Where the segment of documents 1 and 2 lies, and that of document 3.
+const FIRST_PLACE: usize = 512;
+
+const THIRD_PLACE: usize = 1024;
+
+// A disk with the segment of documents 1 and 2 in unit 1, and that of document 3 in unit 2; one
+// byte is another.
+fn disk(alloc: Global, at: usize, byte: u8) -> Result<MemoryDisk, AllocError>
+    requires { at < 1536 }
+    ensures { IfOk result (λ d. length (⟦<MemoryDisk as Disk>⟧.content d) ≡ 1536) }
+{
+    let mut bytes = vec![in alloc; 0u8; 1536]?;
+    bytes[FIRST_PLACE..FIRST_PLACE + 52].copy_from_slice(&ROW);
+    bytes[THIRD_PLACE..THIRD_PLACE + 37].copy_from_slice(&THIRD);
+    bytes[at] = byte;
+    Ok(MemoryDisk::of_bytes(alloc, bytes))
+}
+
+// The list of one number.
+fn dead(alloc: Global, number: u32) -> Result<Dead, AllocError>
+    requires { 1 ≤ number }
+{
+    let mut dead = Dead::new(alloc);
+    dead.add(number)?;
+    Ok(dead)
+}
+
+// What is left of the segment in unit 1 by the one list, and of that in unit 2 by the other.
+fn merge<D: Disk>(
+    alloc: Global,
+    disk: &mut D,
+    first: &Dead,
+    third: &Dead,
+) -> Result<Option<Vec<u8>>, MergeFault>
+    requires { length (D.content disk.old) ≡ 1536 }
+    ensures { length (D.content disk.new) ≡ length (D.content disk.old) }
+{
+    let inputs = [
+        MergeInput {
+            extent: Extent::of_bytes(1, 52),
+            kind: 1,
+            dead: first,
+        },
+        MergeInput {
+            extent: Extent::of_bytes(2, 37),
+            kind: 1,
+            dead: third,
+        },
+    ];
+    merged(alloc, disk, &inputs, 1)
+}
+
+// Documents 2 and 3.
+fn left(alloc: Global) -> Result<Vec<Document>, AllocError>
+    ensures some { IfOk result (λ v. 0 < length v.items) }
+    ensures rising { IfOk result (λ v. IsStrictlyIncreasing (numbers_of (docs_of v.items))) }
+    ensures least { IfOk result (λ v. All (λ d. 1 ≤ d.number.0) v.items) }
+{
+    let mut docs = Vec::new(alloc);
+    docs.push(document(alloc, 2, "a")?)?;
+    docs.push(document(alloc, 3, "c")?)?;
+    Ok(docs)
+}
+
+// Of documents 1, 2 and 3 the first is listed: the segment is that which is built of the others.
+#[test]
+fn what_is_left_is_one_segment(rt: HostRuntime) -> Result<(), Fail> {
+    let mut disk = disk(rt.alloc(), 0, 0)?;
+    let first = dead(rt.alloc(), 1)?;
+    let bytes = merge(rt.alloc(), &mut disk, &first, &Dead::new(rt.alloc()))?;
+    assert_eq!(rt; bytes.as_deref(), Some(LEFT.as_slice()));
+    let built = build(rt.alloc(), &left(rt.alloc())?, 1)?;
+    assert_eq!(rt; bytes.as_deref(), Some(built.as_slice()));
+    Ok(())
+}
+
+// Of a document that is listed nothing is left, nor of no input.
+#[test]
+fn nothing_is_left(rt: HostRuntime) -> Result<(), Fail> {
+    let mut disk = disk(rt.alloc(), 0, 0)?;
+    let mut both = dead(rt.alloc(), 1)?;
+    assert!(rt; both.len() < 134_217_728);
+    both.add(2)?;
+    let third = dead(rt.alloc(), 3)?;
+    assert_eq!(rt;
+        merge(rt.alloc(), &mut disk, &both, &third)?.as_deref(),
+        None
+    );
+    let none = merged(rt.alloc(), &mut disk, &[], 1)?;
+    assert_eq!(rt; none.as_deref(), None);
+    Ok(())
+}
+
+// A number that doesn't rise in the directory is damage, and so is one that doesn't rise from the
+// first segment to the second, or a text that is left and not UTF-8. The text of a listed document
+// isn't read.
+#[test]
+fn damage_is_told(rt: HostRuntime) -> Result<(), Fail> {
+    let first = dead(rt.alloc(), 1)?;
+    let none = Dead::new(rt.alloc());
+    for (at, byte) in [
+        (FIRST_PLACE + 36, 1),
+        (THIRD_PLACE + 24, 2),
+        (FIRST_PLACE + 51, 0xFF),
+    ] {
+        let mut disk = disk(rt.alloc(), at, byte)?;
+        let refused = merge(rt.alloc(), &mut disk, &first, &none).err();
+        assert_eq!(rt; refused, Some(MergeFault::Damaged));
+    }
+    let mut disk = disk(rt.alloc(), FIRST_PLACE + 48, 0xFF)?;
+    let bytes = merge(rt.alloc(), &mut disk, &first, &none)?;
+    assert_eq!(rt; bytes.as_deref(), Some(LEFT.as_slice()));
+    Ok(())
+}
+
+// Each of the ten reads fails in turn: the answer is Disk, and when the call is made again it is
+// the segment. An eleventh read there is not.
+#[test]
+fn each_failing_read_of_a_merge_is_told(rt: HostRuntime) -> Result<(), Fail> {
+    let first = dead(rt.alloc(), 1)?;
+    let none = Dead::new(rt.alloc());
+    for k in 1..12u64 {
+        let mut disk = FaultDisk::once(disk(rt.alloc(), 0, 0)?, k);
+        if k < 11 {
+            let refused = merge(rt.alloc(), &mut disk, &first, &none).err();
+            assert_eq!(rt; refused, Some(MergeFault::Disk));
+        }
+        let bytes = merge(rt.alloc(), &mut disk, &first, &none)?;
+        assert_eq!(rt; bytes.as_deref(), Some(LEFT.as_slice()));
+    }
+    Ok(())
+}
+
+// Whether a merge was made; where memory was refused on the way, it answers so.
+fn is_merged(rt: &impl Abort, alloc: Global) -> bool {
+    let (Ok(mut disk), Ok(first)) = (disk(alloc, 0, 0), dead(alloc, 1)) else {
+        return false;
+    };
+    match merge(alloc, &mut disk, &first, &Dead::new(alloc)) {
+        Ok(bytes) => {
+            assert_eq!(rt; bytes.as_deref(), Some(LEFT.as_slice()));
+            true
+        }
+        Err(fault) => {
+            assert_eq!(rt; fault, MergeFault::Memory);
+            false
+        }
+    }
+}
+
+/// Run with one request for memory refused after another (tools/refuse_memory.py): of two merges
+/// the one that was refused none is made.
+#[test]
+fn merge_short_of_memory(rt: HostRuntime) {
+    let first = is_merged(&rt, rt.alloc());
+    let second = is_merged(&rt, rt.alloc());
+    assert!(rt; first || second);
+}

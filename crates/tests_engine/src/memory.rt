@@ -1,0 +1,211 @@
+//! Deletions, commits with deletion lists, merges and openings that are refused memory.
+
+use pk_disk::MemoryDisk;
+use pk_model::{Counts, DocNo, Refusal};
+use pk_query::parse;
+use pk_store::{OpenFault, Refused, Store};
+use std::alloc::Global;
+use std::process::Abort;
+
+/// What is asked of a store.
+enum Step {
+    Add(&'static str),
+    Delete(u32),
+    Commit,
+    Merge,
+}
+
+/// A document is deleted of one of two segments; beside each step how many documents live after it,
+/// and the next number.
+const BEFORE: [(Step, u64, u32); 7] = [
+    (Step::Add("red apple"), 1, 2),
+    (Step::Add("red pear"), 2, 3),
+    (Step::Commit, 2, 3),
+    (Step::Add("green apple"), 3, 4),
+    (Step::Commit, 3, 4),
+    (Step::Delete(1), 2, 4),
+    (Step::Commit, 2, 4),
+];
+
+/// The store is opened again, with its list; a segment and a list are committed, and all merged.
+const BEHIND: [(Step, u64, u32); 7] = [
+    (Step::Add("red plum"), 3, 5),
+    (Step::Delete(3), 2, 5),
+    (Step::Commit, 2, 5),
+    (Step::Delete(2), 1, 5),
+    (Step::Merge, 1, 5),
+    (Step::Commit, 1, 5),
+    (Step::Merge, 1, 5),
+];
+
+/// What is found in the end.
+const FOUND: [(&str, &[DocNo]); 3] = [
+    ("red", &[DocNo(4)]),
+    ("apple", &[]),
+    ("NOT apple", &[DocNo(4)]),
+];
+
+/// How steps went.
+#[derive(Clone, Copy, PartialEq, Eq)]
+enum Taken {
+    /// Memory was there for all.
+    Whole,
+    /// A step was refused it, and was taken again.
+    Again,
+    /// The disk's own record was refused it, so that a write or a sync failed. This was committed
+    /// then, and this was there.
+    Cut { marked: Counts, now: Counts },
+}
+
+/// Does what is asked.
+fn take(alloc: Global, store: &mut Store<MemoryDisk>, step: &Step) -> Result<(), Refusal> {
+    match step {
+        Step::Add(text) => match store.add(alloc, text) {
+            Ok(_) => Ok(()),
+            Err(why) => Err(why),
+        },
+        Step::Delete(number) => store.delete(alloc, DocNo(*number)),
+        Step::Commit => store.commit(alloc),
+        Step::Merge => store.merge(alloc),
+    }
+}
+
+/// Takes the steps on a store without anything uncommitted. One that is refused memory has changed
+/// nothing, and is done when it is asked for again.
+fn take_all(
+    rt: &impl Abort,
+    alloc: Global,
+    store: &mut Store<MemoryDisk>,
+    start: Counts,
+    steps: &[(Step, u64, u32)],
+) -> Taken {
+    let mut taken = Taken::Whole;
+    let mut marked = start;
+    let mut now = start;
+    for (step, documents, next) in steps {
+        let mut done = take(alloc, store, step);
+        if done == Err(Refusal::Memory) {
+            assert!(rt; store.counts() == Ok(now));
+            taken = Taken::Again;
+            done = take(alloc, store, step);
+        }
+        if done == Err(Refusal::Disk) {
+            return Taken::Cut { marked, now };
+        }
+        assert!(rt; done.is_ok());
+        now = Counts {
+            documents: *documents,
+            next: *next,
+        };
+        assert!(rt; store.counts() == Ok(now));
+        if matches!(step, Step::Commit) {
+            marked = now;
+        }
+    }
+    taken
+}
+
+/// A store opened again. Where it is refused memory, the disk that is handed back opens, and there
+/// was none for all.
+fn open_again(
+    rt: &impl Abort,
+    alloc: Global,
+    disk: MemoryDisk,
+    is_whole: &mut bool,
+) -> Store<MemoryDisk> {
+    match Store::open_on(alloc, disk, 0) {
+        Ok(store) => store,
+        Err(Refused { disk, why }) => {
+            assert!(rt; why == OpenFault::Memory || why == OpenFault::Disk);
+            *is_whole = false;
+            match Store::open_on(alloc, disk, 0) {
+                Ok(store) => store,
+                Err(_) => panic!(rt; "the disk doesn't open"),
+            }
+        }
+    }
+}
+
+/// Whether memory was there for the finds.
+fn finds_all(rt: &impl Abort, alloc: Global, store: &mut Store<MemoryDisk>) -> bool {
+    for (text, numbers) in FOUND {
+        let Ok(query) = parse(alloc, text) else {
+            return false;
+        };
+        match store.find(alloc, &query) {
+            Ok(found) => assert!(rt; found.as_slice() == numbers),
+            Err(why) => {
+                assert!(rt; why == Refusal::Memory);
+                return false;
+            }
+        }
+    }
+    true
+}
+
+/// Takes the steps of a session on an open store, which is then opened again. Answers it, and
+/// whether it is to go on: not after a write that failed, which leaves what was committed or what
+/// was there.
+fn play(
+    rt: &impl Abort,
+    alloc: Global,
+    mut store: Store<MemoryDisk>,
+    start: Counts,
+    steps: &[(Step, u64, u32)],
+    is_whole: &mut bool,
+) -> (Store<MemoryDisk>, bool) {
+    let taken = take_all(rt, alloc, &mut store, start, steps);
+    if taken != Taken::Whole {
+        *is_whole = false;
+    }
+    let store = open_again(rt, alloc, store.close(), is_whole);
+    match taken {
+        Taken::Cut { marked, now } => {
+            let left = store.counts();
+            assert!(rt; left == Ok(marked) || left == Ok(now));
+            (store, false)
+        }
+        Taken::Whole | Taken::Again => (store, true),
+    }
+}
+
+/// Plays both sessions on a new store, and answers whether memory was there for all that was asked.
+fn is_answered_in_full(rt: &impl Abort, alloc: Global) -> bool {
+    let Ok(zeros) = vec![in alloc; 0u8; 32_768] else {
+        return false;
+    };
+    let Ok(store) = Store::create(alloc, MemoryDisk::of_bytes(alloc, zeros), 0) else {
+        return false;
+    };
+    let mut is_whole = true;
+    let start = Counts {
+        documents: 0,
+        next: 1,
+    };
+    let (store, goes_on) = play(rt, alloc, store, start, &BEFORE, &mut is_whole);
+    if !goes_on {
+        return false;
+    }
+    let start = Counts {
+        documents: 2,
+        next: 4,
+    };
+    let (mut store, goes_on) = play(rt, alloc, store, start, &BEHIND, &mut is_whole);
+    if !goes_on {
+        return false;
+    }
+    if !finds_all(rt, alloc, &mut store) {
+        assert!(rt; finds_all(rt, alloc, &mut store));
+        return false;
+    }
+    is_whole
+}
+
+/// Run with one request for memory refused after another (tools/refuse_memory.py): of two sessions
+/// with the same steps the one that was refused none is answered in full.
+#[test]
+fn deletions_short_of_memory(rt: HostRuntime) {
+    let first = is_answered_in_full(&rt, rt.alloc());
+    let second = is_answered_in_full(&rt, rt.alloc());
+    assert!(rt; first || second);
+}
