@@ -1,13 +1,18 @@
 # Each target is one command, and can be typed by hand in its place.
 # demo and try run a session of the program; test is the merge gate, memory what comes after it;
-# check proves what has changed.
+# check proves what has changed; install puts the program, its client and their manuals in place.
 
 SESSION = examples/mail.lines
 PROGRAM = crates/pk_find/out/pk_find
 STORE = $(CURDIR)/demo.store
 UNITS = 4096
 
-.PHONY: demo try test memory check fmt bench
+PREFIX = /usr/local
+BIN = $(DESTDIR)$(PREFIX)/bin
+LIB = $(DESTDIR)$(PREFIX)/lib/rubewola
+MAN = $(DESTDIR)$(PREFIX)/share/man/man1
+
+.PHONY: demo try test client memory check fmt bench install uninstall
 
 # Proves and builds the program, makes a store in a file, and answers a session over a small mail
 # archive.
@@ -23,9 +28,13 @@ try:
 	cd crates/pk_find && rt try -- run $(STORE) < ../../$(SESSION)
 
 # The gate: every proof from nothing, each must-fail edit, each test, each program twice; then
-# sessions that are killed.
+# sessions that are killed, and the client's tests.
 test:
 	tools/test.sh
+
+# The tests of the Python client, over the built program.
+client:
+	RUBEWOLA_PROGRAM=$(CURDIR)/$(PROGRAM) python3 -m unittest discover clients/python/tests
 
 # Refuses each request for memory in turn, over the test programs that `make test` left.
 memory:
@@ -43,3 +52,21 @@ fmt:
 bench:
 	cd crates/pk_find && rt run -- --help
 	bench/words/run.sh $(PROGRAM)
+
+# Proves and builds the program, where it is not there.
+$(PROGRAM):
+	cd crates/pk_find && rt run -- --version
+
+# make install PREFIX=~/.local: the program, the client as `rubewola`, the Python package below
+# lib/rubewola, and the manuals. Python finds the package with PYTHONPATH=PREFIX/lib/rubewola.
+install: $(PROGRAM)
+	install -d $(BIN) $(LIB)/rubewola $(MAN)
+	install -m 755 $(PROGRAM) $(BIN)/pk_find
+	install -m 755 clients/python/rubewola.sh $(BIN)/rubewola
+	install -m 644 clients/python/rubewola/*.py $(LIB)/rubewola
+	install -m 644 man/pk_find.1 man/rubewola.1 $(MAN)
+
+# Takes away what install put there.
+uninstall:
+	rm -f $(BIN)/pk_find $(BIN)/rubewola $(MAN)/pk_find.1 $(MAN)/rubewola.1
+	rm -rf $(LIB)

@@ -54,26 +54,26 @@ words_ask app words m asked same matches faults asks = (
 )
 
 -- an error of the parse, told or not
-told_as : {D : Type 0} (d : Ghosts D) (words : List Text) (kind : ErrorKind) (r w w' e e' : Option (List ℕ)) (status : ℕ)
+told_as : {C D : Type 0} (c : Ghosts C) (d : Ghosts D) (words : List Text) (kind : ErrorKind) (r w w' e e' : Option (List ℕ)) (status : ℕ)
     → IsAmong kind (fault_of pk_find_app words)
     → (IsHelp kind × HelpOutcome e e' status) ⊎ ((IsHelp kind → ⊥) × (status ≡ refused) × (w' ≡ w))
-    → CommandOutcome d words r r w w' e e' status
-told_as d words kind r w w' e e' status among (inl help) = inr (inl ((kind, among, help.0), refl, help.1))
-told_as d words kind r w w' e e' status among (inr fault) =
+    → CommandOutcome c d words r r w w' e e' status
+told_as c d words kind r w w' e e' status among (inl help) = inr (inl ((kind, among, help.0), refl, help.1))
+told_as c d words kind r w w' e e' status among (inr fault) =
     inr (inr (inl ((kind, among, fault.0), refl, fault.2, fault.1)))
 
-told_by : {D : Type 0} (d : Ghosts D) (words : List Text) (kind : ErrorKind) (r w w' e e' : Option (List ℕ)) (status : ℕ)
+told_by : {C D : Type 0} (c : Ghosts C) (d : Ghosts D) (words : List Text) (kind : ErrorKind) (r w w' e e' : Option (List ℕ)) (status : ℕ)
     → (kind ≡ OutOfMemory) ⊎ IsAmong kind (fault_of pk_find_app words) → RefusalOutcome kind w w' e e' status
-    → CommandOutcome d words r r w w' e e' status
-told_by d words kind r w w' e e' status met (inl memory) = inr (inr (inr (refl, memory.3, memory.1, memory.2)))
-told_by d words kind r w w' e e' status (inl memory) (inr other) = absurd (other.0 memory)
-told_by d words kind r w w' e e' status (inr among) (inr other) = told_as d words kind r w w' e e' status among other.1
+    → CommandOutcome c d words r r w w' e e' status
+told_by c d words kind r w w' e e' status met (inl memory) = inr (inr (inr (refl, memory.3, memory.1, memory.2)))
+told_by c d words kind r w w' e e' status (inl memory) (inr other) = absurd (other.0 memory)
+told_by c d words kind r w w' e e' status (inr among) (inr other) = told_as c d words kind r w w' e e' status among other.1
 
 -- words that were not parsed ask for help, are refused, or found no memory
-pub words_refused : {D : Type 0} (d : Ghosts D) (app : App) (words : List Text) (kind : ErrorKind) (r w w' e e' : Option (List ℕ))
+pub words_refused : {C D : Type 0} (c : Ghosts C) (d : Ghosts D) (app : App) (words : List Text) (kind : ErrorKind) (r w w' e e' : Option (List ℕ))
     (status : ℕ) → app ≡ pk_find_app
     → (is_simple_and_free app ≡ true → (kind ≡ OutOfMemory) ⊎ IsAmong kind (fault_of app words))
-    → RefusalOutcome kind w w' e e' status → CommandOutcome d words r r w w' e e' status
-words_refused d app words kind r w w' e e' status same kinds =
-    told_by d words kind r w w' e e' status
+    → RefusalOutcome kind w w' e e' status → CommandOutcome c d words r r w w' e e' status
+words_refused c d app words kind r w w' e e' status same kinds =
+    told_by c d words kind r w w' e e' status
     (subst (λ a. (kind ≡ OutOfMemory) ⊎ IsAmong kind (fault_of a words)) same (kinds (ap is_simple_and_free same ∙ has_faults)))

@@ -30,11 +30,17 @@ create_app = with_rule (with_rule (new_app (codes "create")) path_rule) units_ru
 abbrev pub run_app : App
 run_app = with_rule (new_app (codes "run")) path_rule
 
--- a command is required, and where nothing is given help is told
+-- it has a version; a command is required, and where nothing is given help is told
 abbrev pub bare_app : App
 bare_app =
     let plain = new_app (codes "pk_find") in
-    record plain { top = record plain.top { subcommand_required = true; arg_required_else_help = true } }
+    record plain {
+      top = record plain.top {
+        has_version = true;
+        subcommand_required = true;
+        arg_required_else_help = true;
+      };
+    }
 
 -- WHAT THE PROGRAM'S COMMAND LINE MAY SAY
 abbrev pub pk_find_app : App

@@ -133,12 +133,14 @@ FileCreationOutcome d units w w' e e' status =
     IsFileCreation d units w w' e e' status
     ⊎ ((fault : FileFault) × (status ≡ failed) × IsTold e e' (file_words fault) × (w' ≡ w))
 
--- a command that was asked for came to this
-abbrev pub CarriedOut : {D : Type 0} → Ghosts D → Asked → Option (List ℕ) → Option (List ℕ)
-    → Option (List ℕ) → Option (List ℕ) → Option (List ℕ) → Option (List ℕ) → ℕ → Type 0
-CarriedOut d (Create path units) r r' w w' e e' status =
-    (r' ≡ r) × FileCreationOutcome d units w w' e e' status
-CarriedOut d (Run path) r r' w w' e e' status = FileSessionOutcome d r r' w w' e e' status
+-- a command that was asked for came to this, by the disk that a creation writes and the disk that
+-- a session is on
+abbrev pub CarriedOut : {C D : Type 0} → Ghosts C → Ghosts D → Asked → Option (List ℕ)
+    → Option (List ℕ) → Option (List ℕ) → Option (List ℕ) → Option (List ℕ) → Option (List ℕ) → ℕ
+    → Type 0
+CarriedOut c d (Create path units) r r' w w' e e' status =
+    (r' ≡ r) × FileCreationOutcome c units w w' e e' status
+CarriedOut c d (Run path) r r' w w' e e' status = FileSessionOutcome d r r' w w' e e' status
 
 -- help was told, or could not be
 abbrev pub HelpOutcome : Option (List ℕ) → Option (List ℕ) → ℕ → Type 0
@@ -156,12 +158,12 @@ RefusalOutcome kind w w' e e' status =
 
 -- WHAT A COMMAND LINE CAME TO: what its words ask for was carried out, help was told or could not
 -- be, it was refused, or memory was. But for a session nothing was read.
-abbrev pub CommandOutcome : {D : Type 0} → Ghosts D → List Text → Option (List ℕ)
+abbrev pub CommandOutcome : {C D : Type 0} → Ghosts C → Ghosts D → List Text → Option (List ℕ)
     → Option (List ℕ) → Option (List ℕ) → Option (List ℕ) → Option (List ℕ) → Option (List ℕ) → ℕ
     → Type 0
-CommandOutcome d words r r' w w' e e' status =
+CommandOutcome c d words r r' w w' e e' status =
     ((asked : Asked) × WordsAsk words asked × HasSize asked
-    × CarriedOut d asked r r' w w' e e' status)
+    × CarriedOut c d asked r r' w w' e e' status)
     ⊎ ((WordsAskHelp words × (r' ≡ r) × HelpOutcome e e' status)
     ⊎ ((AreRefused words × (r' ≡ r) × (w' ≡ w) × (status ≡ refused))
     ⊎ ((r' ≡ r) × (w' ≡ w) × (status ≡ failed) × IsTold e e' memory_words)))

@@ -23,6 +23,9 @@ const LEAST_UNITS: u64 = 64;
 /// The most units of a store.
 const MOST_UNITS: u64 = 2_147_483_648;
 
+/// The version, which stands here alone.
+const VERSION: &str = "0.1.0";
+
 const ABOUT: &str = "A Boolean search engine over lines of text";
 
 const CREATE_ABOUT: &str = "Makes a file with an empty store in it";
@@ -31,7 +34,11 @@ const CREATE_HELP: &str = "\
 The store has N units of 512 bytes, from 64 to 2147483648, and its file gets that length at once.
 It never grows: 34 units are the store's own, and the others are for documents. A commit takes the
 bytes of its texts, 12 more for each and 24 more, in whole units side by side, and is refused where
-that room is not left. A store takes 64 commits of new documents.
+that room is not left. A store takes 64 commits of new documents, and more after a merge, which
+needs room for all its documents once again while it works.
+
+The file is sparse: what was never written takes no room on the disk. So choose N generously. The
+bytes of all texts to come, divided by 64, give eight times their room. For texts of 4 MiB
 
   pk_find create notes --units 65536
 
@@ -42,15 +49,19 @@ const RUN_ABOUT: &str = "Answers commands from standard input, with the store in
 const RUN_HELP: &str = "\
 Commands, one on each line, each answered by one line:
   add TEXT     adds a document and tells its number
-  delete N     deletes document N, which must not be committed yet
+  delete N     deletes document N
   find QUERY   tells the documents that satisfy the query
   show N       tells the text of document N
-  commit       writes what was added since the last commit to the file
+  commit       writes what was added and deleted since the last commit to the file
+  merge        writes the committed documents that are left anew, together, and frees the old places
   count        tells how many documents live, and the next number
   quit         ends the session
 
-What is not committed is lost when the session ends or the machine stops. What is committed stays:
-`committed` is told once it is on the disk.
+What was added or deleted since the last commit is undone when the session ends, be it by `quit`,
+by the end of the input or by a kill, and when the machine stops. What is committed stays:
+`committed` is told once it is on the disk. A merge commits nothing.
+
+One program at a time: a store that another program has is refused as `disk`, and stays as it is.
 
 A query is words, joined by AND, OR, NOT and brackets: red (apple OR pear) NOT green
 Words side by side are joined by AND. Case does not matter in a word; AND, OR and NOT are written
@@ -104,6 +115,7 @@ pub fn program<'a>(alloc: Global) -> Result<Command<'a>, AllocError>
         .arg(path(alloc))?;
     Command::new(alloc, "pk_find")
         .about(ABOUT)
+        .version(VERSION)
         .subcommand_required(true)
         .arg_required_else_help(true)
         .subcommand(create)?

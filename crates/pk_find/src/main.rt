@@ -6,7 +6,7 @@
 //!
 //! | status | when | standard error |
 //! |---|---|---|
-//! | 0 | the store is made; the input is answered, to its end or a `quit`; help is told | nothing |
+//! | 0 | the store is made; the input is answered to its end or a `quit`; help, version | nothing |
 //! | 1 | a command failed | `pk_find: ` and one of the reasons below, in one line |
 //! | 2 | the command line was refused | why, and how it is to be used |
 //!
@@ -40,6 +40,7 @@ use command_line::{Asked, asked_by, program};
 use creating::create;
 use pk_disk::Disk;
 use pk_filedisk::{FileDisk, LockFile};
+use pk_pages::PageCache;
 use reporting::{MEMORY, fail, refuse};
 use running::run;
 use std::alloc::Global;
@@ -59,7 +60,8 @@ pub fn command<
     W: Write,
     E: Write,
 >(rt: &S, alloc: Global, words: &[String], input: &mut R, output: &mut W, faults: &mut E) -> u8
-    ensures { CommandOutcome ⟦<FileDisk<F> as Disk>⟧ (map string_bytes words.now)
+    ensures { CommandOutcome ⟦<FileDisk<F> as Disk>⟧ ⟦<PageCache<FileDisk<F>> as Disk>⟧
+        (map string_bytes words.now)
         (R.remaining input.old) (R.remaining input.new)
         (W.contents output.old) (W.contents output.new)
         (E.contents faults.old) (E.contents faults.new) result }

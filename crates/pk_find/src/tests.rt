@@ -100,8 +100,11 @@ fn help(rt: HostRuntime) -> Result<(), Fail> {
         ("pk_find help", "run"),
         ("pk_find run --help", "commit "),
         ("pk_find help run", "NOT green"),
+        ("pk_find run --help", "merge "),
         ("pk_find create --help", "512 bytes"),
         ("pk_find help create", "--units <N>"),
+        ("pk_find --version", "pk_find "),
+        ("pk_find -V", "pk_find "),
     ] {
         let helped = run_line(&rt, alloc, line, b"")?;
         assert_eq!(rt; helped.status, 0, "{line}");

@@ -11,6 +11,8 @@ mod manifest;
 #[cfg(test)]
 mod merge;
 #[cfg(test)]
+mod pages;
+#[cfg(test)]
 mod replace;
 #[cfg(test)]
 mod segment;

@@ -21,7 +21,7 @@ returns-in-Some-Create g c =
     inl (_, words_ask _ _ _ _ c.in-Ok.ensures parsed.matches parsed.kinds asked, size, (refl, c.create.ensures))
 
 pub returns-in-Err : goal.returns-in-Err
-returns-in-Err g c = words_refused _ _ _ (kind_of c.in-Err.error) _ _ _ _ _ _ c.in-Ok.ensures c.in-Err.ensures.kinds c.refuse.ensures
+returns-in-Err g c = words_refused _ _ _ _ (kind_of c.in-Err.error) _ _ _ _ _ _ c.in-Ok.ensures c.in-Err.ensures.kinds c.refuse.ensures
 
 pub returns-in_default : goal.returns-in_default
 returns-in_default g c = inr (inr (inr (refl, refl, c.fail.ensures.status, c.fail.ensures.told)))

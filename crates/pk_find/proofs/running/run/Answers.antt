@@ -1,12 +1,12 @@
--- The file is the disk that the store was opened on.
-use Rattle.std.proofs.Common.{inl, inr, refl}
+-- The file, with its pages kept, is the disk that the store was opened on.
+use Rattle.std.proofs.Common.{inl, inr, refl, rules}
 use Rattle.pk_find.proofs.running.run.Goals as goal
 
 pub returns-in-Ok : goal.returns-in-Ok
 returns-in-Ok g c = inl (record {
-  file = c.in-Ok.disk;
-  fresh = record { reads = c.in-Ok.ensures.reads; writes = c.in-Ok.ensures.writes };
-  long = c.in-Ok.ensures.size;
+  file = c.new-disk.result;
+  fresh = record { reads = search rules; writes = search rules };
+  long = search rules;
   session = c.run_on.ensures;
 })
 

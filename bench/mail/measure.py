@@ -1,0 +1,231 @@
+"""Measures a first load of a maildir, its disk, finds, a kill in its midst and a second writer.
+
+    measure.py DATA MAILS [shards]
+
+With `shards` it measures these alone. DATA/mails/maildir has the mails. Each system is a command
+line that loads all of them, one that counts those with a word, and a folder that it keeps; absent
+ones are skipped. Times are of whole processes, with the files in the system's cache.
+"""
+
+import os
+import pathlib
+import platform
+import shutil
+import signal
+import sqlite3
+import statistics
+import subprocess
+import sys
+import time
+
+from rubewola import Store
+from rubewola.mail import mail_document
+from rubewola.sources import maildir
+
+LOADS = 3
+ASKED = 9
+SHARDS = 4
+FTS = [sys.executable, os.path.abspath(__file__), "fts"]
+RUBEWOLA = [sys.executable, "-m", "rubewola"]
+
+
+class System:
+    """A search engine by its command lines."""
+
+    def __init__(self, name, folder, load, count, prepare=None):
+        self.name, self.folder, self.load, self.count = name, folder, load, count
+        self.prepare = prepare
+
+    def clear(self):
+        """Begins anew."""
+        shutil.rmtree(self.folder, ignore_errors=True)
+        self.folder.mkdir(parents=True)
+        if self.prepare:
+            self.prepare()
+
+    def start(self):
+        """Starts a load, in a process group of its own."""
+        return subprocess.Popen(self.load, stdout=subprocess.PIPE, stderr=subprocess.STDOUT,
+                                stdin=subprocess.DEVNULL, start_new_session=True, text=True)
+
+    def ask(self, word):
+        """How many mails have a word, and what the answer was where that is no number."""
+        ran = subprocess.run([part.replace("WORD", word) for part in self.count], text=True,
+                             capture_output=True, check=False)
+        said = ran.stdout.strip()
+        return int(said) if said.isdigit() else len(said.splitlines())
+
+    def disk(self):
+        """The bytes that the system holds for its files."""
+        return sum(path.stat().st_blocks * 512 for path in self.folder.rglob("*"))
+
+
+def systems(data):
+    """Those that are there."""
+    mails, made = data / "mails" / "maildir", data / "stores"
+    found = [System("Rubewola", made / "rubewola",
+                    [*RUBEWOLA, "load-maildir", str(made / "rubewola" / "s"), str(mails)],
+                    [*RUBEWOLA, "search", "--count", str(made / "rubewola" / "s"), "WORD"])]
+    if shutil.which("notmuch"):
+        config = made / "notmuch" / "config"
+
+        def prepare():
+            config.write_text(f"[database]\npath={made / 'notmuch'}\nmail_root={mails}\n"
+                              "[user]\nname=bench\nprimary_email=bench@example.org\n"
+                              "[new]\ntags=\n[maildir]\nsynchronize_flags=false\n")
+        line = ["notmuch", f"--config={config}"]
+        found.append(System("notmuch", made / "notmuch", [*line, "new", "--quiet"],
+                            [*line, "count", "WORD"], prepare))
+    if shutil.which("mu"):
+        home = f"--muhome={made / 'mu'}"
+
+        def init():
+            line = ["mu", "init", home, f"--maildir={mails}"]
+            subprocess.run(line, capture_output=True, check=True)
+        found.append(System("mu", made / "mu", ["mu", "index", home, "--quiet"],
+                            ["mu", "find", home, "--fields=l", "WORD"], init))
+    base = str(made / "fts" / "base")
+    return found + [System("SQLite FTS5", made / "fts", [*FTS, "load", base, str(mails)],
+                           [*FTS, "count", base, "WORD"])]
+
+
+def fts(what, path, argument):
+    """SQLite FTS5 as a command line: the same texts, in transactions of 4,096 mails."""
+    base = sqlite3.connect(path, isolation_level=None, timeout=0)
+    base.execute("PRAGMA synchronous=FULL")
+    if what == "count":
+        query = "SELECT count(*) FROM mails WHERE mails MATCH ?"
+        print(base.execute(query, (f'"{argument}"',)).fetchone()[0])
+        return
+    base.execute("CREATE VIRTUAL TABLE IF NOT EXISTS mails USING fts5(text, detail=none)")
+    done = base.execute("SELECT count(*) FROM mails").fetchone()[0]
+    rows = [(item.raw,) for item in maildir(argument, False).items()][done:]
+    for first in range(0, len(rows), 4_096):
+        base.execute("BEGIN")
+        base.executemany("INSERT INTO mails VALUES (?)",
+                         ((mail_document(raw.read_bytes(), None, False),)
+                          for raw, in rows[first:first + 4_096]))
+        base.execute("COMMIT")
+
+
+def timed(system, word):
+    """The median milliseconds of a count, and the number."""
+    times = []
+    for _ in range(ASKED):
+        start = time.perf_counter()
+        number = system.ask(word)
+        times.append(time.perf_counter() - start)
+    return f"{statistics.median(times) * 1e3:.0f} ms ({number:,})"
+
+
+def load(system):
+    """The seconds of a whole load."""
+    system.clear()
+    start = time.perf_counter()
+    said, _ = (running := system.start()).communicate()
+    if running.returncode:
+        sys.exit(f"measure: {system.name}: {said}")
+    return time.perf_counter() - start
+
+
+def killed(system, seconds, word, wanted):
+    """What is there after a kill at two thirds, and whether a second load gives the whole."""
+    system.clear()
+    running = system.start()
+    time.sleep(seconds * 2 / 3)
+    os.killpg(running.pid, signal.SIGKILL)
+    running.communicate()
+    time.sleep(0.5)
+    left = system.ask(word)
+    again, _ = (second := system.start()).communicate()
+    whole = second.returncode == 0 and system.ask(word) == wanted
+    return f"{left:,} of {wanted:,} left, then {'whole' if whole else again.strip()[-60:]}"
+
+
+def second(system, seconds, word, wanted):
+    """What a second load says while the first runs, and whether the first is unharmed."""
+    system.clear()
+    first = system.start()
+    time.sleep(min(seconds / 4, 1))
+    said, _ = (other := system.start()).communicate()
+    first.communicate()
+    ends = "waits" if not other.returncode else f"refused: {said.strip().splitlines()[-1]}"
+    return f"{ends}; {'the first is whole' if system.ask(word) == wanted else 'the first is not'}"
+
+
+def in_session(data, words):
+    """Milliseconds of finds in an open store, and of opening it."""
+    start = time.perf_counter()
+    with Store(data / "stores" / "rubewola" / "s") as store:
+        opening, told = time.perf_counter() - start, []
+        for word in words:
+            start = time.perf_counter()
+            store.find(word)
+            told.append(f"{word} {(time.perf_counter() - start) * 1e3:.0f} ms")
+    return f"Rubewola, in an open store: {', '.join(told)}; opened in {opening * 1e3:.0f} ms"
+
+
+def side_by_side(lines):
+    """The seconds that command lines take at once."""
+    start = time.perf_counter()
+    running = [subprocess.Popen(line, stdout=subprocess.DEVNULL, stderr=subprocess.DEVNULL)
+               for line in lines]
+    for one in running:
+        one.wait()
+    return time.perf_counter() - start
+
+
+def shards(data, word):
+    """One store beside SHARDS of the same mails, loaded and searched side by side."""
+    made, whole = data / "stores" / "shards", data / "mails" / "maildir"
+    for path in (made, data / "mails" / "shards"):
+        shutil.rmtree(path, ignore_errors=True)
+    made.mkdir(parents=True)
+    names = sorted(os.listdir(whole / "cur"))
+    for at, name in enumerate(names):
+        folder = data / "mails" / "shards" / str(at * SHARDS // len(names)) / "cur"
+        folder.mkdir(parents=True, exist_ok=True)
+        os.link(whole / "cur" / name, folder / name)
+    parts = [(str(made / str(n)), str(data / "mails" / "shards" / str(n))) for n in range(SHARDS)]
+    one = (str(made / "one"), str(whole))
+    told = []
+    for what, line in [("load", lambda s, d: [*RUBEWOLA, "load-maildir", s, d]),
+                       (f"find {word}", lambda s, d: [*RUBEWOLA, "search", "--count", s, word])]:
+        alone, many = side_by_side([line(*one)]), side_by_side([line(*part) for part in parts])
+        told.append(f"{what} {alone:.1f} s alone, {many:.1f} s so ({alone / many:.1f} times)")
+    return f"Rubewola, {SHARDS} shards side by side: {'; '.join(told)}"
+
+
+def main():
+    """Measures, and prints a table."""
+    data, count = pathlib.Path(sys.argv[1]).absolute(), int(sys.argv[2])
+    words = ["zymotic", "water"]
+    bytes_of = sum(path.stat().st_size for path in (data / "mails" / "maildir").rglob("*:2,*"))
+    model = [line.split(":")[1].strip() for line in open("/proc/cpuinfo") if "model name" in line]
+    print(f"{count:,} mails, {bytes_of / 1e6:.1f} MB; the best of {LOADS} loads, medians of "
+          f"{ASKED} finds; "
+          f"{len(model)} x {(model or ['?'])[0]}; Python {platform.python_version()}; "
+          f"SQLite {sqlite3.sqlite_version}; {time.strftime('%Y-%m-%d')}; "
+          f"load {os.getloadavg()[0]:.1f}\n")
+    print(f"| | first load | disk | find {words[0]} | find {words[1]} | killed | second writer |\n"
+          "|---|---|---|---|---|---|---|")
+    for system in systems(data):
+        seconds = min(load(system) for _ in range(LOADS))
+        row = [system.name, f"{seconds:.1f} s", f"{system.disk() / 1e6:.1f} MB",
+               *(timed(system, word) for word in words)]
+        if system.name == "Rubewola":
+            note = in_session(data, words)
+        wanted = system.ask(words[1])
+        asked = (system, seconds, words[1], wanted)
+        row += [killed(*asked), second(*asked)]
+        print("| " + " | ".join(row) + " |", flush=True)
+    print(f"\n{note}\n{shards(data, words[1])}")
+
+
+if __name__ == "__main__":
+    if sys.argv[1] == "fts":
+        fts(*sys.argv[2:])
+    elif sys.argv[3:]:
+        print(shards(pathlib.Path(sys.argv[1]).absolute(), "water"))
+    else:
+        main()

@@ -1,0 +1,7 @@
+"""Rubewola from Python: sessions with a store, loaders of mails and logs, and search."""
+
+from .store import (BufferFull, Counts, Failed, Full, NoSuchDocument, QueryRefused, Refused, Reopen,
+                    Store, StoreError, TooManySegments, Unknown)
+
+__all__ = ["BufferFull", "Counts", "Failed", "Full", "NoSuchDocument", "QueryRefused", "Refused",
+           "Reopen", "Store", "StoreError", "TooManySegments", "Unknown"]

@@ -1,0 +1,3 @@
+-- The lemma pages.
+pub mod PageLemmas
+pub mod ReadLemmas

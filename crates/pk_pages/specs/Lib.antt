@@ -1,0 +1,2 @@
+-- The definitions that contracts of kept pages cite.
+pub mod Pages

@@ -1,0 +1,243 @@
+//! A disk over another, whose pages it keeps.
+
+ghost use Rattle.std.specs.Prelude.{
+  ◌≡◌,
+  ◌≤◌,
+  ◌<◌,
+  ◌+◌,
+  ◌-◌,
+  ◌*◌,
+  ◌/◌,
+  ◌%◌,
+  length,
+  min,
+  slice_range,
+  ℕ,
+  List,
+  IfNone,
+  IfSome,
+  IsOk,
+  IsTrue,
+  OnOk,
+};
+ghost use Rattle.pk_disk.specs.Disk.{IsCounted, full_count};
+ghost use Rattle.pk_disk.specs.Frames.{KeepsDisk};
+ghost use Rattle.pk_disk.specs.Since.{NoneNew, StayKnown};
+ghost use Rattle.pk_pages.specs.Pages.{AreClear, ArePagesOf, HasNoRoom, IsGone};
+ghost use Rattle.pk_pages.specs.Pages.{IsHit, IsKept, IsReadAgain, KeepsOthers, page_of};
+
+use crate::slots::{PAGE, Slot, empty_slots, fill, forget, kept};
+use pk_disk::{Disk, DiskFault};
+use std::alloc::Global;
+
+/// A disk over another, which keeps pages of it in memory. Over an honest disk it is honest.
+#[derive(Drop)]
+pub struct PageCache<D: Disk> {
+    disk: D,
+    slots: Vec<Slot>,
+    // Whether the last read below succeeded. Only then does a kept page answer: the count of
+    // failed reads is not full then.
+    last_succeeded: bool,
+    ghost kept: { D.honest → ArePagesOf (D.content disk) slots.items },
+    ghost not_full: { IsTrue last_succeeded → D.failed_reads disk < full_count },
+}
+
+impl<D: Disk> PageCache<D> {
+    /// A disk over that one, which keeps at most `pages` pages, and none so far. Where there is no
+    /// memory for so many slots, it has fewer.
+    pub fn new(alloc: Global, disk: D, pages: usize) -> PageCache<D>
+        ensures disk { result.disk ≡ disk }
+        ensures pages { length result.slots.items ≤ pages }
+        ensures empty { (p : ℕ) → IsGone result.slots.items p }
+    {
+        PageCache {
+            disk,
+            slots: empty_slots(alloc, pages),
+            last_succeeded: false,
+        }
+    }
+
+    /// The disk below.
+    pub fn into_inner(self) -> D
+        ensures { result ≡ self.disk }
+    {
+        let PageCache { disk, .. } = self;
+        disk
+    }
+
+    // Asks the disk below.
+    fn read_below(&mut self, at: u64, out: &mut [u8]) -> Result<(), DiskFault>
+        requires { at + length out.old ≤ length (D.content self.old.disk) }
+        ensures given { D.honest → OnOk result
+            (out.new ≡ slice_range (D.content self.old.disk) at (at + length out.old)) }
+        ensures keeps { KeepsDisk D.Disk self.old.disk self.new.disk }
+        ensures reads { IsCounted (D.failed_reads self.old.disk) (D.failed_reads self.new.disk)
+            result }
+        ensures slots { self.new.slots ≡ self.old.slots }
+        ensures succeeded { OnOk result (IsTrue self.new.last_succeeded) }
+    {
+        let read = self.disk.read(at, out);
+        self.last_succeeded = read.is_ok();
+        read
+    }
+
+    // Reads within one page, which it keeps where there is memory for it.
+    #[tactic(auto, using(crate::proofs::PageLemmas::part_of_page))]
+    fn read_within(&mut self, at: u64, out: &mut [u8]) -> Result<(), DiskFault>
+        requires some { 0 < length out.old }
+        requires inside { at + length out.old ≤ length (D.content self.old.disk) }
+        requires within { at % 4096 + length out.old ≤ 4096 }
+        ensures hit { IsTrue self.old.last_succeeded
+            → IsKept self.old.slots.items (at / 4096) (at % 4096 + length out.old)
+            → (IsOk result) × (self.new ≡ self.old) }
+        ensures given { D.honest → OnOk result
+            (out.new ≡ slice_range (D.content self.old.disk) at (at + length out.old)) }
+        ensures keeps { KeepsDisk D.Disk self.old.disk self.new.disk }
+        ensures reads { IsCounted (D.failed_reads self.old.disk) (D.failed_reads self.new.disk)
+            result }
+        ensures again { OnOk result
+            (IsReadAgain self.new.last_succeeded self.new.slots.items at (length out.old)) }
+        ensures others { KeepsOthers self.old.slots.items self.new.slots.items (at / 4096) }
+    {
+        let number = at / PAGE;
+        let from = (at % PAGE) as usize;
+        if self.last_succeeded && copy_kept(&self.slots, number, from, out) {
+            return Ok(());
+        }
+        let Some(loaded) = self.load(number) else {
+            return self.read_below(at, out);
+        };
+        loaded?;
+        let copied = copy_kept(&self.slots, number, from, out);
+        prove!(copied);
+        Ok(())
+    }
+
+    // Reads a page, and keeps it. None where there is no memory for it: then nothing is asked.
+    #[tactic(auto, using(crate::proofs::PageLemmas::set_keeps))]
+    fn load(&mut self, number: u64) -> Option<Result<(), DiskFault>>
+        requires { 4096 * number < length (D.content self.old.disk) }
+        ensures keeps { KeepsDisk D.Disk self.old.disk self.new.disk }
+        ensures reads { IfSome result (λ read. IsCounted (D.failed_reads self.old.disk)
+            (D.failed_reads self.new.disk) read) }
+        ensures idle { IfNone result (self.new.disk ≡ self.old.disk) }
+        ensures kept { IfSome result (λ read. OnOk read (IsKept self.new.slots.items number
+            (min 4096 (length (D.content self.old.disk) - 4096 * number)))) }
+        ensures succeeded { IfSome result (λ read. OnOk read (IsTrue self.new.last_succeeded)) }
+        ensures memory { IfNone result (HasNoRoom self.new.slots.items number) }
+        ensures others { KeepsOthers self.old.slots.items self.new.slots.items number }
+    {
+        if self.slots.is_empty() {
+            return None;
+        }
+        let place = (number % self.slots.len() as u64) as usize;
+        let Some(loaded) = fill(&mut self.disk, &mut self.slots[place], number) else {
+            return None;
+        };
+        self.last_succeeded = loaded.is_ok();
+        Some(loaded)
+    }
+
+    // Keeps no page longer that has one of the n positions from a place on.
+    fn forget_range(&mut self, at: u64, n: u64)
+        requires { at + n ≤ length (D.content self.old.disk) }
+        ensures disk { self.new.disk ≡ self.old.disk }
+        ensures succeeded { self.new.last_succeeded ≡ self.old.last_succeeded }
+        ensures clear { AreClear self.new.slots.items at n }
+    {
+        let size = self.disk.len();
+        prove!(at <= size && n <= size - at);
+        for number in at / PAGE..(at + n).div_ceil(PAGE) {
+            forget(&mut self.slots, number);
+        }
+    }
+}
+
+// Fills `out` from a page that is kept; false where it is not.
+fn copy_kept(slots: &[Slot], number: u64, from: usize, out: &mut [u8]) -> bool
+    requires { from + length out.old ≤ 4096 }
+    ensures given { (bytes : List ℕ) → ArePagesOf bytes slots.now → IsTrue result
+        → out.new ≡ slice_range (page_of bytes number) from (from + length out.old) }
+    ensures hit { IsKept slots.now number (from + length out.old) → IsTrue result }
+    ensures kept { IsTrue result → IsKept slots.now number (from + length out.old) }
+{
+    let Some(page) = kept(slots, number) else {
+        return false;
+    };
+    let end = from + out.len();
+    if page.len() < end {
+        return false;
+    }
+    out.copy_from_slice(&page[from..end]);
+    true
+}
+
+impl<D: Disk> Disk for PageCache<D> {
+    ghost content = { λ c. D.content c.disk };
+
+    ghost is_open = { λ c. D.is_open c.disk };
+
+    ghost moment = { λ c. D.moment c.disk };
+
+    ghost images_since = { λ c. D.images_since c.disk };
+
+    ghost failed_reads = { λ c. D.failed_reads c.disk };
+
+    ghost failed_writes = { λ c. D.failed_writes c.disk };
+
+    ghost honest = { D.honest };
+
+    ghost counts_now = { λ c. D.counts_now c.disk };
+
+    ghost only_now = { λ c. D.only_now c.disk };
+
+    fn len(&self) -> u64 {
+        self.disk.len()
+    }
+
+    #[tactic(auto, using(crate::proofs::ReadLemmas::two_parts))]
+    fn read(&mut self, at: u64, out: &mut [u8]) -> Result<(), DiskFault>
+        requires { at + length out.old ≤ length (D.content self.old.disk) }
+        ensures hit { IsHit self.old.last_succeeded self.old.slots.items at (length out.old)
+            → (IsOk result) × (self.new ≡ self.old) }
+        ensures again { 0 < length out.old → length out.old ≤ 4096 → OnOk result
+            (IsReadAgain self.new.last_succeeded self.new.slots.items at (length out.old)) }
+
+        // The clauses of the trait.
+        ensures given { D.honest → OnOk result
+            (out.new ≡ slice_range (D.content self.old.disk) at (at + length out.old)) }
+        ensures bytes { D.honest → D.content self.new.disk ≡ D.content self.old.disk }
+        ensures is_open { D.honest → D.is_open self.new.disk ≡ D.is_open self.old.disk }
+        ensures images { D.honest → NoneNew ⟦<PageCache<D> as Disk>⟧.moment
+            ⟦<PageCache<D> as Disk>⟧.images_since self.old self.new }
+        ensures known { D.honest → StayKnown ⟦<PageCache<D> as Disk>⟧.moment
+            ⟦<PageCache<D> as Disk>⟧.images_since self.old self.new }
+        ensures size { length (D.content self.new.disk) ≡ length (D.content self.old.disk) }
+        ensures reads { IsCounted (D.failed_reads self.old.disk) (D.failed_reads self.new.disk)
+            result }
+        ensures writes { D.failed_writes self.new.disk ≡ D.failed_writes self.old.disk }
+    {
+        if out.is_empty() || out.len() as u64 > PAGE {
+            return self.read_below(at, out);
+        }
+        let here = (PAGE - at % PAGE) as usize;
+        if out.len() <= here {
+            return self.read_within(at, out);
+        }
+        let size = self.disk.len();
+        prove!(at <= size && here as u64 <= size - at);
+        let (front, back) = out.split_at_mut(here);
+        self.read_within(at, front)?;
+        self.read_within(at + here as u64, back)
+    }
+
+    #[tactic(auto, using(crate::proofs::PageLemmas::after_write))]
+    fn write(&mut self, at: u64, bytes: &[u8]) -> Result<(), DiskFault> {
+        self.forget_range(at, bytes.len() as u64);
+        self.disk.write(at, bytes)
+    }
+
+    fn sync(&mut self) -> Result<(), DiskFault> {
+        self.disk.sync()
+    }
+}

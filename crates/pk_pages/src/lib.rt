@@ -1,0 +1,39 @@
+//! A disk over another, which keeps pages of it in memory.
+//!
+//! # What a caller sees
+//!
+//! A `PageCache` is a disk: its bytes, open positions, moments, images and counts of failures are
+//! those of the disk below, and it is honest where that one is. A read of pages that are kept is a
+//! look-up and a copy, and makes no call below (`read`'s clause `hit`). A read that succeeded
+//! leaves its pages kept, as far as there is memory for them (its clause `again`).
+//!
+//! | what | how |
+//! |---|---|
+//! | a page | 4,096 bytes from a multiple of 4,096 on; the last of a disk may be shorter |
+//! | a slot | a place for one page: page `p` can be in slot `p` modulo the number of slots alone |
+//! | a read of 1 to 4,096 bytes | from its one or two pages; one that is not kept is read whole |
+//! | a longer read, an empty one | goes below as it is |
+//! | a write | forgets the pages that it touches, then goes below, whatever comes of it |
+//! | a sync | goes below |
+//!
+//! The slots are a direct-mapped cache (Hennessy and Patterson, Computer Architecture, appendix B:
+//! "Where can a block be placed in a cache?"), written through, without allocation at a write.
+//!
+//! # Failures
+//!
+//! A fault is told where a call below failed, and the page that was to be read is not kept. After
+//! a read that failed, and at first, no kept page answers until a read below has succeeded: a disk
+//! whose count of failed reads is full answers a fault to every read, and only a read that
+//! succeeded shows that it is not.
+//!
+//! # Memory
+//!
+//! `new` takes 40 bytes a slot, and a slot takes 4,096 bytes as it first keeps a page. Where there
+//! is no memory for the slots or for a page, reads go below: that is no fault. With too few slots
+//! reads become slower than without, since what is not kept is read by whole pages.
+#![tactic(auto)]
+
+mod cache;
+mod slots;
+
+pub use cache::PageCache;
