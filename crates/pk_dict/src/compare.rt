@@ -5,7 +5,8 @@ ghost use Rattle.pk_dict.specs.Dictionary.{shared};
 ghost use Rattle.pk_dict.specs.Order.{less};
 ghost use Rattle.pk_dict.specs.Place.{LiesIn, bytes_at};
 ghost use Rattle.pk_dict.specs.Reading.{Gives, shared_at};
-ghost use Rattle.pk_dict.specs.Source.{IsRead, stretches_of};
+ghost use Rattle.pk_posting.specs.Source.{IsRead};
+ghost use Rattle.pk_dict.specs.Source.{stretches_of};
 
 use crate::entry::DictPlace;
 use pk_posting::{ByteSource, SourceFault};

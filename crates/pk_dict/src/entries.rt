@@ -45,7 +45,8 @@ ghost use Rattle.pk_dict.specs.Entries.{
 };
 ghost use Rattle.pk_dict.specs.Place.{LiesIn, bytes_at};
 ghost use Rattle.pk_dict.specs.Reading.{Gives};
-ghost use Rattle.pk_dict.specs.Source.{IsRead, stretches_of};
+ghost use Rattle.pk_posting.specs.Source.{IsRead};
+ghost use Rattle.pk_dict.specs.Source.{stretches_of};
 
 use crate::compare::is_less;
 use crate::entry::{DictPlace, EntriesFault, Entry};

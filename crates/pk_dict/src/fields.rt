@@ -3,7 +3,7 @@
 ghost use Rattle.std.specs.Prelude.{◌≡◌, ◌≤◌, ◌<◌, ◌+◌, length, take, drop, IfOk, IsOk};
 ghost use Rattle.pk_dict.specs.Place.{LiesIn, bytes_at};
 ghost use Rattle.pk_dict.specs.Reading.{Gives, byte_at, entry_at, number_at, offset_at};
-ghost use Rattle.pk_dict.specs.Source.{IsRead};
+ghost use Rattle.pk_posting.specs.Source.{IsRead};
 
 use crate::entry::{DictPlace, Entry};
 use pk_posting::{ByteSource, ListPlace, SourceFault};

@@ -19,7 +19,8 @@ ghost use Rattle.pk_dict.specs.LookUp.{look_up_of, standing_at};
 ghost use Rattle.pk_dict.specs.Place.{LiesIn, bytes_at};
 ghost use Rattle.pk_dict.specs.Reading.{Gives};
 ghost use Rattle.pk_dict.specs.Search.{IsAmong};
-ghost use Rattle.pk_dict.specs.Source.{IsLeft, stretches_of};
+ghost use Rattle.pk_posting.specs.Source.{IsLeft};
+ghost use Rattle.pk_dict.specs.Source.{stretches_of};
 
 use crate::entry::{DictPlace, Entry};
 use crate::head::{Standing, Step};

@@ -13,7 +13,8 @@ ghost use Rattle.pk_dict.specs.Reading.{
   scan_at,
   step_at,
 };
-ghost use Rattle.pk_dict.specs.Source.{IsRead, stretches_of};
+ghost use Rattle.pk_posting.specs.Source.{IsRead};
+ghost use Rattle.pk_dict.specs.Source.{stretches_of};
 
 use crate::compare::shared_with;
 use crate::entry::{DictPlace, Entry};

@@ -3,9 +3,11 @@ pub mod ByteLemmas
 pub mod DifferenceLemmas
 pub mod EntryLemmas
 pub mod LeastLemmas
+pub mod LentLemmas
 pub mod OneListLemmas
 pub mod OneSpellingLemmas
 pub mod PackedLemmas
+pub mod PartLemmas
 pub mod PlacingLemmas
 pub mod PuttingLemmas
 pub mod ReadingLemmas

@@ -29,3 +29,20 @@ pub record IsAskedOnce {S T : Type 0} (honest : Type 0) (content : S → List �
   pub kept : keeps old new
   pub faults : CountsFaults (failures old) (failures new) result
   pub not_full : OnOk result (failures new < full_count)
+
+-- what a call leaves of the source that it read
+pub record IsLeft {S T : Type 0} (honest : Type 0) (content : S → List ℕ) (failures : S → ℕ)
+    (keeps : S → S → Type 0) (result : Result T SourceFault) (old new : S) : Type 0 where
+  pub same : honest → content new ≡ content old
+  pub size : length (content new) ≡ length (content old)
+  pub kept : keeps old new
+  pub faults : CountsFaults (failures old) (failures new) result
+
+-- what a call leaves of the source that it asked at most `most` times
+pub record IsRead {S T : Type 0} (honest : Type 0) (content : S → List ℕ) (asked failures : S → ℕ)
+    (keeps : S → S → Type 0) (most : ℕ) (result : Result T SourceFault) (old new : S) : Type 0 where
+  pub same : honest → content new ≡ content old
+  pub size : length (content new) ≡ length (content old)
+  pub asks : asked new ≤ asked old + most
+  pub kept : keeps old new
+  pub faults : CountsFaults (failures old) (failures new) result

@@ -26,10 +26,22 @@
 //! memory.
 //!
 //! A `ByteSource` lends stretches of some bytes: of a slice, or of a part of a disk. What its calls
-//! leave is in `specs/Source.antt`.
+//! leave is in `specs/Source.antt`. A list that lies in a source is read in parts, without memory:
 //!
-//! In contracts, `Spells` (`specs/Posting.antt`) says field by field that bytes spell a list, and
-//! `spelling` (`specs/Spelling.antt`) is those bytes as a function of the list. The blocks are
+//! | call | what it takes out | calls of the source, at most |
+//! |---|---|---|
+//! | `Shape::read` | the count, the number of blocks, the place of the tail | 4 |
+//! | `block_in` | the numbers of a block | 2 |
+//! | `tail_in` | the numbers of the tail | 2 |
+//! | `last_in` | the last number of a block | 1 |
+//!
+//! Where the bytes spell a list these give its parts, and are not Damaged. Over other bytes each
+//! returns, and may be Damaged or not: whether a width is the least, whether the widths past the
+//! last block are 00, and whether each entry's numbers are those of its block, `decode` alone tells.
+//!
+//! In contracts, `Spells` (`specs/Posting.antt`) says field by field that bytes spell a list,
+//! `spelling` (`specs/Spelling.antt`) is those bytes as a function of the list, and `HasShape`
+//! (`specs/Parts.antt`) says that they spell it, with these parts. The blocks are
 //! those of Lemire, Boytsov, Kurz, SIMD compression and the intersection of sorted integers (2016).
 #![tactic(auto)]
 
@@ -37,9 +49,13 @@ mod decoding;
 mod encoding;
 mod fields;
 pub mod laws;
+mod lent;
+mod packed;
+mod parts;
 pub mod source;
 
 pub use decoding::{DecodeFault, decode};
 pub use encoding::{encode, encode_into, length_of};
 pub use fields::{ListPlace, Shape, Skip, skip_of};
+pub use parts::{block_in, last_in, tail_in};
 pub use source::{ByteSource, SliceSource, SourceFault};

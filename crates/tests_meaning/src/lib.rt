@@ -1,6 +1,8 @@
-//! Tests of the words of texts and of the query language, by public calls.
+//! Tests of the words of texts, of the query language and of plans, by public calls.
 #![tactic(auto)]
 
+#[cfg(test)]
+mod plans;
 #[cfg(test)]
 mod queries;
 #[cfg(test)]

@@ -1,9 +1,7 @@
 //! The term dictionary: its worked row, dictionaries of many shapes by every way of reading,
 //! damage, and faults below.
 
-ghost use Rattle.std.specs.Prelude.{◌≡◌, ◌<◌, ◌^◌, length};
-ghost use Rattle.std.proofs.Common.{◌∙◌, refl};
-
+use crate::failing::Failing;
 use pk_dict::{
     Dict, DictFault, DictPlace, DictWriter, EntriesFault, Entry, Window, entries_in, look_up_in,
 };
@@ -296,70 +294,6 @@ fn a_window_asks_once(rt: HostRuntime) -> Result<(), Fail> {
     assert!(rt; window.asked() > 5);
     assert!(rt; source.asked() <= 3);
     Ok(())
-}
-
-// A slice as a source whose call after so many others fails, and counts it.
-#[derive(Drop)]
-struct Failing<'a> {
-    bytes: &'a [u8],
-    passes: u64,
-    failures: u64,
-    asked: u64,
-    ghost short: { length bytes.now < 2 ^ 32 },
-}
-
-impl<'a> ByteSource for Failing<'a> {
-    ghost content = { λ s. s.bytes.now };
-
-    ghost honest = { Unit {0} };
-
-    ghost failures = { λ s. s.failures };
-
-    ghost asked = { λ s. s.asked };
-
-    ghost keeps = { λ a b. b.bytes.now ≡ a.bytes.now };
-
-    ghost keeps_self = { λ _. refl };
-
-    ghost keeps_then = { λ _ _ _ first second. second ∙ first };
-
-    fn len(&self) -> u32 {
-        self.bytes.len() as u32
-    }
-
-    fn bytes(&mut self, at: u32, n: u32) -> Result<&[u8], SourceFault> {
-        self.asked = self.asked.saturating_add(1);
-        let start = at as usize;
-        let end = start + n as usize;
-        if end > self.bytes.len() {
-            return Err(SourceFault::Damaged);
-        }
-        if self.passes == 0 || self.failures == u64::MAX {
-            self.passes = u64::MAX;
-            self.failures = self.failures.saturating_add(1);
-            return Err(SourceFault::Disk);
-        }
-        self.passes -= 1;
-        Ok(&self.bytes[start..end])
-    }
-
-    fn asked(&self) -> u64 {
-        self.asked
-    }
-}
-
-impl<'a> Failing<'a> {
-    // The source that fails after so many calls.
-    fn after(bytes: &'a [u8], passes: u64) -> Failing<'a>
-        requires { length bytes.now < 2 ^ 32 }
-    {
-        Failing {
-            bytes,
-            passes,
-            failures: 0,
-            asked: 0,
-        }
-    }
 }
 
 // Each call below fails in turn: the look-up answers Disk, and the next one finds the term; a list

@@ -3,9 +3,13 @@
 #![tactic(auto)]
 
 #[cfg(test)]
+mod cursor;
+#[cfg(test)]
 mod dead;
 #[cfg(test)]
 mod dict;
+#[cfg(test)]
+mod failing;
 #[cfg(test)]
 mod lanes;
 #[cfg(test)]

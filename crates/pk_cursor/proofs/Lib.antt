@@ -1,0 +1,2 @@
+pub mod DoublingLemmas
+pub mod SeekingLemmas

@@ -1,0 +1,31 @@
+//! Plans: how the documents of a query are found by operations on sets of document numbers.
+//!
+//! A chain of `AND`, however it is bracketed, becomes one `Intersect`: first its words, by rising
+//! frequency, so that the shortest list comes first and what is left stays short (Manning,
+//! Raghavan, Schütze 2008, section 1.3), then its other parts. What a chain rules out by `NOT` is
+//! taken away from that at the end, so that `a AND NOT b` never asks for all documents. A chain of
+//! `OR` becomes one `Unite`.
+//!
+//! | query | plan |
+//! |---|---|
+//! | `a` | the term a |
+//! | `NOT a` | all but a |
+//! | `a AND b`, b the rarer | the intersection of b and a |
+//! | `a AND (b OR c)` | the intersection of a and the union of b and c |
+//! | `a AND NOT b AND NOT c` | a without the union of b and c |
+//!
+//! A plan means its query over all documents whose numbers rise, whatever the frequencies are:
+//! these set the order alone. The chains are gone through by loops, so a plan's recursion is as
+//! deep as the brackets and the `NOT` of the query, not as its chains are long.
+//!
+//! In contracts, `means` (`specs/Plans.antt`) is the list of the numbers that a plan finds, by the
+//! set operations of pk_sets, and `is_ordered` (`specs/Order.antt`) says that the words of each
+//! `Intersect` stand by rising frequency.
+#![tactic(auto)]
+
+mod operands;
+mod planning;
+mod plans;
+
+pub use planning::plan;
+pub use plans::Plan;
