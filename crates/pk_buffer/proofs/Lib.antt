@@ -1,5 +1,5 @@
 -- The lemmas of the crate.
 pub mod SatisfiesLemmas
-pub mod NumberLemmas
+pub mod SearchLemmas
 pub mod DocumentLemmas
 pub mod KeptLemmas

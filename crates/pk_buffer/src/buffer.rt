@@ -10,6 +10,7 @@ ghost use Rattle.std.specs.Prelude.{
   ◌∷◌,
   ◌++◌,
   [],
+  ℕ,
   List,
   All,
   map,
@@ -30,28 +31,29 @@ ghost use Rattle.std.specs.Prelude.{
   string_bytes,
 };
 ghost use Rattle.std.specs.List.Sorted.{IsStrictlyIncreasing};
-ghost use Rattle.pk_buffer.specs.Buffer.{AreWordsOf, IsOrdered, text_bytes};
+ghost use Rattle.pk_buffer.specs.Buffer.{AreBeside, IsOrdered, text_bytes};
+ghost use Rattle.pk_index.specs.Index.{Keeps};
 ghost use Rattle.pk_model.specs.Collection.{Doc, answer, has_number, is_live, numbers_of};
 ghost use Rattle.pk_model.specs.Steps.{text_of};
-ghost use Rattle.pk_model.specs.Tree.{tree_of};
+ghost use Rattle.pk_model.specs.Tree.{Term, tree_of};
 ghost use Rattle.pk_model.specs.Views.{doc_of, numbers_in};
 
-use super::hits::is_hit;
+use pk_index::Index;
 use pk_model::{DocNo, Document, Query};
-use pk_words::{WordSet, words};
 use std::alloc::{AllocError, Global};
-use std::cmp::Ordering;
 use std::marker::Model;
 
-/// Documents in the order of their numbers, each with the set of its words.
+/// Documents in the order of their numbers, with an index of their words.
 #[derive(Drop)]
 pub struct Buffer {
     /// Where later calls take their memory from.
     alloc: Global,
     /// The documents, their numbers rising.
     documents: Vec<Document>,
-    /// The words of each of them, found when it was added.
-    words: Vec<WordSet>,
+    /// The number of each of them: the live numbers, of which the index is asked.
+    numbers: Vec<u32>,
+    /// For each word the numbers of the documents that hold it, and of some that are gone.
+    index: Index,
     /// The sum of the lengths of the texts: no memory holds so many that it would pass the type.
     bytes: u128,
 }
@@ -62,32 +64,19 @@ impl Model for Buffer {
     ghost view = { λ b. map doc_of b.documents.items };
 
     ghost invariant = { λ b.
-        IsOrdered (map doc_of b.documents.items)
-        × AreWordsOf b.words.items (map doc_of b.documents.items)
-        × (b.bytes ≡ text_bytes (map doc_of b.documents.items)) };
+        AreBeside (map doc_of b.documents.items) b.numbers.items b.index b.bytes };
 }
 
-/// The index of the document of this number, by halving.
-fn index_of(documents: &[Document], number: DocNo) -> Option<usize>
-    requires { IsStrictlyIncreasing (numbers_of (map doc_of documents.now)) }
-    ensures { MatchOption result
-        (is_live number.0 (map doc_of documents.now) ≡ false)
-        (λ index. slice_get (numbers_of (map doc_of documents.now)) index ≡ Some number.0) }
+/// The numbers as those of documents.
+fn doc_numbers(alloc: Global, numbers: &[u32]) -> Result<Vec<DocNo>, AllocError>
+    ensures numbers { IfOk result (λ v. numbers_in v.items ≡ numbers.now) }
+    ensures none { numbers.now ≡ [] → IsOk result }
 {
-    let mut low = 0;
-    let mut high = documents.len();
-    'halves: while low < high {
-        let middle = low + (high - low) / 2;
-        let found = documents[middle].number.0;
-        if found < number.0 {
-            low = middle + 1;
-        } else if found > number.0 {
-            high = middle;
-        } else {
-            return Some(middle);
-        }
+    let mut found = Vec::with_capacity(alloc, numbers.len())?;
+    'numbers: for number in numbers {
+        found.push(DocNo(*number))?;
     }
-    None
+    Ok(found)
 }
 
 impl Buffer {
@@ -98,7 +87,8 @@ impl Buffer {
         Buffer {
             alloc,
             documents: Vec::new(alloc),
-            words: Vec::new(alloc),
+            numbers: Vec::new(alloc),
+            index: Index::new(alloc),
             bytes: 0,
         }
     }
@@ -111,20 +101,29 @@ impl Buffer {
             (self.new ≡ self.old ++ (record { number = number.0; text = text.now }) ∷ []) }
         ensures err { OnErr result (self.new ≡ self.old) }
     {
-        let set = words(self.alloc, text)?;
-        let text = String::from_str(self.alloc, text)?;
-        let len = text.len();
-        self.words.push(set)?;
-        match self.documents.push(Document { number, text }) {
+        let copy = String::from_str(self.alloc, text)?;
+        let len = copy.len();
+        self.index.add(self.alloc, number.0, text)?;
+        self.numbers.push(number.0)?;
+        match self.documents.push(Document { number, text: copy }) {
             Ok(()) => {
                 self.bytes += len as u128;
                 Ok(())
             }
             Err(failed) => {
-                let _ = self.words.pop();
+                let _ = self.numbers.pop();
                 Err(failed.into())
             }
         }
+    }
+
+    /// The index of the document of this number, by halving.
+    fn index_of(&self, number: DocNo) -> Option<usize>
+        ensures { MatchOption result
+            (is_live number.0 self.now ≡ false)
+            (λ index. slice_get (numbers_of self.now) index ≡ Some number.0) }
+    {
+        self.numbers.binary_search(&number.0).ok()
     }
 
     /// Takes the document of this number out, and says whether there was one.
@@ -132,11 +131,11 @@ impl Buffer {
         ensures found { IsTrue result ↔ IsTrue (is_live number.0 self.old) }
         ensures others { self.new ≡ filter (λ d. not (has_number number.0 d)) self.old }
     {
-        match index_of(&self.documents, number) {
+        match self.index_of(number) {
             None => false,
             Some(index) => {
                 let document = self.documents.remove(index);
-                let _ = self.words.remove(index);
+                let _ = self.numbers.remove(index);
                 self.bytes -= document.text.len() as u128;
                 true
             }
@@ -147,16 +146,12 @@ impl Buffer {
     pub fn find(&self, alloc: Global, query: &Query) -> Result<Vec<DocNo>, AllocError>
         ensures found { IfOk result
             (λ v. numbers_in v.items ≡ answer (tree_of query.now) self.now) }
-        // An answer without a hit takes no memory.
-        ensures none { answer (tree_of query.now) self.now ≡ [] → IsOk result }
+        // One word that no document holds takes no memory.
+        ensures none { (word : List ℕ) → tree_of query.now ≡ Term word
+            → answer (Term word) self.now ≡ [] → IsOk result }
     {
-        let mut found = Vec::new(alloc);
-        'documents: for index in 0..self.documents.len() {
-            if is_hit(query, &self.words[index]) {
-                found.push(self.documents[index].number)?;
-            }
-        }
-        Ok(found)
+        let hits = self.index.find(alloc, query, &self.numbers)?;
+        doc_numbers(alloc, &hits)
     }
 
     /// The text of the document of this number, if there is one.
@@ -168,7 +163,7 @@ impl Buffer {
         // That there is none takes no memory.
         ensures missing { is_live number.0 self.now ≡ false → IsOk result }
     {
-        match index_of(&self.documents, number) {
+        match self.index_of(number) {
             None => Ok(None),
             Some(index) => Ok(Some(self.documents[index].text.clone()?)),
         }
@@ -182,12 +177,21 @@ impl Buffer {
         &self.documents
     }
 
+    /// The index of the documents' words. Numbers of others may stand in it.
+    pub fn index(&self) -> &Index
+        ensures keeps { Keeps result.now self.now }
+        ensures rising { IsStrictlyIncreasing (numbers_of self.now) }
+    {
+        &self.index
+    }
+
     /// Takes all documents out.
     pub fn clear(&mut self)
         ensures { self.new ≡ [] }
     {
         self.documents.clear();
-        self.words.clear();
+        self.numbers.clear();
+        self.index.clear();
         self.bytes = 0;
     }
 

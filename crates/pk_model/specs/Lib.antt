@@ -4,3 +4,4 @@ pub mod Collection
 pub mod Steps
 pub mod Views
 pub mod Limits
+pub mod Terms

@@ -10,6 +10,7 @@
 //! | `Words` | the folded words of a text, in its order |
 //! | `Tree` | queries as trees, and which words satisfy them |
 //! | `Collection` | the collection, and what a query answers |
+//! | `Terms` | the words that documents have, in order |
 //! | `Steps` | what each command does to the collection, and its reply |
 //! | `Limits` | the limits that a store keeps, as numbers |
 //! | `Views` | from the types of the code to these definitions |

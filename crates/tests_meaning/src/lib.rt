@@ -1,6 +1,9 @@
-//! Tests of the words of texts, of the query language and of plans, by public calls.
+//! Tests of the words of texts, of the index of words, of the query language and of plans, by
+//! public calls.
 #![tactic(auto)]
 
+#[cfg(test)]
+mod index;
 #[cfg(test)]
 mod plans;
 #[cfg(test)]
