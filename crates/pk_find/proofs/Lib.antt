@@ -2,3 +2,4 @@
 mod CommandLineFacts
 mod CommandLineLemmas
 mod ReportLemmas
+mod SessionLemmas

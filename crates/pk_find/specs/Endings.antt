@@ -1,5 +1,5 @@
 -- What a command came to, by its status, over any disk.
-use Rattle.std.specs.Prelude.{◌≡◌, ◌≢◌, ◌≤◌, ◌*◌, ◌^◌, ◌⊎◌, ℕ, List, ◌++◌, length, codes, decimal}
+use Rattle.std.specs.Prelude.{◌≡◌, ◌≢◌, ◌≤◌, ◌*◌, ◌^◌, ◌⊎◌, ℕ, List, [], ◌++◌, length, codes, decimal}
 use Rattle.std.specs.Prelude.{Option, Result, Ok, Err}
 use Rattle.std.specs.Io.KnownBytes.{Appends}
 use Rattle.clap.specs.Words.{Text}
@@ -13,11 +13,15 @@ use Rattle.pk_find.specs.Reasons.{creating_words, file_words, memory_words, open
 use Rattle.pk_find.specs.Reasons.{output_words, session_words}
 use Rattle.pk_find.specs.declared.command_line.Asked.{Asked}
 use Rattle.pk_find.specs.declared.command_line.Asked.TheVariants.{Create, Run}
+use Rattle.pk_shell.specs.Called.{EndsByCalls}
 use Rattle.pk_shell.specs.Script.{Ends}
 use Rattle.pk_shell.specs.Sending.{SentPart}
 use Rattle.pk_shell.specs.StoreStep.{StoreStep}
 use Rattle.pk_shell.specs.declared.ending.Ended.{Ended}
 use Rattle.pk_shell.specs.declared.ending.ShellFault.{ShellFault}
+use Rattle.pk_store.specs.Calls.{Call}
+use Rattle.pk_store.specs.Eras.{Era, Extends, Work}
+use Rattle.pk_store.specs.Eras as era
 use Rattle.pk_store.specs.Opening.{Creates, Opens}
 use Rattle.pk_store.specs.View.{StoreView}
 use Rattle.pk_store.specs.declared.refused.CreateFault.{CreateFault}
@@ -43,14 +47,23 @@ abbrev pub HasSize : Asked → Type 0
 HasSize (Create path units) = IsOfSize units
 HasSize (Run path) = Unit {0}
 
+-- the era of a store that was opened on the disk, or made on it, and closed after these calls
+abbrev pub era_of : {D : Type 0} → (D → Work D → Era D) → D → StoreView D → List (Call D) → Era D
+era_of begun disk store calls =
+    begun disk (record { store = store; calls = calls; answered = length calls })
+
 -- A SESSION: the disk opened as a store, and what was written is, as far as the session came, a
--- legal script's replies to what was read.
+-- legal script's replies to what was read. Each line that asks the store is the next call of it, and
+-- on an honest disk each history goes on by these calls.
 pub record IsSession {D : Type 0} (d : Ghosts D) (disk : D) (r r' w w' : Option (List ℕ))
     (how : Result Ended ShellFault) : Type 0 where
   pub opened : StoreView D
   pub left : StoreView D
   pub opens : Opens d disk (Ok opened)
   pub ends : Ends (StoreStep d) opened r r' w w' how left
+  pub calls : EndsByCalls d opened r r' w w' how left
+  pub extends : d.honest
+      → Extends d (era_of era.opened disk opened calls.calls) left.volume.disk
 
 -- NO SESSION: the disk opened as no store. Nothing was read or written.
 pub record IsNoSession {D : Type 0} (d : Ghosts D) (disk : D) (r r' w w' : Option (List ℕ))
@@ -59,6 +72,7 @@ pub record IsNoSession {D : Type 0} (d : Ghosts D) (disk : D) (r r' w w' : Optio
   pub opens : Opens d disk (Err refused)
   pub reader : r' ≡ r
   pub writer : w' ≡ w
+  pub extends : d.honest → Extends d (era.unopened disk (Err refused)) refused.disk
 
 -- A line was told on standard error: the whole of it, or a part where a write failed.
 abbrev pub IsTold : Option (List ℕ) → Option (List ℕ) → List ℕ → Type 0
@@ -74,15 +88,17 @@ SessionOutcome d disk r r' w w' e e' status =
     ⊎ ((none : IsNoSession d disk r r' w w') × (status ≡ failed)
     × IsTold e e' (opening_words none.refused.why)))
 
--- a store was made
+-- a store was made, and each history goes on from there
 pub record IsMade {D : Type 0} (d : Ghosts D) (disk : D) : Type 0 where
   pub made : StoreView D
   pub creates : Creates d disk (Ok made)
+  pub extends : d.honest → Extends d (era_of era.created disk made []) made.volume.disk
 
 -- none was
 pub record IsNotMade {D : Type 0} (d : Ghosts D) (disk : D) : Type 0 where
   pub refused : Refused D CreateFault
   pub creates : Creates d disk (Err refused)
+  pub extends : d.honest → Extends d (era.uncreated disk (Err refused)) refused.disk
 
 -- what is told of a store that was made
 abbrev pub created_line : ℕ → List ℕ

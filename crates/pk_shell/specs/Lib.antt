@@ -8,3 +8,4 @@ pub mod Response
 pub mod Transcript
 pub mod Progress
 pub mod StoreStep
+pub mod Called

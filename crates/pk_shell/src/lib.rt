@@ -44,7 +44,8 @@
 //!
 //! In specs/, `Asked` says what a line asks, `ReplyText` how a reply is spelled, `Script` what a
 //! legal script is and what each ending means. `Script` is said of any engine, by its steps:
-//! those of [`serve`] are the store's `Steps`, over any disk.
+//! those of [`serve`] are the store's `Steps`, over any disk. `Called` says the same by calls of the
+//! store, and what these leave on the disk.
 #![tactic(auto)]
 
 mod ask;

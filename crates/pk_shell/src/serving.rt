@@ -1,6 +1,7 @@
 //! Lines from a reader, replies to a writer.
 
 ghost use Rattle.pk_shell.specs.Asked.{asked_held};
+ghost use Rattle.pk_shell.specs.Called.{EndsByCalls};
 ghost use Rattle.pk_shell.specs.Script.{Ends};
 ghost use Rattle.pk_shell.specs.StoreStep.{StoreStep};
 ghost use Rattle.pk_shell.specs.Transcript.{AnswersLine, AnswersLines};
@@ -81,7 +82,13 @@ pub fn serve<R: Read, W: Write, D: Disk>(
     writer: &mut W,
     store: &mut Store<D>,
 ) -> Result<Ended, ShellFault>
-    ensures { Ends (StoreStep D.Disk) store.old (R.remaining reader.old) (R.remaining reader.new)
+    ensures ends { Ends (StoreStep D.Disk) store.old
+        (R.remaining reader.old) (R.remaining reader.new)
+        (W.contents writer.old) (W.contents writer.new) result store.new }
+
+    // Each line that asks the store is the next call of it, and each image since a call began holds
+    // a prefix of what was accepted that has what was acknowledged before.
+    ensures calls { EndsByCalls D.Disk store.old (R.remaining reader.old) (R.remaining reader.new)
         (W.contents writer.old) (W.contents writer.new) result store.new }
 {
     let mut line = Line::new(alloc)?;

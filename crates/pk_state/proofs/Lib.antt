@@ -7,6 +7,6 @@ pub mod CommitLemmas
 pub mod FollowsLemmas
 pub mod MergeLemmas
 mod OutcomeLemmas
-mod SessionLemmas
+pub mod SessionLemmas
 pub mod StateLemmas
 mod WorkLemmas

@@ -26,3 +26,6 @@ pub mod MergedLemmas
 pub mod PlanMergeLemmas
 pub mod AfterReads
 pub mod MergeSteps
+pub mod CallLemmas
+pub mod EraLemmas
+pub mod HistoryLemmas

@@ -18,6 +18,7 @@
 //! | `counts` | how many documents live, and the next number | reopen |
 //! | `run` | a reply for each command | memory, before the first |
 //! | `close` | the disk | never |
+//! | `open_and_run`, `create_and_run` | the disk, after a session of commands | never |
 //!
 //! A commit is refused as numbers used up, too many segments, segment too large, or full with the
 //! units that it needs in a row and those that are free.
@@ -37,8 +38,9 @@
 //!
 //! In specs/: `View` says what a store shows and which states it means, `Steps` what a command
 //! does, `Opening` what opening and creating promise, `Plan` what a commit writes and how a plan is
-//! carried out, `Placed` where. The states, the legal step and what a disk holds are of pk_state, a
-//! body put in force of pk_replace. The module `laws` has what holds of any store.
+//! carried out, `Placed` where. `Calls` says what calls in turn leave on the disk, `Eras` what
+//! survives of sessions one after another. The states, the legal step and what a disk holds are of
+//! pk_state, a body put in force of pk_replace. The module `laws` has what holds of any store.
 #![tactic(auto)]
 
 mod committing;
@@ -50,6 +52,7 @@ mod opening;
 mod planning;
 mod refused;
 mod running;
+mod sessions;
 mod store;
 mod volume;
 

@@ -3,6 +3,7 @@ ghost use Rattle.std.specs.Prelude.{◌≡◌, map, IfOk, OnErr};
 ghost use Rattle.pk_model.specs.Steps.{add, commit, count, delete, find, merge, show};
 ghost use Rattle.pk_model.specs.Tree.{tree_of};
 ghost use Rattle.pk_model.specs.Views.{reply_of, request_of};
+ghost use Rattle.pk_store.specs.Calls.{RunsByCalls};
 ghost use Rattle.pk_store.specs.Steps.{AreSteps, RunsTo, Steps};
 
 use crate::store::Store;
@@ -20,6 +21,10 @@ impl<D: Disk> Store<D> {
         ensures run { D.honest → IfOk result (λ replies. RunsTo D.Disk self.old
             (map request_of commands.now) (map reply_of replies.items) self.new) }
         ensures none { OnErr result (self.new ≡ self.old) }
+
+        // Each image since a command began holds a prefix that has what was acknowledged before.
+        ensures calls { IfOk result (λ replies. RunsByCalls D.Disk self.old
+            (map request_of commands.now) (map reply_of replies.items) self.new) }
     {
         let mut replies = Vec::with_capacity(alloc, commands.len())?;
         'commands: for command in commands {

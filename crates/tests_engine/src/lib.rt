@@ -34,4 +34,6 @@ mod serving;
 #[cfg(test)]
 mod sessions;
 #[cfg(test)]
+mod stops;
+#[cfg(test)]
 mod sweeps;

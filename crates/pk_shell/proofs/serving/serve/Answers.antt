@@ -1,50 +1,51 @@
 -- Each ending, from what was read so far.
-use Rattle.std.proofs.Common.{◌<◌, ◌∙◌, sym, length, arith, rules}
+use Rattle.std.proofs.Common.{◌<◌, ◌∙◌, sym, refl, length, arith, rules}
 use Rattle.std.proofs.lemmas.Grind.{common_steps}
 use Rattle.std.proofs.lemmas.Result.{err_from_is_err_and}
+use Rattle.pk_shell.proofs.CalledLemmas.{by_calls}
 use Rattle.pk_shell.proofs.ReadLemmas.{started, came, some_came, read_end, goes_on, quits, is_cut, fails, too_many, ends, last_quits, last_ends, last_cut}
 use Rattle.pk_shell.proofs.serving.serve.Goals as goal
 
 pub loop-init : goal.loop-init
 loop-init g c = started _ _ _ _ _ c.in_ok-line.ensures
 
-pub returns-in-Err : goal.returns-in-Err
-returns-in-Err g c = fails _ _ _ _ _ _ _ _ _ _ c.loop.invariant c.in-Err.ensures.bytes
+pub returns-in-Err-clause-ends : goal.returns-in-Err-clause-ends
+returns-in-Err-clause-ends g c = fails _ _ _ _ _ _ _ _ _ _ c.loop.invariant c.in-Err.ensures.bytes
 
-pub returns-then-is_blank : goal.returns-then-is_blank
-returns-then-is_blank g c =
+pub returns-then-is_blank-clause-ends : goal.returns-then-is_blank-clause-ends
+returns-then-is_blank-clause-ends g c =
     let room : 0 < length c.read.new.buf = search rules in
     let e = read_end _ _ _ _ c.in-Ok-eq0.field-0-test c.in-Ok-eq0.ensures.bytes room in
     ends _ _ _ _ _ _ _ _ _ _ c.loop.invariant e.0 e.1 (sym c.is_blank.ensures ∙ c.if-is_blank.true)
 
-pub returns-in_err-quits-in-Ok-eq0 : goal.returns-in_err-quits-in-Ok-eq0
-returns-in_err-quits-in-Ok-eq0 g c =
+pub returns-in_err-quits-in-Ok-eq0-clause-ends : goal.returns-in_err-quits-in-Ok-eq0-clause-ends
+returns-in_err-quits-in-Ok-eq0-clause-ends g c =
     let room : 0 < length c.read.new.buf = search rules in
     let e = read_end _ _ _ _ c.in-Ok-eq0.field-0-test c.in-Ok-eq0.ensures.bytes room in
     let why = err_from_is_err_and c.from_residual-in_err-quits-in-Ok-eq0.result c.from_residual-in_err-quits-in-Ok-eq0.ensures.1 in
     rw (why.1, why.2)
     (last_cut _ _ _ _ _ _ _ _ _ _ c.loop.invariant e.0 e.1 _ _ (sym c.is_blank.ensures ∙ c.if-is_blank.false) _ c.in_err-quits-in-Ok-eq0.ensures)
 
-pub returns-then-quits : goal.returns-then-quits
-returns-then-quits g c =
+pub returns-then-quits-clause-ends : goal.returns-then-quits-clause-ends
+returns-then-quits-clause-ends g c =
     let room : 0 < length c.read.new.buf = search rules in
     let e = read_end _ _ _ _ c.in-Ok-eq0.field-0-test c.in-Ok-eq0.ensures.bytes room in
     last_quits _ _ _ _ _ _ _ _ _ _ c.loop.invariant e.0 e.1 _ _ (sym c.is_blank.ensures ∙ c.if-is_blank.false) (rw c.if-quits.true at c.in_ok-quits-in-Ok-eq0.ensures)
 
-pub returns-in-Ok-eq0 : goal.returns-in-Ok-eq0
-returns-in-Ok-eq0 g c =
+pub returns-in-Ok-eq0-clause-ends : goal.returns-in-Ok-eq0-clause-ends
+returns-in-Ok-eq0-clause-ends g c =
     let room : 0 < length c.read.new.buf = search rules in
     let e = read_end _ _ _ _ c.in-Ok-eq0.field-0-test c.in-Ok-eq0.ensures.bytes room in
     last_ends _ _ _ _ _ _ _ _ _ _ c.loop.invariant e.0 e.1 _ _ (sym c.is_blank.ensures ∙ c.if-is_blank.false) (rw c.if-quits.false at c.in_ok-quits-in-Ok-eq0.ensures)
 
-pub returns-in_err-answer_lines-in-Ok : goal.returns-in_err-answer_lines-in-Ok
-returns-in_err-answer_lines-in-Ok g c =
+pub returns-in_err-answer_lines-in-Ok-clause-ends : goal.returns-in_err-answer_lines-in-Ok-clause-ends
+returns-in_err-answer_lines-in-Ok-clause-ends g c =
     let why = err_from_is_err_and c.from_residual-in_err-answer_lines-in-Ok.result c.from_residual-in_err-answer_lines-in-Ok.ensures.1 in
     rw (why.1, why.2)
     (is_cut _ _ _ _ _ _ _ _ _ _ c.loop.invariant _ (came _ _ _ _ _ c.in-Ok.ensures.bytes.0 (grind (arith, common_steps))) _ _ c.in_err-answer_lines-in-Ok.ensures)
 
-pub returns-then-branch : goal.returns-then-branch
-returns-then-branch g c =
+pub returns-then-branch-clause-ends : goal.returns-then-branch-clause-ends
+returns-then-branch-clause-ends g c =
     quits _ _ _ _ _ _ _ _ _ _ c.loop.invariant _ (came _ _ _ _ _ c.in-Ok.ensures.bytes.0 (grind (arith, common_steps))) _ _ (rw c.if-branch.true at c.in_ok-answer_lines-in-Ok.ensures)
 
 pub loop-preserved : goal.loop-preserved
@@ -53,5 +54,39 @@ loop-preserved g c =
     (some_came _ _ _ c.in-Ok.ensures.bound.0 c.in-Ok.n-test.1 (grind (arith, common_steps)))
     (rw c.if-branch.false at c.in_ok-answer_lines-in-Ok.ensures)
 
-pub returns : goal.returns
-returns g c = too_many _ _ _ _ _ _ _ _ _ c.loop.invariant (omega (arith, c.loop-test.false))
+pub returns-clause-ends : goal.returns-clause-ends
+returns-clause-ends g c = too_many _ _ _ _ _ _ _ _ _ c.loop.invariant (omega (arith, c.loop-test.false))
+
+pub returns-in-Err-clause-calls : goal.returns-in-Err-clause-calls
+returns-in-Err-clause-calls g c = by_calls g.D.Disk (λ honest disk image. g.met.D.Disk.only_now disk image honest) _ _ _ _ _ _ _ (returns-in-Err-clause-ends g c)
+
+pub returns-then-is_blank-clause-calls : goal.returns-then-is_blank-clause-calls
+returns-then-is_blank-clause-calls g c = by_calls g.D.Disk (λ honest disk image. g.met.D.Disk.only_now disk image honest) _ _ _ _ _ _ _ (returns-then-is_blank-clause-ends g c)
+
+pub returns-in_err-quits-in-Ok-eq0-clause-calls : goal.returns-in_err-quits-in-Ok-eq0-clause-calls
+returns-in_err-quits-in-Ok-eq0-clause-calls g c = by_calls g.D.Disk (λ honest disk image. g.met.D.Disk.only_now disk image honest) _ _ _ _ _ _ _ (returns-in_err-quits-in-Ok-eq0-clause-ends g c)
+
+pub returns-then-quits-clause-calls : goal.returns-then-quits-clause-calls
+returns-then-quits-clause-calls g c = by_calls g.D.Disk (λ honest disk image. g.met.D.Disk.only_now disk image honest) _ _ _ _ _ _ _ (returns-then-quits-clause-ends g c)
+
+pub returns-in-Ok-eq0-clause-calls : goal.returns-in-Ok-eq0-clause-calls
+returns-in-Ok-eq0-clause-calls g c = by_calls g.D.Disk (λ honest disk image. g.met.D.Disk.only_now disk image honest) _ _ _ _ _ _ _ (returns-in-Ok-eq0-clause-ends g c)
+
+pub returns-in_err-answer_lines-in-Ok-clause-calls : goal.returns-in_err-answer_lines-in-Ok-clause-calls
+returns-in_err-answer_lines-in-Ok-clause-calls g c = by_calls g.D.Disk (λ honest disk image. g.met.D.Disk.only_now disk image honest) _ _ _ _ _ _ _ (returns-in_err-answer_lines-in-Ok-clause-ends g c)
+
+pub returns-then-branch-clause-calls : goal.returns-then-branch-clause-calls
+returns-then-branch-clause-calls g c = by_calls g.D.Disk (λ honest disk image. g.met.D.Disk.only_now disk image honest) _ _ _ _ _ _ _ (returns-then-branch-clause-ends g c)
+
+pub returns-clause-calls : goal.returns-clause-calls
+returns-clause-calls g c = by_calls g.D.Disk (λ honest disk image. g.met.D.Disk.only_now disk image honest) _ _ _ _ _ _ _ (returns-clause-ends g c)
+
+pub returns-in_err-line-clause-calls : goal.returns-in_err-line-clause-calls
+returns-in_err-line-clause-calls g c =
+    let why = err_from_is_err_and c.from_residual.result c.from_residual.ensures.1 in
+    rw (why.1, why.2) (by_calls g.D.Disk (λ honest disk image. g.met.D.Disk.only_now disk image honest) _ _ _ _ _ _ _ (record { reader = refl; writer = refl; state = refl }))
+
+pub returns-in_err-outbox-clause-calls : goal.returns-in_err-outbox-clause-calls
+returns-in_err-outbox-clause-calls g c =
+    let why = err_from_is_err_and c.from_residual-in_err-outbox.result c.from_residual-in_err-outbox.ensures.1 in
+    rw (why.1, why.2) (by_calls g.D.Disk (λ honest disk image. g.met.D.Disk.only_now disk image honest) _ _ _ _ _ _ _ (record { reader = refl; writer = refl; state = refl }))
