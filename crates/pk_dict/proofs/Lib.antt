@@ -14,6 +14,7 @@ pub mod Order
 pub mod Parts
 pub mod Prefixes
 pub mod Rising
+pub mod Room
 pub mod Same
 pub mod Scan
 pub mod Shared

@@ -1,7 +1,8 @@
 //! Laws of dictionaries, as functions without a body whose contract is the law.
 
-ghost use Rattle.std.specs.Prelude.{◌≡◌, ℕ, List, length, Ok};
-ghost use Rattle.pk_dict.specs.Dictionary.{DictSpells, Item, entry_of, items_with_prefix};
+ghost use Rattle.std.specs.Prelude.{◌≡◌, ◌≤◌, ◌++◌, ℕ, List, length, Ok};
+ghost use Rattle.std.specs.List.{AllByRecursion};
+ghost use Rattle.pk_dict.specs.Dictionary.{DictSpells, Item, entry_of, items_with_prefix, spelling};
 ghost use Rattle.pk_dict.specs.Entries.{entries_at};
 ghost use Rattle.pk_dict.specs.LookUp.{look_up_at};
 
@@ -32,4 +33,13 @@ pub fn a_dictionary_says_its_entries()
 pub fn a_dictionary_says_its_items()
     ensures { (b : List ℕ) (es : List Item) (terms : ℕ) (prefix : List ℕ) → DictSpells b es
         → length es ≡ terms → entries_at b terms prefix ≡ Ok (items_with_prefix prefix es) }
+{}
+
+/// A dictionary has a byte for each of its terms, no fewer bytes than any of them, and no fewer
+/// than with fewer terms.
+pub fn a_dictionary_is_this_long()
+    ensures terms { (es : List Item) → length es ≤ length (spelling es) }
+    ensures each { (es : List Item)
+        → AllByRecursion (λ (e : Item). length e.term ≤ length (spelling es)) es }
+    ensures more { (es fs : List Item) → length (spelling es) ≤ length (spelling (es ++ fs)) }
 {}

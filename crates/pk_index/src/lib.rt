@@ -28,5 +28,6 @@ mod lists;
 mod numbers;
 mod terms;
 
+pub use combining::{in_both, in_either, in_first};
 pub use folding::fold_into;
 pub use index::Index;

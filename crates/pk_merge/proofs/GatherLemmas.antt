@@ -1,6 +1,6 @@
 -- What was gathered: its length, one document more, and what is left of several.
-use Rattle.std.proofs.Common.{◌≡◌, ℕ, zero, suc, ◌+◌, ◌<◌, ◌≤◌, List, [], ◌∷◌, ◌++◌, length, take, drop, true, false, Some, sym, ap, subst, ◌∙◌, append_assoc, append-nil, arith, Result, Ok, Err, Vec, Global}
-use Rattle.std.specs.Prelude.{All, IfErr, IfOk, Option, slice_get}
+use Rattle.std.proofs.Common.{◌≡◌, ℕ, zero, suc, ◌+◌, ◌*◌, ◌<◌, ◌≤◌, List, [], ◌∷◌, ◌++◌, length, take, drop, true, false, Some, sym, ap, subst, ◌∙◌, append_assoc, append-nil, arith, Result, Ok, Err, Vec, Global}
+use Rattle.std.specs.Prelude.{All, Option, slice_get}
 use Rattle.std.specs.List.Sorted.{IsStrictlyIncreasing}
 use Rattle.std.proofs.lemmas.Grind.{flat_map-append}
 use Rattle.std.proofs.lemmas.List.{length-append, map-append, take-append-drop}
@@ -12,15 +12,15 @@ use Rattle.pk_model.proofs.CollectionLemmas.{increasing-snoc}
 use Rattle.pk_segment.specs.declared.fault.ReadFault.{ReadFault}
 use Rattle.pk_segment.specs.declared.fault.ReadFault.TheVariants as reading
 use Rattle.pk_segment.specs.Directory.{doc_in}
-use Rattle.pk_segment.specs.Plain.{docs_of, longest, plain_length, texts}
+use Rattle.pk_segment.specs.Spelling.{docs_of, longest, segment_length, texts}
 use Rattle.pk_segment.specs.Reading.{IsNoDamage}
-use Rattle.pk_segment.proofs.PlainLemmas.{parts_of, length_texts_cons}
+use Rattle.pk_segment.proofs.SegmentLemmas.{parts_of, length_texts_cons}
 use Rattle.pk_state.specs.Committed.{lists}
 use Rattle.pk_merge.specs.declared.fault.MergeFault.{MergeFault}
 use Rattle.pk_merge.specs.declared.fault.MergeFault.TheVariants.{TooLarge, Damaged, Disk, Memory}
 use Rattle.pk_merge.specs.declared.gathered.Gathered.{Gathered}
-use Rattle.pk_merge.specs.Gathering.{GathersAs, KeepsAs, RiseFrom, docs_in, left_by}
-use Rattle.pk_merge.specs.Merging.{IsMerged, MergeFails, MergedAs, merge_of}
+use Rattle.pk_merge.specs.Gathering.{BuildsAs, FailsInMemory, GathersAs, KeepsAs, RiseFrom, docs_in, left_by}
+use Rattle.pk_merge.specs.Merging.{MergeFails, MergedAs, merge_of}
 use Rattle.pk_merge.proofs.RiseLemmas.{rise_next}
 
 -- LENGTHS
@@ -28,19 +28,30 @@ use Rattle.pk_merge.proofs.RiseLemmas.{rise_next}
 length_texts : (xs ys : List Doc) → length (texts (xs ++ ys)) ≡ length (texts xs) + length (texts ys)
 length_texts xs ys = ap length (flat_map-append (λ (d : Doc). d.text) xs ys) ∙ length-append (texts xs) (texts ys)
 
-plain_append : (xs ys : List Doc) → plain_length (xs ++ ys) + 24 ≡ plain_length xs + plain_length ys
-plain_append xs ys = omega (arith, parts_of (xs ++ ys), parts_of xs, parts_of ys, length-append xs ys, length_texts xs ys)
+-- in kind 1 nothing stands behind the texts
+front_of : (docs : List Doc) → segment_length docs 1 ≡ 24 + 12 * length docs + length (texts docs)
+front_of docs = parts_of docs 1 ∙ nothing (24 + 12 * length docs + length (texts docs))
+  where
+    nothing : (n : ℕ) → n + 0 + 0 ≡ n
+    nothing n = omega arith
+
+-- and in no kind less
+pub no_shorter : (docs : List Doc) (kind : ℕ) → segment_length docs 1 ≤ segment_length docs kind
+no_shorter docs kind = omega (arith, front_of docs, parts_of docs kind)
+
+front_append : (xs ys : List Doc) → segment_length (xs ++ ys) 1 + 24 ≡ segment_length xs 1 + segment_length ys 1
+front_append xs ys = omega (arith, front_of (xs ++ ys), front_of xs, front_of ys, length-append xs ys, length_texts xs ys)
 
 -- one document more
-pub plain_one : (xs : List Doc) (d : Doc) → plain_length (xs ++ d ∷ []) ≡ plain_length xs + 12 + length d.text
-plain_one xs d = omega (arith, plain_append xs (d ∷ []), parts_of (d ∷ []), length_texts_cons d [])
+pub front_one : (xs : List Doc) (d : Doc) → segment_length (xs ++ d ∷ []) 1 ≡ segment_length xs 1 + 12 + length d.text
+front_one xs d = omega (arith, front_append xs (d ∷ []), front_of (d ∷ []), length_texts_cons d [])
 
-pub plain_none : plain_length [] ≡ 24
-plain_none = parts_of []
+pub front_none : segment_length [] 1 ≡ 24
+front_none = front_of []
 
 -- a part that is too long makes the whole too long
-pub longer : (xs ys zs : List Doc) → zs ≡ xs ++ ys → longest < plain_length xs → longest < plain_length zs
-longer xs ys zs same long = omega (arith, long, ap plain_length same, plain_append xs ys, parts_of ys)
+pub longer : (xs ys zs : List Doc) → zs ≡ xs ++ ys → longest < segment_length xs 1 → longest < segment_length zs 1
+longer xs ys zs same long = omega (arith, long, ap (λ (ds : List Doc). segment_length ds 1) same, front_append xs ys, front_of ys)
 
 -- WHAT IS LEFT
 
@@ -65,9 +76,9 @@ kept_each ds now d last same each above =
     (λ k x h. ((each k x h).0, omega (arith, (each k x h).1, above))) (omega (arith, above), omega arith))
 
 pub kept_size : (ds now : List Document) (d : Document) → now ≡ ds ++ d ∷ []
-    → plain_length (docs_of now) ≡ plain_length (docs_of ds) + 12 + length (doc_of d).text
-kept_size ds now d same = ap (λ (xs : List Document). plain_length (docs_of xs)) same
-    ∙ ap plain_length (map-append doc_of ds (d ∷ [])) ∙ plain_one (docs_of ds) (doc_of d)
+    → segment_length (docs_of now) 1 ≡ segment_length (docs_of ds) 1 + 12 + length (doc_of d).text
+kept_size ds now d same = ap (λ (xs : List Document). segment_length (docs_of xs) 1) same
+    ∙ ap (λ (xs : List Doc). segment_length xs 1) (map-append doc_of ds (d ∷ [])) ∙ front_one (docs_of ds) (doc_of d)
 
 -- the document that was read is the one at its place
 pub doc_got : (docs : List Doc) (i : ℕ) (d : Doc) → slice_get docs i ≡ Some d → d ≡ doc_in docs i
@@ -91,7 +102,7 @@ keeps old new dead d e more (Ok u) same none rise kept = (
   rw none (kept.0 ∙ ap (λ (x : Doc). docs_in old ++ x ∷ []) same),
   subst (λ (k : ℕ). RiseFrom k more) (sym (kept.1 ∙ ap (λ (x : Doc). x.number) same)) (rise_next old.last d more rise),
 )
-keeps old new dead d e more (Err TooLarge) same none rise kept = rw none (subst (λ (x : Doc). longest < plain_length (docs_in old ++ x ∷ [])) same kept)
+keeps old new dead d e more (Err TooLarge) same none rise kept = rw none (subst (λ (x : Doc). longest < segment_length (docs_in old ++ x ∷ []) 1) same kept)
 keeps old new dead d e more (Err Damaged) same none rise kept = absurd kept
 keeps old new dead d e more (Err Disk) same none rise kept = absurd kept
 keeps old new dead d e more (Err Memory) same none rise kept = tt
@@ -99,17 +110,17 @@ keeps old new dead d e more (Err Memory) same none rise kept = tt
 -- A FAULT on the way stays one
 
 pub gathers_fault : {U : Type 0} (left more : List Doc) (old new : Gathered) (r : Result U MergeFault) (x : MergeFault) → r ≡ Err x
-    → MergeFails (docs_in old ++ left) x → GathersAs left more old new r
+    → MergeFails (docs_in old ++ left) 1 x → GathersAs left more old new r
 gathers_fault left more old new r x is fault = rw is fault
 
 -- a reader's fault is no damage
-pub fails_read : (docs : List Doc) (y : ReadFault) → IsNoDamage y → MergeFails docs (merge_of y)
+pub fails_read : (docs : List Doc) (y : ReadFault) → IsNoDamage y → MergeFails docs 1 (merge_of y)
 fails_read docs reading.Damaged cause = absurd cause
 fails_read docs reading.Disk cause = tt
 fails_read docs reading.Memory cause = tt
 
 -- a part that fails makes the whole fail
-pub fails_longer : (xs ys zs : List Doc) (y : MergeFault) → zs ≡ xs ++ ys → MergeFails xs y → MergeFails zs y
+pub fails_longer : (xs ys zs : List Doc) (y : MergeFault) → zs ≡ xs ++ ys → MergeFails xs 1 y → MergeFails zs 1 y
 fails_longer xs ys zs TooLarge same fault = longer xs ys zs same fault
 fails_longer xs ys zs Damaged same fault = absurd fault
 fails_longer xs ys zs Disk same fault = tt
@@ -133,10 +144,23 @@ module _ {X : Type 0} (left : List X → List Doc) (parts : (xs ys : List X) →
       ∙ ap (λ (ds : List Doc). ds ++ left (drop (i + 1) xs)) (sym (left_next xs i x old before part here is so_far))
 
 -- THE WHOLE
-pub merged_fault : (docs : List Doc) (kind : ℕ) (r : Result (Option (Vec ℕ Global)) MergeFault) (x : MergeFault) → r ≡ Err x → MergeFails docs x → MergedAs docs kind r
-merged_fault docs kind r x is fault = rw is fault
 
-pub merged_all : (docs : List Doc) (kind : ℕ) (g : Gathered) (r : Result (Option (Vec ℕ Global)) MergeFault) → docs_in g ≡ docs → IfOk r (IsMerged (docs_in g) kind)
-    → IfErr r (λ fault. fault ≡ Memory) → MergedAs docs kind r
-merged_all docs kind g (Ok bytes) all built memory = subst (λ (ds : List Doc). IsMerged ds kind bytes) all built
-merged_all docs kind g (Err fault) all built memory = subst (λ (x : MergeFault). MergeFails docs x) (sym memory) tt
+-- what fails in kind 1 fails in each kind
+fails_in : (docs : List Doc) (kind : ℕ) (x : MergeFault) → MergeFails docs 1 x → MergeFails docs kind x
+fails_in docs kind TooLarge fault = omega (arith, fault, no_shorter docs kind)
+fails_in docs kind Damaged fault = fault
+fails_in docs kind Disk fault = tt
+fails_in docs kind Memory fault = tt
+
+pub merged_fault : (docs : List Doc) (kind : ℕ) (r : Result (Option (Vec ℕ Global)) MergeFault) (x : MergeFault) → r ≡ Err x → MergeFails docs 1 x → MergedAs docs kind r
+merged_fault docs kind r x is fault = rw is (fails_in docs kind x fault)
+
+fails_built : (docs : List Doc) (kind : ℕ) (x : MergeFault) → FailsInMemory docs kind x → MergeFails docs kind x
+fails_built docs kind TooLarge fault = fault
+fails_built docs kind Damaged fault = fault
+fails_built docs kind Disk fault = tt
+fails_built docs kind Memory fault = tt
+
+pub merged_all : (docs : List Doc) (kind : ℕ) (g : Gathered) (r : Result (Option (Vec ℕ Global)) MergeFault) → docs_in g ≡ docs → BuildsAs (docs_in g) kind r → MergedAs docs kind r
+merged_all docs kind g (Ok bytes) all built = subst (λ (ds : List Doc). BuildsAs ds kind (Ok bytes)) all built
+merged_all docs kind g (Err fault) all built = fails_built docs kind fault (subst (λ (ds : List Doc). FailsInMemory ds kind fault) all built)

@@ -7,7 +7,7 @@ use Rattle.std.proofs.lemmas.List.Elements.{All-head}
 use Rattle.std.specs.List.Sorted.{IsStrictlyIncreasing}
 use Rattle.pk_model.specs.Collection.{Doc, numbers_of}
 use Rattle.pk_segment.specs.Directory.{doc_in}
-use Rattle.pk_segment.specs.Plain.{AreDocuments}
+use Rattle.pk_segment.specs.Spelling.{AreDocuments}
 use Rattle.pk_state.specs.Committed.{Stored, all_in, live_in, live_of}
 use Rattle.pk_merge.specs.declared.merging.MergeInput.{MergeInput}
 use Rattle.pk_merge.specs.Gathering.{RiseFrom, left_by}
@@ -60,7 +60,7 @@ least bytes is [] spells some = absurd (omega (arith, some))
 least bytes [] (s ∷ stored) spells some = absurd spells
 least bytes (x ∷ is) (s ∷ stored) spells some =
     subst (λ (ds : List Doc). 1 ≤ (doc_in ds 0).number) (sym (flat_map-cons (λ (y : Stored). y.documents) s stored))
-    (first_least s.documents (all_in stored) spells.0.segment.1.are)
+    (first_least s.documents (all_in stored) spells.0.segment.are)
 
 pub rise_all : (bytes : List ℕ) (is : List MergeInput) (stored : List Stored) → SpellsInputs bytes is stored → IsStrictlyIncreasing (numbers_of (all_in stored)) → RiseFrom 0 (all_in stored)
 rise_all bytes is stored spells rising = rise_zero (all_in stored) rising (least bytes is stored spells)

@@ -1,12 +1,13 @@
 -- What a merge has gathered when it has come past some of the documents.
-use Rattle.std.specs.Prelude.{◌≡◌, ℕ, ◌<◌, List, [], ◌∷◌, ◌++◌, Result, Ok, Err}
+use Rattle.std.specs.Prelude.{◌≡◌, ℕ, ◌<◌, List, [], ◌∷◌, ◌++◌, Option, Result, Ok, Err}
+use Rattle.std.specs.Global.{Vec}
 use Rattle.std.specs.List.Sorted.{IsStrictlyIncreasing}
 use Rattle.pk_merge.specs.declared.fault.MergeFault.{MergeFault}
 use Rattle.pk_merge.specs.declared.fault.MergeFault.TheVariants.{TooLarge, Damaged, Disk, Memory}
 use Rattle.pk_merge.specs.declared.gathered.Gathered.{Gathered}
-use Rattle.pk_merge.specs.Merging.{MergeFails}
+use Rattle.pk_merge.specs.Merging.{IsMerged, MergeFails}
 use Rattle.pk_model.specs.Collection.{Doc, numbers_of}
-use Rattle.pk_segment.specs.Plain.{docs_of, longest, plain_length}
+use Rattle.pk_segment.specs.Spelling.{docs_of, longest, segment_length}
 use Rattle.pk_state.specs.Committed.{live_of}
 
 -- the documents that were gathered
@@ -21,18 +22,28 @@ left_by dead docs = live_of (record { documents = docs; dead = dead })
 abbrev pub RiseFrom : ℕ → List Doc → Type 0
 RiseFrom last docs = IsStrictlyIncreasing (last ∷ numbers_of docs)
 
--- one document more was kept, or they would be too many bytes, or memory was refused
+-- what fails in memory alone: they would be too many bytes, or memory was refused
+abbrev pub FailsInMemory : List Doc → ℕ → MergeFault → Type 0
+FailsInMemory docs kind TooLarge = longest < segment_length docs kind
+FailsInMemory docs kind Damaged = ⊥
+FailsInMemory docs kind Disk = ⊥
+FailsInMemory docs kind Memory = Unit {0}
+
+-- one document more was kept, or even a segment of kind 1 would be too long, or memory was refused
 abbrev pub KeepsAs : {T : Type 0} → Gathered → Doc → Gathered → Result T MergeFault → Type 0
 KeepsAs old d new (Ok u) = (docs_in new ≡ docs_in old ++ d ∷ []) × (new.last ≡ d.number)
-KeepsAs old d new (Err TooLarge) = longest < plain_length (docs_in old ++ d ∷ [])
-KeepsAs old d new (Err Damaged) = ⊥
-KeepsAs old d new (Err Disk) = ⊥
-KeepsAs old d new (Err Memory) = Unit {0}
+KeepsAs old d new (Err fault) = FailsInMemory (docs_in old ++ d ∷ []) 1 fault
+
+-- the segment of a kind of the documents, none where there is none; or it would be too long, or
+-- memory was refused
+abbrev pub BuildsAs : List Doc → ℕ → Result (Option (Vec ℕ)) MergeFault → Type 0
+BuildsAs docs kind (Ok bytes) = IsMerged docs kind bytes
+BuildsAs docs kind (Err fault) = FailsInMemory docs kind fault
 
 -- the documents that are left were kept, and those that come next still rise; or a merge of them
--- fails
+-- fails, even to a segment of kind 1
 abbrev pub GathersAs : {T : Type 0} → List Doc → List Doc → Gathered → Gathered
     → Result T MergeFault → Type 0
 GathersAs left more old new (Ok u) =
     (docs_in new ≡ docs_in old ++ left) × RiseFrom new.last more
-GathersAs left more old new (Err fault) = MergeFails (docs_in old ++ left) fault
+GathersAs left more old new (Err fault) = MergeFails (docs_in old ++ left) 1 fault

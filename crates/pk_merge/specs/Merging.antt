@@ -1,7 +1,6 @@
 -- What the inputs of a merge spell, and what a merge answers.
 use Rattle.std.specs.Prelude.{
   ◌≡◌,
-  ◌⊎◌,
   ◌≤◌,
   ◌<◌,
   ◌+◌,
@@ -29,7 +28,7 @@ use Rattle.pk_segment.specs.declared.building.BuildFault.{BuildFault}
 use Rattle.pk_segment.specs.declared.building.BuildFault.TheVariants as building
 use Rattle.pk_segment.specs.declared.fault.ReadFault.{ReadFault}
 use Rattle.pk_segment.specs.declared.fault.ReadFault.TheVariants as reading
-use Rattle.pk_segment.specs.Plain.{SegmentSpells, longest, plain_length}
+use Rattle.pk_segment.specs.Spelling.{IsKind, SegmentSpells, longest, segment_length}
 use Rattle.pk_state.specs.Committed.{Stored}
 
 -- what a fault of a reader means to a merge
@@ -45,7 +44,7 @@ built_of building.Memory = Memory
 
 -- it is of a kind that is read
 abbrev pub HasKind : MergeInput → Type 0
-HasKind i = (i.kind ≡ 1) ⊎ (i.kind ≡ 2)
+HasKind i = IsKind i.kind
 
 -- its extent lies within a disk of so many bytes
 abbrev pub LiesInside : ℕ → MergeInput → Type 0
@@ -70,16 +69,16 @@ IsMerged docs kind None = docs ≡ []
 IsMerged docs kind (Some bytes) = SegmentSpells bytes.items docs kind
 
 -- too large is what passes the longest segment, and the device and memory may fail
-abbrev pub MergeFails : List Doc → MergeFault → Type 0
-MergeFails docs TooLarge = longest < plain_length docs
-MergeFails docs Damaged = ⊥
-MergeFails docs Disk = Unit {0}
-MergeFails docs Memory = Unit {0}
+abbrev pub MergeFails : List Doc → ℕ → MergeFault → Type 0
+MergeFails docs kind TooLarge = longest < segment_length docs kind
+MergeFails docs kind Damaged = ⊥
+MergeFails docs kind Disk = Unit {0}
+MergeFails docs kind Memory = Unit {0}
 
 -- the segment of a kind of the documents, or why there is none
 abbrev pub MergedAs : List Doc → ℕ → Result (Option (Vec ℕ)) MergeFault → Type 0
 MergedAs docs kind (Ok bytes) = IsMerged docs kind bytes
-MergedAs docs kind (Err fault) = MergeFails docs fault
+MergedAs docs kind (Err fault) = MergeFails docs kind fault
 
 -- it is the segment of a kind of some documents, or none
 abbrev pub IsSomeMerged : ℕ → Option (Vec ℕ) → Type 0

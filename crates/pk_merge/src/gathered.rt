@@ -9,14 +9,12 @@ ghost use Rattle.std.specs.Prelude.{
   [],
   length,
   All,
-  IfErr,
-  IfOk,
   OnOk,
 };
 ghost use Rattle.std.specs.List.Sorted.{IsStrictlyIncreasing};
 ghost use Rattle.pk_model.specs.Collection.{numbers_of};
 ghost use Rattle.pk_model.specs.Views.{doc_of};
-ghost use Rattle.pk_segment.specs.Plain.{docs_of, longest, plain_length};
+ghost use Rattle.pk_segment.specs.Spelling.{IsKind, docs_of, longest, segment_length};
 
 use crate::fault::MergeFault;
 use pk_model::Document;
@@ -31,17 +29,16 @@ pub(crate) struct Gathered {
     documents: Vec<Document>,
     // The last number that was looked at, of a listed document too; 0 before the first.
     last: u32,
-    // How long the segment of the documents is.
+    // How long header, directory and texts of their segment are: a segment of kind 1 has no more.
     bytes: u64,
     ghost rising: { IsStrictlyIncreasing (numbers_of (docs_of documents.items)) },
     ghost each: { All (λ d. (1 ≤ d.number.0) × (d.number.0 ≤ last)) documents.items },
-    ghost size: { bytes ≡ plain_length (docs_of documents.items) },
+    ghost size: { bytes ≡ segment_length (docs_of documents.items) 1 },
     ghost fits: { bytes ≤ longest },
 }
 
 impl Gathered {
-    ghost use Rattle.pk_merge.specs.Gathering.{KeepsAs};
-    ghost use Rattle.pk_merge.specs.Merging.{IsMerged};
+    ghost use Rattle.pk_merge.specs.Gathering.{BuildsAs, KeepsAs};
 
     /// No document yet. It takes no memory.
     pub(crate) fn new(alloc: Global) -> Gathered
@@ -91,9 +88,8 @@ impl Gathered {
 
     /// The segment of that kind of the documents; none where there is none.
     pub(crate) fn build(&self, alloc: Global, kind: u32) -> Result<Option<Vec<u8>>, MergeFault>
-        requires { kind ≡ 1 }
-        ensures built { IfOk result (IsMerged (docs_of self.now.documents.items) kind) }
-        ensures memory { IfErr result (λ fault. fault ≡ MergeFault.Memory) }
+        requires { IsKind kind }
+        ensures { BuildsAs (docs_of self.now.documents.items) kind result }
     {
         if self.documents.is_empty() {
             return Ok(None);

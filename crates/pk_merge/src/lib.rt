@@ -15,13 +15,13 @@
 //!
 //! # What is refused
 //!
-//! The answer is `TooLarge` exactly where the segment would pass 1,073,741,824 bytes; it comes at
-//! the first document that passes them, so no more than that many bytes of texts are ever kept.
-//! `Damaged` are inputs that are no segments, and numbers that are 0 or don't rise from document to
-//! document and from input to input, also where a list has them. `Disk` is answered exactly where a
-//! read failed, and `Memory` where memory was refused. The disk was only read, whatever is
-//! answered, and the call may be made again. Whatever was read, what is answered is the bytes of a
-//! segment.
+//! The answer is `TooLarge` exactly where the segment would pass 1,073,741,824 bytes. It comes at
+//! the first document with which header, directory and texts pass them, so no more than that many
+//! bytes of texts are ever kept; else when the segment is built. `Damaged` are inputs that are no
+//! segments, and numbers that are 0 or don't rise from document to document and from input to
+//! input, also where a list has them. `Disk` is answered exactly where a read failed, and `Memory`
+//! where memory was refused. The disk was only read, whatever is answered, and the call may be made
+//! again. Whatever was read, what is answered is the bytes of a segment.
 //!
 //! Where the words are: `specs/Merging` has what inputs spell and what a merge answers,
 //! `specs/Gathering` what stands in memory on the way. Lemma pages: `RiseLemmas` on the order of

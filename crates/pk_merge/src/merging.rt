@@ -2,7 +2,6 @@
 
 ghost use Rattle.std.specs.Prelude.{
   ◌≡◌,
-  ◌⊎◌,
   ◌≤◌,
   ◌<◌,
   ◌+◌,
@@ -31,7 +30,7 @@ ghost use Rattle.pk_merge.specs.Merging.{
 ghost use Rattle.pk_model.specs.Collection.{Doc, numbers_of};
 ghost use Rattle.pk_segment.specs.Directory.{IsDirectoryOf, doc_in, entries_in};
 ghost use Rattle.pk_segment.specs.Opened.{IsSegmentOf};
-ghost use Rattle.pk_segment.specs.Plain.{SegmentSpells};
+ghost use Rattle.pk_segment.specs.Spelling.{IsKind, SegmentSpells};
 ghost use Rattle.pk_state.specs.Committed.{Stored, all_in, live_in};
 
 use crate::fault::MergeFault;
@@ -64,7 +63,7 @@ pub fn merged<D: Disk>(
     inputs: &[MergeInput],
     kind: u32,
 ) -> Result<Option<Vec<u8>>, MergeFault>
-    requires kind { kind ≡ 1 }
+    requires kind { IsKind kind }
     requires kinds { All HasKind inputs.now }
     requires inside { All (LiesInside (length (D.content disk.old))) inputs.now }
     ensures merged { D.honest → (stored : List Stored)
@@ -130,7 +129,7 @@ fn gather_from<S: ByteSource>(
     dead: &Dead,
     gathered: &mut Gathered,
 ) -> Result<(), MergeFault>
-    requires { (kind ≡ 1) ⊎ (kind ≡ 2) }
+    requires { IsKind kind }
     ensures gathered { S.honest → (docs more : List Doc)
         → SegmentSpells (S.content source.old) docs kind
         → RiseFrom gathered.old.last (docs ++ more)

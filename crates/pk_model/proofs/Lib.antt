@@ -1,3 +1,4 @@
 -- The lemma pages.
 pub mod CollectionLemmas
+pub mod TermLemmas
 pub mod TreeLemmas

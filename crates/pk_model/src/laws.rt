@@ -9,6 +9,7 @@ ghost use Rattle.pk_model.specs.Limits.{max_text_bytes, max_buffered_documents, 
 ghost use Rattle.pk_model.specs.Limits.{end_of_numbers, max_segments, max_segment_bytes};
 ghost use Rattle.pk_model.specs.Limits.{end_of_ids, tidy_run};
 ghost use Rattle.pk_model.specs.Steps.{Request, after_one};
+ghost use Rattle.pk_model.specs.Terms.{AreTerms, terms_of};
 
 use crate::limits::{
     END_OF_IDS, END_OF_NUMBERS, MAX_BUFFERED_BYTES, MAX_BUFFERED_DOCUMENTS, MAX_SEGMENT_BYTES,
@@ -52,4 +53,12 @@ pub fn limits_are()
     ensures segment { MAX_SEGMENT_BYTES ≡ max_segment_bytes }
     ensures ids { END_OF_IDS ≡ end_of_ids }
     ensures run { TIDY_RUN ≡ tidy_run }
+{}
+
+/// The terms of documents are the words that occur in them, and no other rising list has just
+/// these.
+pub fn terms_are_one_list()
+    ensures terms { (docs : List Doc) → AreTerms (terms_of docs) docs }
+    ensures one { (words : List (List ℕ)) (docs : List Doc) → AreTerms words docs
+        → words ≡ terms_of docs }
 {}

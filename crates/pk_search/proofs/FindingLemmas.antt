@@ -1,21 +1,17 @@
 -- The numbers that a query finds, document by document and segment by segment.
-use Rattle.std.proofs.Common.{◌≡◌, ℕ, zero, suc, ◌+◌, ◌<◌, ◌≤◌, Bool, true, false, cond, List, [], ◌∷◌, ◌++◌, filter, length, take, sum_by, Option, Some, None, slice_get, get_or, min, arith, Result, Err, refl, sym, subst, ap, ◌∙◌, append_assoc, append-nil, length-append, add-one, not}
+use Rattle.std.proofs.Common.{◌≡◌, ℕ, zero, suc, ◌+◌, ◌<◌, ◌≤◌, Bool, true, false, cond, List, [], ◌∷◌, ◌++◌, filter, length, take, Some, slice_get, get_or, min, arith, Result, Err, refl, sym, subst, ap, ◌∙◌, append_assoc, append-nil, add-one, not}
 use Rattle.std.proofs.lemmas.List.{map-append, take_all}
 use Rattle.std.proofs.lemmas.List.Elements.{filter-append}
-use Rattle.std.proofs.lemmas.List.Sums.{sum_by-cons}
 use Rattle.pk_model.specs.declared.documents.DocNo.{DocNo}
 use Rattle.pk_model.specs.Collection.{Doc, answer, is_hit, numbers_of}
 use Rattle.pk_model.specs.Tree.{Tree, satisfies}
 use Rattle.pk_model.specs.Views.{numbers_in}
 use Rattle.pk_model.specs.Words.{words_of}
 use Rattle.pk_segment.specs.declared.fault.ReadFault.{ReadFault}
-use Rattle.pk_segment.specs.Plain.{DirectorySpells, SegmentSpells}
+use Rattle.pk_segment.specs.Spelling.{DirectorySpells, SegmentSpells}
 use Rattle.pk_segment.specs.Reading.{IsNoDamage}
-use Rattle.pk_segment.specs.declared.segment.Segment.{Segment}
-use Rattle.pk_segment.specs.Opened.{IsSegmentOf, count_of}
 use Rattle.pk_manifest.specs.declared.manifest.Part.{Part as Entry}
-use Rattle.pk_disk.specs.Units.{extent_bytes, start_of}
-use Rattle.pk_disk.specs.declared.units.Extent.{Extent}
+use Rattle.pk_disk.specs.Units.{start_of}
 use Rattle.pk_words.specs.WordSet.{HaveSameWords}
 use Rattle.pk_search.specs.Finding.{FoundAs}
 use Rattle.pk_search.specs.declared.opened.OpenSegment.{OpenSegment}
@@ -92,10 +88,6 @@ entry_at bytes (x ∷ es) (s ∷ stored) (suc i) e spells lt at = entry_at bytes
 -- what spells documents has their directory
 pub directory_of : (bytes : List ℕ) (docs : List Doc) (kind : ℕ) → SegmentSpells bytes docs kind → DirectorySpells bytes docs kind
 directory_of bytes docs kind spells = record { segment = bytes; spelled = spells; long = refl; same = refl }
-
--- a spelling is one of kind 1
-pub spells_plain : (bytes : List ℕ) (e : Entry) (s : Stored) → SpellsEntry bytes e s → SegmentSpells (extent_bytes bytes e.extent) s.documents 1
-spells_plain bytes e s spells = (refl, spells.segment.1)
 
 pub inside_at : (size : ℕ) (es : List Entry) (i : ℕ) (e : Entry) → LieInside size es → i < length es → e ≡ get_or es i e → start_of e.extent + e.extent.bytes ≤ size
 inside_at size es i e inside lt at = subst (λ (y : Entry). start_of y.extent + y.extent.bytes ≤ size) (sym at) (inside i e lt).0

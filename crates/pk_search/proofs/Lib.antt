@@ -1,3 +1,4 @@
 -- The lemma pages; those that callers cite are public.
 pub mod FindingLemmas
 pub mod LookUpLemmas
+pub mod MatchLemmas

@@ -1,3 +1,4 @@
 -- The definitions that the contracts cite.
 pub mod Finding
+pub mod Matching
 pub mod Opened

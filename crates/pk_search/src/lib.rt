@@ -18,6 +18,7 @@
 #![tactic(auto)]
 
 mod finding;
+mod matching;
 mod opened;
 mod showing;
 

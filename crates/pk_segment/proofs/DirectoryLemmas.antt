@@ -8,8 +8,8 @@ use Rattle.pk_segment.specs.declared.directory.Entry.{Entry}
 use Rattle.pk_segment.specs.declared.header.Header.{Header}
 use Rattle.pk_segment.specs.Directory.{EntrySays, IsDirectoryOf, entries_in, field_in}
 use Rattle.pk_segment.specs.Fields.{IsEntry, IsHeader, header_field, entry_field, entry_numbers, number_at}
-use Rattle.pk_segment.specs.Plain.{SegmentSpells, DirectorySpells}
-use Rattle.pk_segment.proofs.PlainLemmas.{entry_number_at, entry_says, numbers_more}
+use Rattle.pk_segment.specs.Spelling.{SegmentSpells, DirectorySpells}
+use Rattle.pk_segment.proofs.SegmentLemmas.{entry_number_at, entry_says, numbers_more}
 use Rattle.pk_segment.proofs.OpeningLemmas.{long_enough}
 use Rattle.pk_segment.proofs.Window.{window}
 
@@ -21,7 +21,7 @@ directory_of bytes docs kind is = record { segment = bytes; spelled = is; long =
 -- the header and the directory are there
 pub within : (bytes : List ℕ) (docs : List Doc) (kind : ℕ) → DirectorySpells bytes docs kind
     → 24 + 12 * length docs ≤ length bytes
-within bytes docs kind is = omega (arith, is.long, long_enough is.segment docs is.spelled.1)
+within bytes docs kind is = omega (arith, is.long, long_enough is.segment docs kind is.spelled)
 
 -- lists that agree in front have the same part there
 same_part : (n at end : ℕ) (xs ys : List ℕ) → at + n ≤ end → take end xs ≡ take end ys
@@ -53,7 +53,7 @@ pub says : (bytes : List ℕ) (docs : List Doc) (kind i : ℕ) (e : Entry)
     → EntrySays docs i e.number e.at e.len
 says bytes docs kind i e is lt read =
     let same = same_part 12 (24 + 12 * i) (24 + 12 * length docs) bytes is.segment (omega (arith, lt)) is.same in
-    entry_says is.segment docs i e.number e.at e.len is.spelled.1 lt
+    entry_says is.segment docs kind i e.number e.at e.len is.spelled lt
     (read.number_is ∙ ap (number_at 0) same) (read.at_is ∙ ap (number_at 4) same)
     (read.len_is ∙ ap (number_at 8) same)
 
@@ -65,7 +65,7 @@ first_numbers bytes docs kind zero is le = refl
 first_numbers bytes docs kind (suc n) is le =
     let lt : n < length docs = omega arith in
     let number = number_in bytes docs kind n _ is lt refl
-    ∙ entry_number_at is.segment docs n is.spelled.1 lt in
+    ∙ entry_number_at is.segment docs kind n is.spelled lt in
     let k : n + 1 ≡ suc n = omega arith in
     ap (λ (xs : List ℕ). xs ++ number_at 0 (entry_field bytes n) ∷ []) (first_numbers bytes docs kind n is (omega arith))
     ∙ ap (λ (m : ℕ). take n (numbers_of docs) ++ m ∷ []) number
@@ -103,7 +103,7 @@ directory_read d bytes docs kind count is all read = record {
 pub entries_of : (d : Directory) (docs : List Doc) (kind : ℕ) → IsDirectoryOf d docs kind
     → entries_in d ≡ length docs
 entries_of d docs kind is =
-    let long = long_enough is.segment docs is.spelled.1 in
+    let long = long_enough is.segment docs kind is.spelled in
     let size = ap length is.same ∙ length-take (12 * length docs) (drop 24 is.segment) in
     omega (arith, long, size, length-drop 24 is.segment)
 
@@ -113,6 +113,6 @@ pub says_in : (d : Directory) (docs : List Doc) (kind i : ℕ) (e : Entry)
     → EntrySays docs i e.number e.at e.len
 says_in d docs kind i e is lt read =
     let same = field_read d is.segment (length docs) i is.same lt in
-    entry_says is.segment docs i e.number e.at e.len is.spelled.1 lt
+    entry_says is.segment docs kind i e.number e.at e.len is.spelled lt
     (read.number_is ∙ ap (number_at 0) same) (read.at_is ∙ ap (number_at 4) same)
     (read.len_is ∙ ap (number_at 8) same)

@@ -1,4 +1,4 @@
--- What reading a segment of kind 1 rests on.
+-- What reading a segment rests on.
 use Rattle.std.proofs.Common.{◌≡◌, ℕ, zero, suc, ◌/◌, ◌+◌, ◌*◌, ◌^◌, ◌<◌, ◌≤◌, List, [], ◌∷◌, length, Some, None, refl, sym, ap, subst, ◌∙◌, arith, inl, inr, get_or, false}
 use Rattle.std.proofs.lemmas.Bool.{cases_lt}
 use Rattle.std.specs.Prelude.{All, IsUtf8}
@@ -9,7 +9,7 @@ use Rattle.std.proofs.lemmas.Str.{IsUtf8-string_bytes}
 use Rattle.pk_model.specs.declared.documents.Document.{Document}
 use Rattle.pk_model.specs.Collection.{Doc, numbers_of, is_live}
 use Rattle.pk_model.specs.Views.{doc_of}
-use Rattle.pk_segment.specs.Plain.{texts, plain_length, docs_of, longest, AreDocuments}
+use Rattle.pk_segment.specs.Spelling.{texts, segment_length, docs_of, longest, AreDocuments}
 use Rattle.std.proofs.Math.Nat.{pow-suc}
 use Rattle.std.specs.Prelude.{Option, is_some, slice_get}
 use Rattle.pk_posting.specs.declared.source.SourceFault.{SourceFault}
@@ -19,14 +19,14 @@ use Rattle.pk_segment.specs.declared.fault.ReadFault.{ReadFault}
 use Rattle.pk_segment.specs.declared.fault.ReadFault.TheVariants.{Damaged, Disk, Memory}
 use Rattle.pk_segment.specs.Directory.{doc_in, EntrySays, FindsEntry}
 use Rattle.pk_segment.specs.Reading.{IsNoDamage, read_of, text_of}
-use Rattle.pk_segment.proofs.PlainLemmas.{parts_of, rise_in, rise_of, text_found, live_at, live_missing}
+use Rattle.pk_segment.proofs.SegmentLemmas.{parts_of, rise_in, rise_of, text_found, live_at, live_missing}
 
 -- the length of the segment of documents of the code
-pub size_all : (ds : List Document) → 24 + 12 * length ds + length (texts (docs_of ds)) ≡ plain_length (docs_of ds)
-size_all ds = let n = length-map ds doc_of in omega (arith, parts_of (docs_of ds), n)
+pub size_all : (ds : List Document) → 24 + 12 * length ds + length (texts (docs_of ds)) ≡ segment_length (docs_of ds) 1
+size_all ds = let n = length-map ds doc_of in omega (arith, parts_of (docs_of ds) 1, n)
 
 -- so many documents are too many
-pub size_large : (ds : List Document) → 89478485 < length ds → longest < plain_length (docs_of ds)
+pub size_large : (ds : List Document) → 89478485 < length ds → longest < segment_length (docs_of ds) 1
 size_large ds h = omega (arith, size_all ds)
 
 -- documents of the code whose numbers rise from 1 on are such as a segment may hold

@@ -4,11 +4,7 @@ use Rattle.std.specs.Global.{Vec}
 use Rattle.pk_model.specs.Collection.{Doc}
 use Rattle.pk_segment.specs.declared.building.BuildFault.{BuildFault}
 use Rattle.pk_segment.specs.declared.building.BuildFault.TheVariants.{TooLarge, Memory}
-use Rattle.pk_segment.specs.Plain.{plain_length, SegmentSpells, longest}
-
--- the length of the segment of a kind: of kind 1 so far
-abbrev pub segment_length : List Doc → ℕ → ℕ
-segment_length docs kind = plain_length docs
+use Rattle.pk_segment.specs.Spelling.{segment_length, SegmentSpells, longest}
 
 -- too large is what passes the longest segment, and memory may be refused
 abbrev pub BuildFails : List Doc → ℕ → BuildFault → Type 0

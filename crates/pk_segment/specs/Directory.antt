@@ -23,7 +23,7 @@ use Rattle.pk_model.specs.Collection.{Doc, is_live}
 use Rattle.pk_segment.specs.declared.directory.Directory.{Directory}
 use Rattle.pk_segment.specs.declared.directory.Entry.{Entry}
 use Rattle.pk_segment.specs.Fields.{number_at}
-use Rattle.pk_segment.specs.Plain.{SegmentSpells}
+use Rattle.pk_segment.specs.Spelling.{SegmentSpells}
 
 -- no document
 abbrev pub no_doc : Doc

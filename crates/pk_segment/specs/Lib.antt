@@ -1,6 +1,9 @@
 pub mod Building
 pub mod Directory
 pub mod Fields
+pub mod Indexed
+pub mod Listing
 pub mod Opened
-pub mod Plain
+pub mod Planning
 pub mod Reading
+pub mod Spelling

@@ -19,7 +19,7 @@ use Rattle.pk_posting.specs.declared.source.SourceFault.{SourceFault}
 use Rattle.pk_segment.specs.declared.header.Header.{Header}
 use Rattle.pk_segment.specs.declared.segment.Segment.{Segment}
 use Rattle.pk_segment.specs.Fields.{IsHeader, is_sound, header_field, entry_field, number_at}
-use Rattle.pk_segment.specs.Plain.{texts}
+use Rattle.pk_segment.specs.Spelling.{texts}
 use Rattle.pk_segment.specs.Reading.{IsNoDamage, read_of}
 
 -- how many documents it has

@@ -4,20 +4,23 @@ ghost use Rattle.std.specs.Prelude.{◌≡◌, ◌≤◌, ◌<◌, ◌+◌, ◌*
 ghost use Rattle.std.specs.List.Sorted.{IsStrictlyIncreasing};
 ghost use Rattle.pk_model.specs.Collection.{numbers_of};
 ghost use Rattle.pk_model.specs.Views.{doc_of};
+ghost use Rattle.pk_index.specs.Index.{Keeps};
 ghost use Rattle.pk_segment.specs.Building.{BuiltAs, SizedAs};
-ghost use Rattle.pk_segment.specs.Plain.{
+ghost use Rattle.pk_segment.specs.Spelling.{
+  IsKind,
   directory,
   directory_entry,
   docs_of,
   header,
   le32,
   longest,
-  plain_length,
-  plain_spelling,
+  segment_spelling,
   texts,
 };
 
 use crate::header::Header;
+use crate::indexing::{IndexPlan, index_of};
+use pk_index::Index;
 use pk_model::Document;
 use pk_model::limits::MAX_SEGMENT_BYTES;
 use std::alloc::{AllocError, Global};
@@ -45,24 +48,62 @@ impl From<AllocError> for BuildFault {
     }
 }
 
-/// The length in bytes of the segment of that kind of the documents.
-pub fn size_of(_alloc: Global, documents: &[Document], kind: u32) -> Result<u32, BuildFault>
-    requires kind { kind ≡ 1 }
+/// The length in bytes of the segment of that kind of the documents. In kind 1 it takes no memory.
+pub fn size_of(alloc: Global, documents: &[Document], kind: u32) -> Result<u32, BuildFault>
+    requires kind { IsKind kind }
     requires some { 0 < length documents.now }
     requires rising { IsStrictlyIncreasing (numbers_of (docs_of documents.now)) }
     requires least { All (λ d. 1 ≤ d.number.0) documents.now }
     ensures { SizedAs (docs_of documents.now) kind result }
 {
-    plain_size(documents)
+    if kind == 1 {
+        return plain_size(documents);
+    }
+    let index = index_of(alloc, documents)?;
+    let plan = IndexPlan::of(alloc, documents, &index)?;
+    Ok(plan.size())
 }
 
-/// The bytes of the segment of that kind of the documents, in memory that is taken once.
+/// The bytes of the segment of that kind of the documents, in memory that is taken once. For kind
+/// 2 the texts are cut into words first.
 pub fn build(alloc: Global, documents: &[Document], kind: u32) -> Result<Vec<u8>, BuildFault>
-    requires kind { kind ≡ 1 }
+    requires kind { IsKind kind }
     requires some { 0 < length documents.now }
     requires rising { IsStrictlyIncreasing (numbers_of (docs_of documents.now)) }
     requires least { All (λ d. 1 ≤ d.number.0) documents.now }
     ensures { BuiltAs (docs_of documents.now) kind result }
+{
+    if kind == 1 {
+        return build_plain(alloc, documents);
+    }
+    let index = index_of(alloc, documents)?;
+    build_indexed(alloc, documents, &index)
+}
+
+/// The bytes of the segment of kind 2 of the documents, whose index is at hand, in memory that is
+/// taken once.
+pub fn build_indexed(
+    alloc: Global,
+    documents: &[Document],
+    index: &Index,
+) -> Result<Vec<u8>, BuildFault>
+    requires some { 0 < length documents.now }
+    requires rising { IsStrictlyIncreasing (numbers_of (docs_of documents.now)) }
+    requires least { All (λ d. 1 ≤ d.number.0) documents.now }
+    requires index { Keeps index.now (docs_of documents.now) }
+    ensures { BuiltAs (docs_of documents.now) 2 result }
+{
+    let plan = IndexPlan::of(alloc, documents, index)?;
+    let bytes = plan.spell(alloc, documents, index)?;
+    Ok(bytes)
+}
+
+// The bytes of the segment of kind 1.
+fn build_plain(alloc: Global, documents: &[Document]) -> Result<Vec<u8>, BuildFault>
+    requires some { 0 < length documents.now }
+    requires rising { IsStrictlyIncreasing (numbers_of (docs_of documents.now)) }
+    requires least { All (λ d. 1 ≤ d.number.0) documents.now }
+    ensures { BuiltAs (docs_of documents.now) 1 result }
 {
     let size = plain_size(documents)?;
     let mut out = Vec::with_capacity(alloc, size as usize)?;
@@ -72,7 +113,7 @@ pub fn build(alloc: Global, documents: &[Document], kind: u32) -> Result<Vec<u8>
 }
 
 // The length of the segment of kind 1.
-fn plain_size(documents: &[Document]) -> Result<u32, BuildFault>
+pub(crate) fn plain_size(documents: &[Document]) -> Result<u32, BuildFault>
     ensures { SizedAs (docs_of documents.now) 1 result }
 {
     if documents.len() > 89_478_485 {
@@ -92,31 +133,43 @@ fn plain_size(documents: &[Document]) -> Result<u32, BuildFault>
 }
 
 // The segment of kind 1, whose texts have so many bytes.
-#[tactic(auto, unfolding(crate::specs::Plain::plain_spelling))]
+#[tactic(auto, unfolding(crate::specs::Spelling::segment_spelling))]
 fn put_plain(out: &mut Vec<u8>, documents: &[Document], text_bytes: u32) -> Result<(), AllocError>
     requires text_bytes { text_bytes ≡ length (texts (docs_of documents.now)) }
     requires count { length documents.now < 2 ^ 32 }
     ensures spelled { OnOk result (out.new.items
-        ≡ out.old.items ++ plain_spelling (docs_of documents.now)) }
+        ≡ out.old.items ++ segment_spelling (docs_of documents.now) 1) }
     ensures numbers { OnOk result (All (λ d. d.number.0 < 2 ^ 32) documents.now) }
 {
-    let count = documents.len() as u32;
-    put_header(
-        out,
-        Header {
-            kind: 1,
-            count,
-            texts: text_bytes,
-            postings: 0,
-            dictionary: 0,
-            terms: 0,
-        },
-    )?;
+    let header = Header {
+        kind: 1,
+        count: documents.len() as u32,
+        texts: text_bytes,
+        postings: 0,
+        dictionary: 0,
+        terms: 0,
+    };
+    put_front(out, header, documents)
+}
+
+// A header, and the directory and the texts of documents.
+pub(crate) fn put_front(
+    out: &mut Vec<u8>,
+    h: Header,
+    documents: &[Document],
+) -> Result<(), AllocError>
+    requires { length (texts (docs_of documents.now)) < 2 ^ 32 }
+    ensures spelled { OnOk result (out.new.items ≡ out.old.items
+        ++ (header h.kind h.count h.texts h.postings h.dictionary h.terms
+        ++ (directory 0 (docs_of documents.now) ++ texts (docs_of documents.now)))) }
+    ensures numbers { OnOk result (All (λ d. d.number.0 < 2 ^ 32) documents.now) }
+{
+    put_header(out, h)?;
     put_directory(out, documents)?;
     put_texts(out, documents)
 }
 
-#[tactic(auto, unfolding(crate::specs::Plain::header))]
+#[tactic(auto, unfolding(crate::specs::Spelling::header))]
 fn put_header(out: &mut Vec<u8>, h: Header) -> Result<(), AllocError>
     ensures { OnOk result (out.new.items
         ≡ out.old.items ++ header h.kind h.count h.texts h.postings h.dictionary h.terms) }
@@ -144,7 +197,7 @@ fn put_directory(out: &mut Vec<u8>, documents: &[Document]) -> Result<(), AllocE
     Ok(())
 }
 
-#[tactic(auto, unfolding(crate::specs::Plain::directory_entry))]
+#[tactic(auto, unfolding(crate::specs::Spelling::directory_entry))]
 fn put_entry(out: &mut Vec<u8>, d: &Document, at: u32) -> Result<(), AllocError>
     requires { length (doc_of d.now).text < 2 ^ 32 }
     ensures spelled { OnOk result (out.new.items
@@ -165,7 +218,7 @@ fn put_texts(out: &mut Vec<u8>, documents: &[Document]) -> Result<(), AllocError
     Ok(())
 }
 
-#[tactic(auto, unfolding(crate::specs::Plain::le32))]
+#[tactic(auto, unfolding(crate::specs::Spelling::le32))]
 fn put_u32(out: &mut Vec<u8>, n: u32) -> Result<(), AllocError>
     ensures { OnOk result (out.new.items ≡ out.old.items ++ le32 n) }
 {

@@ -1,5 +1,6 @@
 //! Why a segment was not read.
 
+use pk_dict::EntriesFault;
 use pk_posting::SourceFault;
 use std::alloc::AllocError;
 
@@ -24,6 +25,21 @@ impl From<SourceFault> for ReadFault {
         match fault {
             SourceFault::Damaged => ReadFault::Damaged,
             SourceFault::Disk => ReadFault::Disk,
+        }
+    }
+}
+
+impl From<EntriesFault> for ReadFault {
+    ghost use Rattle.std.specs.Prelude.{◌≡◌};
+    ghost use Rattle.pk_segment.specs.Listing.{read_entries};
+
+    ghost from_gives = { λ fault read. read ≡ read_entries fault };
+
+    fn from(fault: EntriesFault) -> ReadFault {
+        match fault {
+            EntriesFault::Damaged => ReadFault::Damaged,
+            EntriesFault::Disk => ReadFault::Disk,
+            EntriesFault::Memory => ReadFault::Memory,
         }
     }
 }

@@ -1,12 +1,18 @@
 //! What holds of the bytes of any segment.
 
-ghost use Rattle.std.specs.Prelude.{◌≡◌, ℕ, List, length};
+ghost use Rattle.std.specs.Prelude.{◌≡◌, ◌≤◌, ◌+◌, ℕ, List, length, take, drop};
+ghost use Rattle.pk_dict.specs.declared.entry.Entry.{Entry};
+ghost use Rattle.pk_dict.specs.Dictionary.{entry_of};
 ghost use Rattle.pk_model.specs.Collection.{Doc};
-ghost use Rattle.pk_segment.specs.Plain.{
+ghost use Rattle.pk_posting.specs.Spelling.{spelling as list_spelling};
+ghost use Rattle.pk_segment.specs.Indexed.{items_of, list_with};
+ghost use Rattle.pk_segment.specs.Listing.{IsEntryFor, LeadsTo, postings_at};
+ghost use Rattle.pk_segment.specs.Spelling.{
   DirectorySpells,
+  IndexSpells,
   SegmentSpells,
-  plain_length,
-  plain_spelling,
+  segment_length,
+  segment_spelling,
 };
 
 /// Bytes are the segment of one list of documents.
@@ -27,7 +33,25 @@ pub fn a_segment_has_its_directory()
         → DirectorySpells bytes docs kind }
 {}
 
-/// How long the segment of kind 1 is.
-pub fn a_plain_segment_has_its_length()
-    ensures { (docs : List Doc) → length (plain_spelling docs) ≡ plain_length docs }
+/// How long a segment is.
+pub fn a_segment_has_its_length()
+    ensures { (docs : List Doc) (kind : ℕ)
+        → length (segment_spelling docs kind) ≡ segment_length docs kind }
+{}
+
+/// A segment of kind 2 has its own index.
+pub fn a_segment_has_its_index()
+    ensures { (bytes : List ℕ) (docs : List Doc) → SegmentSpells bytes docs 2
+        → IndexSpells bytes docs }
+{}
+
+/// What the dictionary says of a word leads to the list of the documents that have it.
+pub fn an_entry_leads_to_its_list()
+    ensures entry { (docs : List Doc) (word : List ℕ)
+        → IsEntryFor docs word (entry_of (items_of docs) word) }
+    ensures list { (bytes : List ℕ) (docs : List Doc) (word : List ℕ) (e : Entry)
+        → IndexSpells bytes docs → LeadsTo docs word e
+        → (postings_at docs + e.place.at + e.place.bytes ≤ length bytes)
+        × (take e.place.bytes (drop (postings_at docs + e.place.at) bytes)
+        ≡ list_spelling (list_with word docs)) }
 {}

@@ -4,28 +4,36 @@
 //! the list of its documents: what is built spells them, and whoever opens bytes that spell them
 //! reads just them again (`laws::a_segment_is_of_one_list`).
 //!
-//! # The bytes of a segment of kind 1
+//! # The bytes of a segment
 //!
 //! | offset | field |
 //! |---|---|
-//! | 0 | the kind, 1 |
+//! | 0 | the kind, 1 or 2 |
 //! | 4 | document count c, at least 1 |
 //! | 8 | bytes of all texts T |
-//! | 12 | bytes of postings, 0 |
-//! | 16 | bytes of the dictionary, 0 |
-//! | 20 | number of terms, 0 |
+//! | 12 | bytes of postings P, 0 in kind 1 |
+//! | 16 | bytes of the dictionary G, 0 in kind 1 |
+//! | 20 | number of terms, 0 in kind 1 |
 //! | 24 | c directory entries of 12 bytes: number, offset of the text among the texts, its length |
 //! | 24 + 12c | the texts in order, without gaps, in UTF-8 |
+//! | + T | in kind 2 the posting list of each term, in the terms' order, without gaps |
+//! | + P | in kind 2 the dictionary of the terms |
 //!
 //! All fields are of 32 bits, lowest byte first. Numbers are at least 1 and rise strictly. The
-//! length is 24 + 12c + T, at most 1,073,741,824.
+//! length is 24 + 12c + T + P + G, at most 1,073,741,824.
+//!
+//! The terms are the words that occur in the documents, folded, rising by their bytes. A term's list
+//! has the numbers of the documents that hold it (pk_posting), and the dictionary says how many
+//! these are and where the list lies (pk_dict): an inverted index (Manning, Raghavan, Schütze,
+//! Introduction to Information Retrieval, 2008, chapter 1).
 //!
 //! # What is read
 //!
 //! `Segment::open` reads the header and the first and last entry, and takes no memory. `contains`
 //! halves the directory; `text_of` does so too, and then reads the one text, at most 4,096 bytes at
 //! once. Whoever wants many documents reads the `directory` into memory, in stretches as long, and
-//! then with `document_in` each text once. Each call that reads is handed the source;
+//! then with `document_in` each text once. Of kind 2, `list_of` looks a word up in the dictionary,
+//! `numbers_with` decodes its list, and `terms` gives all words. Each call that reads is handed the source;
 //! `ExtentSource` is the extent of a disk as one.
 //!
 //! # What is refused
@@ -33,14 +41,20 @@
 //! `build` and `size_of` answer `TooLarge` exactly where the length passes the limit, else at most
 //! `Memory`. On bytes that spell documents a reader answers by them, or `Disk` or `Memory`; on any
 //! others it returns. `open`, `contains`, `directory` and `numbers` go by the header and the
-//! directory alone, whatever bytes the texts are (`DirectorySpells`). `Disk` is answered exactly
+//! directory alone, whatever else the bytes are (`DirectorySpells`); `list_of`, `numbers_with` and
+//! `terms` by these and the index, whatever bytes the texts are (`IndexSpells`). `Disk` is answered exactly
 //! where a read failed. A refused call changed nothing but the counts, and may be made again. Of
 //! the disk below each reader's clause `keeps` tells, through the source, that it was only read.
 //!
-//! Where the words are: `specs/Plain` has the spelling, `specs/Opened` and `specs/Reading` what the
+//! `build` cuts texts into words only where no index of them is at hand; `build_indexed` takes one
+//! (pk_index). The lengths of all lists are known before the segment's memory is taken, once.
+//!
+//! Where the words are: `specs/Spelling` has the spelling, `specs/Indexed` the index behind the
+//! texts, `specs/Listing` what is answered of words, `specs/Planning` what is known before writing, `specs/Opened` and `specs/Reading` what the
 //! readers answer, `specs/Directory` what a directory in memory says; what is kept of a disk is
-//! `KeepsDisk` of pk_disk. Lemma pages: `PlainLemmas` reads a spelling again, field by field,
-//! `DirectoryLemmas` a directory, `ReadLemmas` and `OpeningLemmas` serve the readers.
+//! `KeepsDisk` of pk_disk. Lemma pages: `SegmentLemmas` reads a spelling again, field by
+//! field, `DirectoryLemmas` a directory, `IndexLemmas` and `ListingLemmas` the index, `PlanLemmas`
+//! serves its writing, `ReadLemmas` and `OpeningLemmas` the readers.
 #![tactic(auto)]
 
 mod building;
@@ -48,11 +62,13 @@ mod directory;
 mod extent;
 mod fault;
 mod header;
+mod indexing;
 pub mod laws;
+mod listing;
 mod segment;
 mod stretch;
 
-pub use building::{BuildFault, build, size_of};
+pub use building::{BuildFault, build, build_indexed, size_of};
 pub use directory::Directory;
 pub use extent::ExtentSource;
 pub use fault::ReadFault;

@@ -28,7 +28,8 @@ ghost use Rattle.pk_segment.specs.Directory.{
   number_in,
 };
 ghost use Rattle.pk_segment.specs.Fields.{entry_field, entry_numbers, number_at};
-ghost use Rattle.pk_segment.specs.Plain.{DirectorySpells, SegmentSpells};
+ghost use Rattle.pk_segment.specs.Listing.{postings_at};
+ghost use Rattle.pk_segment.specs.Spelling.{DirectorySpells, SegmentSpells};
 ghost use Rattle.pk_segment.specs.Reading.{
   ContainsAs,
   CountsReads,
@@ -153,6 +154,16 @@ impl Segment {
         ensures { result ≡ last_of self.now }
     {
         self.last
+    }
+
+    /// Where what follows the texts begins, counted from the start of the segment: in kind 2 the
+    /// posting lists.
+    pub fn postings(&self) -> u32
+        ensures value { result ≡ 24 + 12 * count_of self.now + texts_of self.now }
+        ensures documents { (docs : List Doc) → IsSegmentOf self.now docs
+            → result ≡ postings_at docs }
+    {
+        24 + 12 * self.count + self.texts
     }
 
     /// Whether it has the document of a number. It reads the directory by halving, and takes no

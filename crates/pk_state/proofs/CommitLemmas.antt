@@ -1,15 +1,14 @@
 -- What is committed after a commit stands for what is there now.
-use Rattle.std.proofs.Common.{◌≡◌, ◌⊎◌, inl, inr, ℕ, zero, suc, ◌+◌, ◌<◌, ◌≤◌, ◌||◌, eqb, leb, get_or, Bool, true, false, not, cond, List, [], ◌∷◌, ◌++◌, length, refl, sym, ◌∙◌, ap, subst, arith}
-use Rattle.std.specs.Prelude.{Contains, filter, slice_index_or, if◌then◌else◌}
-use Rattle.std.specs.List.{AllByRecursion, list_any}
-use Rattle.std.specs.List.Sorted.{IsStrictlyIncreasing}
-use Rattle.std.proofs.lemmas.Bool.{both_ways, cond_both, eqb-true, eq-eqb, le-leb, leb-false, leb-true, lt-leb, not-true}
+use Rattle.std.proofs.Common.{◌≡◌, ℕ, ◌<◌, ◌≤◌, leb, Bool, true, false, not, cond, List, [], ◌∷◌, ◌++◌, refl, sym, ◌∙◌, ap, subst, arith}
+use Rattle.std.specs.Prelude.{Contains, filter, if◌then◌else◌}
+use Rattle.std.specs.List.{AllByRecursion}
+use Rattle.std.proofs.lemmas.Bool.{both_ways, cond_both, le-leb, leb-false, leb-true, lt-leb, not-true}
 use Rattle.std.proofs.lemmas.List.{append-nil}
 use Rattle.std.proofs.lemmas.List.Concat.{flat_map-cons}
 use Rattle.std.proofs.lemmas.List.Elements.{filter-append, recursion_from_All}
 use Rattle.pk_disk.specs.declared.units.Extent.{Extent}
 use Rattle.pk_manifest.specs.Sound.{named}
-use Rattle.pk_model.specs.Collection.{Doc, Collection, is_live, numbers_of}
+use Rattle.pk_model.specs.Collection.{Doc, Collection, is_live}
 use Rattle.pk_model.specs.Steps.{commit}
 use Rattle.pk_posting.specs.Spelling.{spelled_length}
 use Rattle.pk_space.specs.Places.{PlacedAs}
@@ -18,7 +17,7 @@ use Rattle.pk_state.specs.Legal.{State, Writes}
 use Rattle.pk_state.specs.States.{IsState}
 use Rattle.pk_state.specs.Writing.{after_commit, commit_writes, lists_to_write, new_stored, segment_writes, stored_after}
 use Rattle.pk_state.proofs.MergeLemmas.{all_kept, collection, live_append}
-use Rattle.pk_state.proofs.MemberLemmas.{Above, In, above_filter, above_first, above_in, filter_quiet, filter_same, filter_twice, from_all, in_back, in_filter, in_from, in_front, is_false, listed, live_says, lower, out_filter, same_members, says_live, unique}
+use Rattle.pk_state.proofs.MemberLemmas.{Above, In, above_filter, above_first, filter_quiet, filter_same, filter_twice, from_all, in_back, in_filter, in_from, in_front, is_false, listed, live_says, out_filter, same_members, says_live, unique}
 use Rattle.pk_state.proofs.WholeLemmas.{LiveAs, all_cons, collection_above, live_each, live_is, not_live, number_within}
 
 -- ---- the deletion lists that a commit writes

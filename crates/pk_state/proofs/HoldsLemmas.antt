@@ -1,5 +1,5 @@
 -- What a disk keeps for a body, what its bytes hold, and that these say the same.
-use Rattle.std.proofs.Common.{◌≡◌, ℕ, ◌+◌, ◌*◌, ◌/◌, ◌<◌, ◌≤◌, ◌&&◌, Bool, true, false, eqb, leb, ltb, List, [], ◌∷◌, ◌++◌, length, take, drop, Option, Some, None, refl, sym, ◌∙◌, ap, subst, arith, length-drop}
+use Rattle.std.proofs.Common.{◌≡◌, inl, inr, ℕ, zero, suc, ◌+◌, ◌*◌, ◌/◌, ◌<◌, ◌≤◌, ◌&&◌, Bool, true, false, eqb, leb, ltb, List, [], ◌∷◌, ◌++◌, length, take, drop, Option, Some, None, refl, sym, ◌∙◌, ap, subst, arith, length-drop}
 use Rattle.std.specs.List.{AllByRecursion, flat_map, list_all}
 use Rattle.std.proofs.Math.Nat.{lt-mul-div-succ, min-le_left, mul-div-le}
 use Rattle.std.proofs.lemmas.Bool.{and_parts, eqb-true, leb-true, ltb-true}
@@ -28,11 +28,12 @@ use Rattle.pk_posting.proofs.SpellingLemmas.{length_spelling, spelling_spells}
 use Rattle.pk_posting.specs.Posting.{Spells}
 use Rattle.pk_replace.specs.Claims.{Claim, Each, IsThere}
 use Rattle.pk_replace.specs.Held.{Has}
-use Rattle.pk_segment.specs.Plain.{SegmentSpells, plain_length}
-use Rattle.pk_segment.proofs.PlainLemmas.{length_plain, one_plain}
+use Rattle.pk_segment.specs.Spelling.{IsKind, SegmentSpells, segment_length}
+use Rattle.pk_segment.proofs.SegmentLemmas.{length_segment}
+use Rattle.pk_segment.proofs.SegmentLemmas.{one_list as one_segment}
 use Rattle.pk_state.specs.Committed.{Stored, Committed, collection_of, whole_of}
 use Rattle.pk_state.specs.Holds.{AgreeWith, Holds, ListSpells, SpellsEntries, SpellsEntry}
-use Rattle.pk_state.specs.Kept.{AreEntries, EndsInside, IsKept, IsList, IsSegment, LieInside, ListEndsInside, claims_in, claims_of, list_claims, segment_claim}
+use Rattle.pk_state.specs.Kept.{AreEntries, EndsInside, HaveKinds, IsKept, IsList, IsSegment, LieInside, ListEndsInside, claims_in, claims_of, list_claims, segment_claim}
 use Rattle.pk_state.proofs.CallerLemmas.{held_closed, held_has, held_now}
 
 -- ---- claims that are put together
@@ -106,6 +107,31 @@ lie_each units size next room (e ∷ es) h =
 pub lie_inside : (bytes : List ℕ) (b : Body) → IsBody (units_of_disk bytes) b → LieInside (length bytes) b.entries
 lie_inside bytes b is = lie_each (units_of_disk bytes) (length bytes) b.next_segment (units_room (length bytes)) b.entries (sound_says (units_of_disk bytes) b is).parts
 
+-- ---- a sound body's entries are of kinds that are read
+
+kind_of : (k : ℕ) → 1 ≤ k → k ≤ 2 → IsKind k
+kind_of zero least most = absurd (omega (arith, least))
+kind_of (suc zero) least most = inl refl
+kind_of (suc (suc zero)) least most = inr refl
+kind_of (suc (suc (suc k))) least most = absurd (omega (arith, most))
+
+entry_kind : (units next : ℕ) (e : Entry) → is_part units next e ≡ true → IsKind e.kind
+entry_kind units next e h =
+    let a = and_parts (leb 1 e.segment && ltb e.segment next && leb 1 e.kind && leb e.kind 2 && is_extent units 1 e.extent) (is_dead units e.dead) h in
+    let b = and_parts (leb 1 e.segment && ltb e.segment next && leb 1 e.kind && leb e.kind 2) (is_extent units 1 e.extent) a.0 in
+    let c = and_parts (leb 1 e.segment && ltb e.segment next && leb 1 e.kind) (leb e.kind 2) b.0 in
+    let d = and_parts (leb 1 e.segment && ltb e.segment next) (leb 1 e.kind) c.0 in
+    kind_of e.kind (leb-true _ _ d.1) (leb-true _ _ c.1)
+
+kinds_each : (units next : ℕ) (es : List Entry) → list_all (is_part units next) es ≡ true → HaveKinds es
+kinds_each units next [] h = All-nil (λ (e : Entry). IsKind e.kind)
+kinds_each units next (e ∷ es) h =
+    let parts = and_parts (is_part units next e) (list_all (is_part units next) es) h in
+    All-cons (λ (x : Entry). IsKind x.kind) e es (entry_kind units next e parts.0) (kinds_each units next es parts.1)
+
+pub have_kinds : (units : ℕ) (b : Body) → IsBody units b → HaveKinds b.entries
+have_kinds units b is = kinds_each units b.next_segment b.entries (sound_says units b is).parts
+
 -- ---- what entries spell, as claims
 
 -- an extent within a disk has all its bytes
@@ -114,21 +140,18 @@ length_extent bytes e room = length-take-le e.bytes (drop (start_of e) bytes) (o
 
 spelled_segment : (bytes : List ℕ) (e : Entry) (s : Stored) → start_of e.extent + e.extent.bytes ≤ length bytes → SegmentSpells (extent_bytes bytes e.extent) s.documents e.kind → IsSegment e s × IsThere bytes (segment_claim e s)
 spelled_segment bytes e s room spells =
-    let plain = spells.1 in
-    let long : e.extent.bytes ≡ plain_length s.documents = sym (length_extent bytes e.extent room) ∙ ap length plain.same ∙ length_plain s.documents in (
-      record { kind = spells.0; are = plain.are; fits = plain.fits; long = long },
-      ap (λ (n : ℕ). take n (drop (start_of e.extent) bytes)) (length_plain s.documents ∙ sym long) ∙ plain.same,
+    let long : e.extent.bytes ≡ segment_length s.documents e.kind = sym (length_extent bytes e.extent room) ∙ ap length spells.same ∙ length_segment s.documents e.kind in (
+      record { kind = spells.is_kind; are = spells.are; fits = spells.fits; long = long },
+      ap (λ (n : ℕ). take n (drop (start_of e.extent) bytes)) (length_segment s.documents e.kind ∙ sym long) ∙ spells.same,
     )
 
 segment_spelled : (bytes : List ℕ) (e : Entry) (s : Stored) → IsSegment e s → IsThere bytes (segment_claim e s) → SegmentSpells (extent_bytes bytes e.extent) s.documents e.kind
-segment_spelled bytes e s is there = (
-  is.kind,
-  record {
-    are = is.are;
-    fits = is.fits;
-    same = ap (λ (n : ℕ). take n (drop (start_of e.extent) bytes)) (is.long ∙ sym (length_plain s.documents)) ∙ there;
-  },
-)
+segment_spelled bytes e s is there = record {
+  is_kind = is.kind;
+  are = is.are;
+  fits = is.fits;
+  same = ap (λ (n : ℕ). take n (drop (start_of e.extent) bytes)) (is.long ∙ sym (length_segment s.documents e.kind)) ∙ there;
+}
 
 spelled_list : (bytes : List ℕ) (list : Option Extent) (s : Stored) → ListEndsInside (length bytes) list → ListSpells bytes list s → IsList list s × Each (IsThere bytes) (list_claims list s.dead)
 spelled_list bytes None s room spells = (spells, tt)
@@ -222,7 +245,7 @@ one_list bytes (Some e) s t x y = one_posting (spelling t.dead) s.dead t.dead
 
 one_entry : (bytes : List ℕ) (e : Entry) (a b : Stored) → SpellsEntry bytes e a → SpellsEntry bytes e b → a ≡ b
 one_entry bytes e a b x y =
-    ap (λ ds. stored_of ds a.dead) (one_plain (extent_bytes bytes e.extent) a.documents b.documents x.segment.1 y.segment.1)
+    ap (λ ds. stored_of ds a.dead) (one_segment (extent_bytes bytes e.extent) a.documents b.documents e.kind e.kind x.segment y.segment)
     ∙ ap (λ ns. stored_of b.documents ns) (one_list bytes e.dead a b x.list y.list)
 
 pub one_stored : (bytes : List ℕ) (es : List Entry) (a b : List Stored) → SpellsEntries bytes es a → SpellsEntries bytes es b → a ≡ b

@@ -2,7 +2,7 @@
 use Rattle.std.proofs.Common.{◌≡◌, ◌↔◌, inl, inr, ℕ, ◌+◌, ◌&&◌, eqb, true, false, not, List, [], ◌∷◌, ◌++◌, length, take, drop, Option, Some, None, refl, sym, ◌∙◌, ap, arith}
 use Rattle.std.specs.Prelude.{is_some}
 use Rattle.std.specs.List.{flat_map}
-use Rattle.std.proofs.lemmas.Bool.{and_parts, cases_order, eqb-true}
+use Rattle.std.proofs.lemmas.Bool.{and_parts, cases_order, eq-eqb, eqb-true}
 use Rattle.std.proofs.lemmas.List.{drop-drop, take-append-drop}
 use Rattle.std.proofs.lemmas.Grind.{flat_map-append}
 use Rattle.std.proofs.lemmas.List.Concat.{flat_map-cons}
@@ -16,7 +16,7 @@ use Rattle.pk_space.specs.Places.{PlacedAs}
 use Rattle.pk_state.specs.Committed.{Stored, Committed, collection_of, live_in, live_of}
 use Rattle.pk_state.specs.Legal.{State, Writes, marked}
 use Rattle.pk_state.specs.Merged.{HasNothingToMerge}
-use Rattle.pk_state.specs.Writing.{IsTidyRun, after_merge, is_merged, new_stored, run_documents, segment_writes}
+use Rattle.pk_state.specs.Writing.{IsTidyRun, after_merge, is_merged, new_stored, run_documents, segment_writes, written_kind}
 
 -- ---- the run of a tidy
 
@@ -36,16 +36,16 @@ no_list (Some e) h = absurd (let f : false ≡ true = h in cc)
 to_merged : (entries : List Entry) → is_merged entries ≡ true → HasNothingToMerge entries
 to_merged [] h = inl refl
 to_merged (e ∷ []) h =
-    let parts = and_parts (eqb e.kind 1) (not (is_some e.dead)) h in
+    let parts = and_parts (eqb e.kind written_kind) (not (is_some e.dead)) h in
     inr (record { entry = e; alone = refl; kind = eqb-true _ _ parts.0; no_list = no_list e.dead parts.1 })
 to_merged (e ∷ f ∷ es) h = absurd (let no : false ≡ true = h in cc)
 
-plain_entry : (e : Entry) → e.kind ≡ 1 → e.dead ≡ None → (eqb e.kind 1 && not (is_some e.dead)) ≡ true
-plain_entry e kind none = ap (λ k. eqb k 1 && not (is_some e.dead)) kind ∙ ap (λ d. not (is_some d)) none
+done_entry : (e : Entry) → e.kind ≡ written_kind → e.dead ≡ None → (eqb e.kind written_kind && not (is_some e.dead)) ≡ true
+done_entry e kind none = let same : eqb e.kind written_kind ≡ true = eq-eqb e.kind written_kind kind in rw (same, none) refl
 
 from_merged : (entries : List Entry) → HasNothingToMerge entries → is_merged entries ≡ true
 from_merged entries (inl none) = ap is_merged none
-from_merged entries (inr one) = ap is_merged one.alone ∙ plain_entry one.entry one.kind one.no_list
+from_merged entries (inr one) = ap is_merged one.alone ∙ done_entry one.entry one.kind one.no_list
 
 pub merged_says : (entries : List Entry) → (is_merged entries ≡ true) ↔ HasNothingToMerge entries
 merged_says entries = (to_merged entries, from_merged entries)

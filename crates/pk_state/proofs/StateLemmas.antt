@@ -1,10 +1,9 @@
 -- A legal step keeps what is true of a state.
-use Rattle.std.proofs.Common.{ℕ, ◌≡◌, ◌⊎◌, inl, inr, ◌+◌, ◌-◌, ◌<◌, ◌≤◌, leb, Bool, true, false, not, cond, List, [], ◌∷◌, ◌++◌, take, drop, length, refl, sym, ◌∙◌, ap, subst, arith, Ok, Err, Result}
-use Rattle.std.specs.Prelude.{All, Contains, filter, if◌then◌else◌}
-use Rattle.std.specs.List.{flat_map}
+use Rattle.std.proofs.Common.{ℕ, ◌≡◌, inl, inr, ◌+◌, ◌-◌, ◌<◌, ◌≤◌, leb, Bool, true, false, not, List, [], ◌∷◌, ◌++◌, take, drop, length, refl, sym, ◌∙◌, ap, subst, arith, Ok, Err, Result}
+use Rattle.std.specs.Prelude.{All, Contains, if◌then◌else◌}
 use Rattle.std.proofs.lemmas.Bool.{cond_both, leb-true}
 use Rattle.std.proofs.lemmas.Grind.{flat_map-append}
-use Rattle.std.proofs.lemmas.List.{drop-drop, take-append-drop, append-nil}
+use Rattle.std.proofs.lemmas.List.{append-nil}
 use Rattle.std.proofs.lemmas.List.Elements.{recursion_from_All}
 use Rattle.pk_disk.specs.declared.units.Extent.{Extent}
 use Rattle.pk_model.specs.declared.commands.Refusal.{Refusal}
@@ -14,13 +13,13 @@ use Rattle.pk_manifest.specs.Sound.{named}
 use Rattle.pk_space.specs.Places.{PlacedAs}
 use Rattle.pk_model.specs.Steps.{Answer, Request, add, after_one, commit, count, delete, find, merge, show, tidy}
 use Rattle.pk_model.proofs.CollectionLemmas.{keeps}
-use Rattle.pk_state.specs.Committed.{Stored, Committed, all_in, collection_of, deleted_of, has_documents, is_pending, live_in, uncommitted, whole_of}
+use Rattle.pk_state.specs.Committed.{Stored, Committed, all_in, collection_of, has_documents, is_pending, uncommitted, whole_of}
 use Rattle.pk_state.specs.Legal.{Accepts, GoesOn, LegalStep, State, Writes, has_work, marked}
 use Rattle.pk_state.specs.States.{IsState}
 use Rattle.pk_state.specs.Writing.{after_commit, after_merge, commit_writes, lists_to_write, new_stored, run_documents, stored_after}
 use Rattle.pk_state.proofs.CommitLemmas.{commit_marks, no_documents, none_placed}
 use Rattle.pk_state.proofs.FollowsLemmas.{listed_anew}
-use Rattle.pk_state.proofs.MemberLemmas.{Above, In, above_filter, all_from, contains_from, from_all, in_either, in_one, out_filter}
+use Rattle.pk_state.proofs.MemberLemmas.{In, above_filter, all_from, contains_from, from_all, in_either, in_one, out_filter}
 use Rattle.pk_state.proofs.MergeLemmas.{merge_keeps, three_parts, tidy_keeps}
 use Rattle.pk_state.proofs.SessionLemmas.{Same, refuses_same}
 use Rattle.pk_state.proofs.WholeLemmas.{Sub, above_append, above_raise, all_cons, collection_above, collection_from, live_is, live_sub, number_within, part_is, sub_append, sub_refl}

@@ -11,8 +11,9 @@ use Rattle.pk_state.specs.Committed.{Stored, has_documents, is_pending, live_in,
 use Rattle.pk_state.specs.Legal.{State, has_work, marked}
 use Rattle.pk_state.specs.Merged.{HasNothingToMerge}
 use Rattle.pk_state.specs.States.{IsState}
-use Rattle.pk_segment.specs.Plain.{plain_length}
-use Rattle.pk_state.specs.Writing.{is_too_large, stored_after}
+use Rattle.pk_segment.specs.Spelling.{segment_length}
+use Rattle.pk_state.specs.Writing.{is_too_large, stored_after, written_kind}
+use Rattle.pk_state.proofs.KindLemmas.{header_alone}
 use Rattle.pk_state.proofs.CommitLemmas.{is_gone, lives, no_documents, without_new}
 use Rattle.pk_state.proofs.MemberLemmas.{In, from_all, in_back, in_front, says_live}
 use Rattle.pk_state.proofs.FollowsLemmas.{listed_anew}
@@ -88,9 +89,8 @@ one_or : (b : Bool) → (b || false) ≡ b
 one_or true = refl
 one_or false = refl
 
-pub too_large : (docs : List Doc) → (is_too_large docs ≡ true) ↔ (1073741824 < plain_length docs)
-unfolding plain_length
-too_large [] = (λ h. absurd (let no : false ≡ true = h in cc), λ h. absurd (omega (arith, h)))
+pub too_large : (docs : List Doc) → (is_too_large docs ≡ true) ↔ (1073741824 < segment_length docs written_kind)
+too_large [] = (λ h. absurd (let no : false ≡ true = h in cc), λ h. absurd (omega (arith, h, header_alone written_kind)))
 too_large (d ∷ docs) =
-    let long = plain_length (d ∷ docs) in
+    let long = segment_length (d ∷ docs) written_kind in
     (λ h. ltb-true 1073741824 long (sym (one_or (ltb 1073741824 long)) ∙ h), λ h. one_or (ltb 1073741824 long) ∙ lt-ltb 1073741824 long h)

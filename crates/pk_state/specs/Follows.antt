@@ -8,9 +8,10 @@ use Rattle.pk_manifest.specs.declared.manifest.Part.{Part as Entry}
 use Rattle.pk_manifest.specs.Spelling.{Body}
 use Rattle.pk_model.specs.Collection.{Doc, Collection, is_live, numbers_of}
 use Rattle.pk_posting.specs.Spelling.{spelled_length}
-use Rattle.pk_segment.specs.Plain.{plain_length}
+use Rattle.pk_segment.specs.Spelling.{segment_length}
 use Rattle.pk_state.specs.Committed.{Stored, Committed, is_pending, lists, live_in, uncommitted}
 use Rattle.pk_state.specs.Legal.{State}
+use Rattle.pk_state.specs.Writing.{written_kind}
 
 -- the body is the next one: a generation later, with this next number and so many more ids given
 pub record IsNext (old new : Body) (next given : ℕ) : Type 0 where
@@ -19,16 +20,16 @@ pub record IsNext (old new : Body) (next given : ℕ) : Type 0 where
   pub next_number : new.next_number ≡ next
   pub next_segment : new.next_segment ≡ old.next_segment + given
 
--- the one entry of a new segment: of the next id, of kind 1, without a list, and as long as the
--- segment of its documents
+-- the one entry of a new segment: of the next id, of the kind that is written, without a list, and
+-- as long as the segment of its documents
 pub record IsAdded (b : Body) (docs : List Doc) (entries : List Entry) (stored : List Stored)
     : Type 0 where
   pub entry : Entry
   pub alone : entries ≡ entry ∷ []
   pub segment : entry.segment ≡ b.next_segment
-  pub kind : entry.kind ≡ 1
+  pub kind : entry.kind ≡ written_kind
   pub no_list : entry.dead ≡ None
-  pub long : entry.extent.bytes ≡ plain_length docs
+  pub long : entry.extent.bytes ≡ segment_length docs written_kind
   pub stands_for : stored ≡ record { documents = docs; dead = [] } ∷ []
 
 -- there is one for documents, and none for no document

@@ -9,7 +9,7 @@ use Rattle.pk_manifest.specs.Bodies.{body_of, has_open_gate}
 use Rattle.pk_manifest.specs.Current.{HasBody}
 use Rattle.pk_manifest.specs.Sound.{named}
 use Rattle.pk_manifest.specs.Spelling.{Body}
-use Rattle.pk_segment.specs.Plain.{SegmentSpells}
+use Rattle.pk_segment.specs.Spelling.{SegmentSpells}
 use Rattle.pk_model.specs.Collection.{Collection, IsCollection}
 use Rattle.pk_posting.specs.Posting.{IsPosting}
 use Rattle.pk_posting.specs.Spelling.{spelling}
@@ -27,8 +27,8 @@ abbrev pub ListSpells : List ℕ → Option Extent → Stored → Type 0
 ListSpells bytes None s = s.dead ≡ []
 ListSpells bytes (Some e) s = SpellsList bytes e s
 
--- The entry is a segment of kind 1, whose extent spells the documents, and its deletion list
--- spells the dead numbers.
+-- The entry's extent is the segment of its kind of the documents, and its deletion list spells the
+-- dead numbers.
 pub record SpellsEntry (bytes : List ℕ) (e : Entry) (s : Stored) : Type 0 where
   pub segment : SegmentSpells (extent_bytes bytes e.extent) s.documents e.kind
   pub list : ListSpells bytes e.dead s

@@ -12,15 +12,17 @@ use Rattle.pk_posting.specs.Posting.{IsPosting}
 use Rattle.pk_posting.specs.Spelling.{spelled_length, spelling}
 use Rattle.pk_replace.specs.Claims.{Claim}
 use Rattle.pk_replace.specs.Held.{IsHeld}
-use Rattle.pk_segment.specs.Plain.{AreDocuments, longest, plain_length, plain_spelling}
+use Rattle.pk_segment.specs.Spelling.{AreDocuments, IsKind, longest}
+use Rattle.pk_segment.specs.Spelling.{segment_length, segment_spelling}
 use Rattle.pk_state.specs.Committed.{Stored, Committed, Names}
 
--- THE ENTRY IS A SEGMENT of these documents, with a list of these dead numbers: all but the bytes.
+-- THE ENTRY IS A SEGMENT of its kind of these documents, with a list of these dead numbers: all but
+-- the bytes.
 pub record IsSegment (e : Entry) (s : Stored) : Type 0 where
-  pub kind : e.kind ≡ 1
+  pub kind : IsKind e.kind
   pub are : AreDocuments s.documents
-  pub fits : plain_length s.documents ≤ longest
-  pub long : e.extent.bytes ≡ plain_length s.documents
+  pub fits : segment_length s.documents e.kind ≤ longest
+  pub long : e.extent.bytes ≡ segment_length s.documents e.kind
 
 -- the list of these dead numbers: as many bytes, and numbers of the documents
 pub record IsListOf (e : Extent) (s : Stored) : Type 0 where
@@ -56,10 +58,14 @@ abbrev pub LieInside : ℕ → List Entry → Type 0
 LieInside size entries =
     All (λ (e : Entry). EndsInside size e.extent × ListEndsInside size e.dead) entries
 
--- CLAIMS, by their kinds: the spelling of the documents in the entry's extent, and that of the dead
--- numbers in its list's
+-- each entry is of a kind that is read
+abbrev pub HaveKinds : List Entry → Type 0
+HaveKinds entries = All (λ (e : Entry). IsKind e.kind) entries
+
+-- CLAIMS: the segment of the documents in the entry's extent, and the list of the dead numbers in
+-- its list's
 abbrev pub segment_claim : Entry → Stored → Claim
-segment_claim e s = record { at = start_of e.extent; bytes = plain_spelling s.documents }
+segment_claim e s = record { at = start_of e.extent; bytes = segment_spelling s.documents e.kind }
 
 abbrev pub list_claims : Option Extent → List ℕ → List Claim
 list_claims None dead = []

@@ -9,18 +9,18 @@ use Rattle.pk_manifest.specs.Spelling.{Body}
 use Rattle.pk_model.specs.Collection.{Doc, Collection}
 use Rattle.pk_model.specs.Limits.{max_segment_bytes, tidy_run}
 use Rattle.pk_posting.specs.Spelling.{spelled_length}
-use Rattle.pk_segment.specs.Plain.{plain_length}
+use Rattle.pk_segment.specs.Spelling.{segment_length}
 use Rattle.pk_state.specs.Committed.{Stored, Committed, live_in, uncommitted, deleted_of}
 use Rattle.pk_state.specs.Committed.{is_pending, has_documents}
 
 -- the kind of the segments that are written
-abbrev pub written_kind : ℕ
+unfoldable pub written_kind : ℕ
 written_kind = 1
 
 -- SEGMENTS. The byte lengths of the segment of these documents: none without a document.
 abbrev pub segment_writes : List Doc → List ℕ
 segment_writes [] = []
-segment_writes (d ∷ docs) = plain_length (d ∷ docs) ∷ []
+segment_writes (d ∷ docs) = segment_length (d ∷ docs) written_kind ∷ []
 
 -- that segment would pass the limit
 abbrev pub is_too_large : List Doc → Bool

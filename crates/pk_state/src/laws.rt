@@ -9,7 +9,7 @@ ghost use Rattle.pk_manifest.specs.Spelling.{Body};
 ghost use Rattle.pk_model.specs.declared.commands.Refusal.{Refusal};
 ghost use Rattle.pk_model.specs.Collection.{Collection, Doc, IsCollection};
 ghost use Rattle.pk_model.specs.Steps.{Answer, Request, commit, merge, tidy};
-ghost use Rattle.pk_segment.specs.Plain.{plain_length};
+ghost use Rattle.pk_segment.specs.Spelling.{segment_length};
 ghost use Rattle.pk_state.specs.Committed.{Committed, collection_of, whole_of};
 ghost use Rattle.pk_state.specs.Follows.{Commits, Replaces};
 ghost use Rattle.pk_state.specs.Holds.{AgreeWith, Holds};
@@ -19,7 +19,7 @@ ghost use Rattle.pk_state.specs.Legal.{Writes, has_work, marked};
 ghost use Rattle.pk_state.specs.Merged.{HasNothingToMerge};
 ghost use Rattle.pk_state.specs.Session.{Session, Tells, next_session};
 ghost use Rattle.pk_state.specs.States.{IsState};
-ghost use Rattle.pk_state.specs.Writing.{IsTidyRun, is_merged, is_too_large};
+ghost use Rattle.pk_state.specs.Writing.{IsTidyRun, is_merged, is_too_large, written_kind};
 
 /// A legal step goes over to the sessions that give what the store means: the log gains what was
 /// accepted, an accepted commit moves the mark to its end, and nothing else changes.
@@ -79,7 +79,7 @@ pub fn a_merge_changes_no_document()
 /// Documents are too large for a segment just where its bytes would pass 1,073,741,824.
 pub fn what_is_too_large()
     ensures { (docs : List Doc)
-        → (is_too_large docs ≡ true) ↔ (1073741824 < plain_length docs) }
+        → (is_too_large docs ≡ true) ↔ (1073741824 < segment_length docs written_kind) }
 {}
 
 /// Entries have at most one run that a tidy merges.

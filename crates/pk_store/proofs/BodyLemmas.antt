@@ -15,11 +15,12 @@ use Rattle.pk_model.specs.Limits.{end_of_ids, end_of_numbers}
 use Rattle.pk_posting.specs.Spelling.{spelling}
 use Rattle.pk_posting.proofs.SpellingLemmas.{length_spelling}
 use Rattle.pk_replace.specs.Claims.{Claim}
-use Rattle.pk_segment.proofs.PlainLemmas.{length_plain}
+use Rattle.pk_segment.proofs.SegmentLemmas.{length_segment}
 use Rattle.pk_state.specs.Committed.{Stored}
 use Rattle.pk_state.specs.Kept.{AreEntries, IsList, claims_in, claims_of, list_claims, segment_claim}
-use Rattle.pk_state.specs.Writing.{new_entry, next_body}
+use Rattle.pk_state.specs.Writing.{new_entry, next_body, written_kind}
 use Rattle.pk_state.proofs.HoldsLemmas.{fitted_entry, fitted_list}
+use Rattle.pk_state.proofs.KindLemmas.{kind_within, written_is_kind}
 use Rattle.pk_store.specs.Placed.{AreLaid}
 use Rattle.pk_store.proofs.ExtentLemmas.{laid_append, lies_in}
 
@@ -119,7 +120,8 @@ next_sound units b next given entries is left ids some most few parts own places
 -- the entry of a new segment in an extent of the disk
 pub new_part : (units : ℕ) (b : Body) (e : Extent) → 1 ≤ b.next_segment → 1 ≤ e.bytes → e.bytes ≤ 1073741824 → IsFitted e → lies_within units e ≡ true → is_part units (b.next_segment + 1) (new_entry b e) ≡ true
 new_part units b e id least most fitted within =
-    and_from _ _ (and_from _ _ (and_from _ _ (and_from _ _ (and_from _ _ (le-leb _ _ id) (lt-ltb b.next_segment (b.next_segment + 1) (omega arith))) refl) refl)
+    let kind = kind_within written_kind written_is_kind in
+    and_from _ _ (and_from _ _ (and_from _ _ (and_from _ _ (and_from _ _ (le-leb _ _ id) (lt-ltb b.next_segment (b.next_segment + 1) (omega arith))) (le-leb _ _ kind.0)) (le-leb _ _ kind.1))
     (and_from _ _ (and_from _ _ (and_from _ _ (le-leb _ _ least) (le-leb _ _ most)) (eqb_same _ _ fitted)) within)) refl
 
 -- that of a new list
@@ -159,5 +161,5 @@ entries_laid units next (e ∷ es) (x ∷ stored) h are =
     let segment = are.0.segment in
     subst (λ (xs : List Extent). AreLaid xs (claims_of (e ∷ es) (x ∷ stored))) (sym (flat_map-cons extents_of e es))
     (laid_append (extents_of e) (flat_map extents_of es) (claims_in e x) (claims_of es stored)
-    (lies_in e.extent (segment_claim e x) (fitted_entry units next e both.0).0 refl (length_plain x.documents ∙ sym segment.long), list_laid units e.dead x (list_of_part units next e both.0) are.0.list)
+    (lies_in e.extent (segment_claim e x) (fitted_entry units next e both.0).0 refl (length_segment x.documents e.kind ∙ sym segment.long), list_laid units e.dead x (list_of_part units next e both.0) are.0.list)
     (entries_laid units next es stored both.1 are.1))

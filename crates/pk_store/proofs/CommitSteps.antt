@@ -20,14 +20,14 @@ use Rattle.pk_space.proofs.Placing.{full_is_shorter}
 use Rattle.pk_state.specs.Committed.{Stored, Committed, collection_of, has_documents, live_in, live_of, uncommitted, whole_of}
 use Rattle.pk_state.specs.Holds.{HoldsOne}
 use Rattle.pk_state.specs.Legal.{State, Fails, GoesOn, IsTooLarge, LegalStep, Writes, due, has_work, is_used_up, marked}
-use Rattle.pk_state.specs.Writing.{after_commit, commit_writes, entries_after, is_too_large, new_entry, new_stored, next_body, segment_writes, stored_after}
+use Rattle.pk_state.specs.Writing.{after_commit, commit_writes, entries_after, is_too_large, new_entry, new_stored, next_body, segment_writes, stored_after, written_kind}
 use Rattle.pk_store.specs.declared.planning.Plan.{Plan}
 use Rattle.pk_store.specs.Plan.{Carries, DueAs, Goes, PlansAs, PlansCommit, commit_bytes, commit_to, new_lists, new_segments, relisted}
 use Rattle.pk_posting.specs.Spelling.{spelling as list_spelling}
 use Rattle.pk_search.specs.declared.opened.OpenSegment.{OpenSegment}
 use Rattle.pk_search.specs.Opened.{AreOpenOf, pends, present}
 use Rattle.pk_search.proofs.FindingLemmas.{opened_long}
-use Rattle.pk_segment.proofs.PlainLemmas.{length_plain}
+use Rattle.pk_segment.proofs.SegmentLemmas.{length_segment}
 use Rattle.pk_state.proofs.StateLemmas.{whole_committed}
 use Rattle.pk_store.proofs.PresentLemmas.{AreAsOpen, any_pending, entries_are, entries_even, is_state, lists_are, settled_present, store_as_open, stored_are}
 use Rattle.pk_store.proofs.RelistLemmas.{all_settled}
@@ -67,7 +67,7 @@ writes_are c now os docs is = (λ i. segment_writes (is.fresh i) ++ lists_are no
   where
     segment_long : (ds : List Doc) → segment_writes ds ≡ map length (new_segments ds)
     segment_long [] = refl
-    segment_long (d ∷ ds) = ap (λ n. n ∷ []) (sym (length_plain (d ∷ ds)))
+    segment_long (d ∷ ds) = ap (λ n. n ∷ []) (sym (length_segment (d ∷ ds) written_kind))
 
 -- what is committed, by its body
 abbrev with_stored : Body → List Stored → Committed

@@ -1,5 +1,5 @@
 -- A committed document deleted: the segment at its place has room for one number more, the open segments stay those of the entries, and what lives loses that document alone.
-use Rattle.std.proofs.Common.{◌≡◌, ◌∙◌, ℕ, zero, suc, ◌+◌, ◌*◌, ◌<◌, ◌≤◌, ◌^◌, ◌||◌, ◌&&◌, ◌==◌, Bool, true, false, not, filter, List, [], ◌∷◌, ◌++◌, length, get_or, set, refl, sym, ap, subst, arith, Result, Ok, Err, Option, Some, None}
+use Rattle.std.proofs.Common.{◌≡◌, ◌∙◌, ℕ, zero, suc, ◌+◌, ◌<◌, ◌≤◌, ◌^◌, ◌||◌, ◌&&◌, ◌==◌, Bool, true, false, not, filter, List, [], ◌∷◌, ◌++◌, length, get_or, set, refl, sym, ap, subst, arith, Result, Ok, Err, Option, Some, None}
 use Rattle.std.specs.List.{AllByRecursion}
 use Rattle.std.specs.List.Sorted.{IsStrictlyIncreasing}
 use Rattle.std.proofs.Math.Bool.{or-true}
@@ -23,8 +23,8 @@ use Rattle.pk_search.specs.declared.opened.OpenSegment.{OpenSegment}
 use Rattle.pk_search.specs.Opened.{AreOpenOf, IsOpenOf, documents_at, present, with_deleted}
 use Rattle.pk_search.proofs.LookUpLemmas.{all_present, live-first, live-second}
 use Rattle.pk_segment.specs.Opened.{count_of}
-use Rattle.pk_segment.specs.Plain.{plain_length, texts}
-use Rattle.pk_segment.proofs.PlainLemmas.{parts_of}
+use Rattle.pk_segment.specs.Spelling.{segment_length}
+use Rattle.pk_segment.proofs.SegmentLemmas.{parts_of}
 use Rattle.pk_state.specs.Committed.{Committed, Stored, all_in, live_in, live_of, lists, whole_of}
 use Rattle.pk_state.specs.Holds.{SpellsEntries}
 use Rattle.pk_state.specs.Kept.{AreEntries, IsEntry, IsKept}
@@ -112,8 +112,8 @@ module _ (o : OpenSegment) (s : Stored) (e : Entry) (n : ℕ) (is : IsOpenOf o s
 
   room : length o.deleted < 134217728
   room =
-      let long : plain_length s.documents ≡ 24 + 12 * length s.documents + length (texts s.documents) = parts_of s.documents in
-      let fits : plain_length s.documents ≤ 1073741824 = entry.segment.fits in
+      let long = parts_of s.documents e.kind in
+      let fits : segment_length s.documents e.kind ≤ 1073741824 = entry.segment.fits in
       let few = fewer in
       omega arith
 

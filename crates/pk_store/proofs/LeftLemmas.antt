@@ -11,8 +11,9 @@ use Rattle.pk_model.specs.Collection.{Doc, is_live, numbers_of}
 use Rattle.pk_posting.specs.Posting.{IsPosting}
 use Rattle.pk_search.specs.declared.opened.OpenSegment.{OpenSegment}
 use Rattle.pk_search.specs.Opened.{AreOpenOf, IsOpenOf, present, with_deleted}
-use Rattle.pk_segment.proofs.PlainLemmas.{parts_of}
+use Rattle.pk_segment.proofs.SegmentLemmas.{parts_of}
 use Rattle.pk_state.specs.Committed.{Stored, all_in, lists, live_in, live_of}
+use Rattle.pk_state.specs.Writing.{written_kind}
 use Rattle.pk_state.proofs.MemberLemmas.{Above, In, filter_same, filter_twice, in_back, in_filter, in_front, is_false, listed, live_says, out_filter, says_live}
 use Rattle.pk_state.proofs.WholeLemmas.{above_apart, above_back, all_cons, increasing, live_cons, live_sub, sub_above, sub_in}
 use Rattle.pk_store.specs.Merging.{AreTooMany, is_pending_in, is_pending_of}
@@ -48,11 +49,11 @@ few_named ns docs is rise names =
     let few = no_longer ns (numbers_of docs) (posting_rises ns is) (increasing 0 docs rise) (λ k h. listed k docs ∙ names k h) in
     omega (arith, few, length-map docs (λ (d : Doc). d.number))
 
-few_merged : (docs : List Doc) (bytes : Option (Vec ℕ Global)) → IsMerged docs 1 bytes → length docs < 134217728
+few_merged : (docs : List Doc) (bytes : Option (Vec ℕ Global)) → IsMerged docs written_kind bytes → length docs < 134217728
 few_merged docs None is = omega (arith, ap length is)
-few_merged docs (Some v) is = omega (arith, is.1.fits, parts_of docs)
+few_merged docs (Some v) is = omega (arith, is.fits, parts_of docs written_kind)
 
-pub not_too_many : (os : List OpenSegment) (stored : List Stored) (bytes : Option (Vec ℕ Global)) → AreOpenOf os stored → Above 0 (all_in stored) → IsMerged (live_in stored) 1 bytes → AreTooMany os → ⊥
+pub not_too_many : (os : List OpenSegment) (stored : List Stored) (bytes : Option (Vec ℕ Global)) → AreOpenOf os stored → Above 0 (all_in stored) → IsMerged (live_in stored) written_kind bytes → AreTooMany os → ⊥
 not_too_many os stored bytes are rise merged many =
     let docs = live_in stored in
     let few = few_named many.numbers docs many.posting (sub_above 0 docs (all_in stored) (live_sub stored) rise) (λ k h. pending_names k os stored are (many.pending k h)) in

@@ -25,13 +25,13 @@ use Rattle.pk_replace.specs.Claims.{AreApart, Claim, Each, IsAmong, IsInside, Is
 use Rattle.pk_replace.specs.Course.{touched_by}
 use Rattle.pk_search.specs.declared.opened.OpenSegment.{OpenSegment}
 use Rattle.pk_search.specs.Opened.{AreOpenOf, IsOpenOf, present}
-use Rattle.pk_segment.specs.Plain.{SegmentSpells, longest, plain_length}
-use Rattle.pk_segment.proofs.PlainLemmas.{parts_of}
+use Rattle.pk_segment.specs.Spelling.{SegmentSpells, longest, segment_length}
 use Rattle.pk_space.specs.Places.{FullAs, PlacedAs}
 use Rattle.pk_state.specs.Committed.{Committed, Stored, all_in, live_in, whole_of}
 use Rattle.pk_state.specs.Kept.{AreEntries, claims_of}
-use Rattle.pk_state.specs.Writing.{after_merge, is_too_large, new_entry, new_stored, next_body, replaced, segment_writes}
+use Rattle.pk_state.specs.Writing.{after_merge, is_too_large, new_entry, new_stored, next_body, replaced, segment_writes, written_kind}
 use Rattle.pk_state.proofs.HoldsLemmas.{units_room}
+use Rattle.pk_state.proofs.KindLemmas.{header_alone, written_is_kind}
 use Rattle.pk_state.proofs.MemberLemmas.{Above}
 use Rattle.pk_state.proofs.WholeLemmas.{collection_above}
 use Rattle.pk_store.specs.declared.planning.Plan.{Plan}
@@ -48,24 +48,24 @@ use Rattle.pk_store.proofs.PlacingLemmas.{some_bytes, spelled_length}
 -- ---- the one segment, and the body with it
 
 -- documents that fit
-spells_fits : (docs : List Doc) (v : Vec ℕ Global) → SegmentSpells v.items docs 1 → (length v.items ∷ [] ≡ segment_writes docs) × (is_too_large docs ≡ false)
-spells_fits [] v spells = absurd (omega (arith, spells.1.are.some))
+spells_fits : (docs : List Doc) (v : Vec ℕ Global) → SegmentSpells v.items docs written_kind → (length v.items ∷ [] ≡ segment_writes docs) × (is_too_large docs ≡ false)
+spells_fits [] v spells = absurd (omega (arith, spells.are.some))
 spells_fits (d ∷ docs) v spells = (
   ap (λ n. n ∷ []) (spelled_length v.items (d ∷ docs) spells).0,
-  or_from (nat_lt longest (plain_length (d ∷ docs))) false (le-ltb longest (plain_length (d ∷ docs)) spells.1.fits) refl,
+  or_from (nat_lt longest (segment_length (d ∷ docs) written_kind)) false (le-ltb longest (segment_length (d ∷ docs) written_kind) spells.fits) refl,
 )
 
-merged_fits : (docs : List Doc) (bytes : Option (Vec ℕ Global)) → IsMerged docs 1 bytes → (map length (merge_bytes bytes) ≡ segment_writes docs) × (is_too_large docs ≡ false)
+merged_fits : (docs : List Doc) (bytes : Option (Vec ℕ Global)) → IsMerged docs written_kind bytes → (map length (merge_bytes bytes) ≡ segment_writes docs) × (is_too_large docs ≡ false)
 merged_fits docs None is = (ap segment_writes (sym is), ap is_too_large is)
 merged_fits docs (Some v) is = spells_fits docs v is
 
 -- and documents that don't
-pub passes_limit : (docs : List Doc) → longest < plain_length docs → is_too_large docs ≡ true
-passes_limit [] long = absurd (omega (arith, long, parts_of []))
-passes_limit (d ∷ docs) long = or_left (nat_lt longest (plain_length (d ∷ docs))) false (lt-ltb longest (plain_length (d ∷ docs)) long)
+pub passes_limit : (docs : List Doc) → longest < segment_length docs written_kind → is_too_large docs ≡ true
+passes_limit [] long = absurd (omega (arith, long, header_alone written_kind))
+passes_limit (d ∷ docs) long = or_left (nat_lt longest (segment_length (d ∷ docs) written_kind)) false (lt-ltb longest (segment_length (d ∷ docs) written_kind) long)
 
 -- each length is at least 1
-some_lengths : (bytes : Option (Vec ℕ Global)) → IsSomeMerged 1 bytes → AllByRecursion (λ (n : ℕ). 1 ≤ n) (map length (merge_bytes bytes))
+some_lengths : (bytes : Option (Vec ℕ Global)) → IsSomeMerged written_kind bytes → AllByRecursion (λ (n : ℕ). 1 ≤ n) (map length (merge_bytes bytes))
 some_lengths None some = tt
 some_lengths (Some v) some = (some_bytes v.items some.0 some.1, tt)
 
@@ -109,7 +109,7 @@ module _ (size : ℕ) (b : Body) (is : IsBody (units_in size) b) (generation : b
         next_untouched s size (laid_in es writes) claims (laid_inside units size (units_room size) (named b) claims named_there.1 laid)
         (laid_missed (named b) es claims (laid_in es writes) laid (laid_all units (named b) writes es here) there.1)
 
-  sound_merged : (bytes : Option (Vec ℕ Global)) (es : List Extent) → IsSomeMerged 1 bytes → PlacedAs b.units (named b) (map length (merge_bytes bytes)) es → IsBody units (body_merged b es)
+  sound_merged : (bytes : Option (Vec ℕ Global)) (es : List Extent) → IsSomeMerged written_kind bytes → PlacedAs b.units (named b) (map length (merge_bytes bytes)) es → IsBody units (body_merged b es)
   sound_merged None [] some placed = sound_none
   sound_merged None (e ∷ es) some placed = absurd placed
   sound_merged (Some v) [] some placed = absurd placed
@@ -130,7 +130,7 @@ module _ (size : ℕ) (b : Body) (is : IsBody (units_in size) b) (generation : b
       (ap length are.1, All-same IsGrown merged (o ∷ []) are.1 (All-cons IsGrown o [] grown (All-nil IsGrown)))
 
   -- IT IS A PLAN
-  pub merge_is_plan : (opened : List OpenSegment) (bytes : Option (Vec ℕ Global)) (p : Plan) → IsSomeMerged 1 bytes → PlansMerged b opened bytes (Ok p) → IsPlan size b p
+  pub merge_is_plan : (opened : List OpenSegment) (bytes : Option (Vec ℕ Global)) (p : Plan) → IsSomeMerged written_kind bytes → PlansMerged b opened bytes (Ok p) → IsPlan size b p
   merge_is_plan opened bytes p some (merged, are, es, placed, plan) =
       let many = as_many bytes opened merged es are placed in
       let lengths = some_lengths bytes some in
@@ -201,14 +201,14 @@ module _ (b : Body) (opened : List OpenSegment) (stored : List Stored) (are : Ar
   abbrev left : List Doc
   left = live_in stored
 
-  entries_merged : (bytes : Option (Vec ℕ Global)) (es : List Extent) → IsMerged left 1 bytes → PlacedAs b.units (named b) (map length (merge_bytes bytes)) es → AreEntries (body_merged b es).entries (stored_merged left es)
+  entries_merged : (bytes : Option (Vec ℕ Global)) (es : List Extent) → IsMerged left written_kind bytes → PlacedAs b.units (named b) (map length (merge_bytes bytes)) es → AreEntries (body_merged b es).entries (stored_merged left es)
   entries_merged None [] is placed = tt
   entries_merged None (e ∷ es) is placed = absurd placed
   entries_merged (Some v) [] is placed = absurd placed
   entries_merged (Some v) (e ∷ es) is placed =
-      (record { segment = record { kind = refl; are = is.1.are; fits = is.1.fits; long = placed.0.long ∙ (spelled_length v.items left is).0 }; list = refl }, tt)
+      (record { segment = record { kind = written_is_kind; are = is.are; fits = is.fits; long = placed.0.long ∙ (spelled_length v.items left is).0 }; list = refl }, tt)
 
-  one_open : (v : Vec ℕ Global) (o : OpenSegment) → SegmentSpells v.items left 1 → IsMergedOpen opened v.items o → IsOpenOf o (new_stored left)
+  one_open : (v : Vec ℕ Global) (o : OpenSegment) → SegmentSpells v.items left written_kind → IsMergedOpen opened v.items o → IsOpenOf o (new_stored left)
   one_open v o is m = record {
     segment = m.segment left is;
     dead = m.no_list;
@@ -218,13 +218,13 @@ module _ (b : Body) (opened : List OpenSegment) (stored : List Stored) (are : Ar
     was = subst IsPosting (sym m.no_list) posting_none;
   }
 
-  open_merged : (bytes : Option (Vec ℕ Global)) (merged : List OpenSegment) (es : List Extent) → IsMerged left 1 bytes → AreMerged opened bytes merged → PlacedAs b.units (named b) (map length (merge_bytes bytes)) es → AreOpenOf merged (stored_merged left es)
+  open_merged : (bytes : Option (Vec ℕ Global)) (merged : List OpenSegment) (es : List Extent) → IsMerged left written_kind bytes → AreMerged opened bytes merged → PlacedAs b.units (named b) (map length (merge_bytes bytes)) es → AreOpenOf merged (stored_merged left es)
   open_merged None merged [] is m placed = subst (λ os. AreOpenOf os []) (sym m) tt
   open_merged None merged (e ∷ es) is m placed = absurd placed
   open_merged (Some v) merged [] is m placed = absurd placed
   open_merged (Some v) merged (e ∷ es) is m placed = subst (λ os. AreOpenOf os (new_stored left ∷ [])) (sym m.1) (one_open v m.0 is m.2, tt)
 
-  now_merged : (bytes : Option (Vec ℕ Global)) (merged : List OpenSegment) (es : List Extent) → IsMerged left 1 bytes → AreMerged opened bytes merged → PlacedAs b.units (named b) (map length (merge_bytes bytes)) es
+  now_merged : (bytes : Option (Vec ℕ Global)) (merged : List OpenSegment) (es : List Extent) → IsMerged left written_kind bytes → AreMerged opened bytes merged → PlacedAs b.units (named b) (map length (merge_bytes bytes)) es
       → live_in (present merged (stored_merged left es)) ≡ live_in (present opened stored)
   now_merged None merged [] is m placed = ap (λ os. live_in (present os [])) m ∙ none_now opened stored are rise is
   now_merged None merged (e ∷ es) is m placed = absurd placed
@@ -232,12 +232,12 @@ module _ (b : Body) (opened : List OpenSegment) (stored : List Stored) (are : Ar
   now_merged (Some v) merged (e ∷ es) is m placed =
       ap (λ os. live_in (present os (new_stored left ∷ []))) m.1 ∙ one_now opened stored left m.0.deleted are rise refl m.2.deleted
 
-  among_merged : (olds : List Claim) (bytes : Option (Vec ℕ Global)) (es : List Extent) → IsMerged left 1 bytes → PlacedAs b.units (named b) (map length (merge_bytes bytes)) es
+  among_merged : (olds : List Claim) (bytes : Option (Vec ℕ Global)) (es : List Extent) → IsMerged left written_kind bytes → PlacedAs b.units (named b) (map length (merge_bytes bytes)) es
       → Each (λ c. IsAmong c olds ⊎ IsAmong c (laid_in es (merge_bytes bytes))) (claims_of (body_merged b es).entries (stored_merged left es))
   among_merged olds None [] is placed = tt
   among_merged olds None (e ∷ es) is placed = absurd placed
   among_merged olds (Some v) [] is placed = absurd placed
-  among_merged olds (Some v) (e ∷ es) is placed = (inr (inl (ap (claim_at e) (sym is.1.same))), tt)
+  among_merged olds (Some v) (e ∷ es) is placed = (inr (inl (ap (claim_at e) (sym is.same))), tt)
 
 -- IT TAKES WHAT IS COMMITTED OVER
 module _ (size : ℕ) (b : Body) (is : IsBody (units_in size) b) (generation : b.generation < end_of_ids) (ids : b.next_segment < end_of_ids) (opened : List OpenSegment) (stored : List Stored)
@@ -248,7 +248,7 @@ module _ (size : ℕ) (b : Body) (is : IsBody (units_in size) b) (generation : b
   rise : Above 0 (all_in stored)
   rise = collection_above (whole_of (record { body = b; stored = stored })) numbers
 
-  pub merge_plans : (bytes : Option (Vec ℕ Global)) (p : Plan) → IsMerged docs 1 bytes → PlansMerged b opened bytes (Ok p) → PlansMerge b opened stored p
+  pub merge_plans : (bytes : Option (Vec ℕ Global)) (p : Plan) → IsMerged docs written_kind bytes → PlansMerged b opened bytes (Ok p) → PlansMerge b opened stored p
   merge_plans bytes p merged_is (merged, m, es, placed, plan) =
       let after = after_all b stored es entries in
       let lengths = some_lengths bytes (docs, merged_is) in
@@ -270,7 +270,7 @@ module _ (size : ℕ) (b : Body) (is : IsBody (units_in size) b) (generation : b
       }
 
   -- or there is none
-  pub merge_answers : (bytes : Option (Vec ℕ Global)) (r : Result Plan Refusal) → IsMerged docs 1 bytes → PlansMerged b opened bytes r → PlansMergeAs b opened stored r
+  pub merge_answers : (bytes : Option (Vec ℕ Global)) (r : Result Plan Refusal) → IsMerged docs written_kind bytes → PlansMerged b opened bytes r → PlansMergeAs b opened stored r
   merge_answers bytes (Ok p) merged_is plans = merge_plans bytes p merged_is plans
   merge_answers bytes (Err (Full need largest)) merged_is plans =
       let fits = merged_fits docs bytes merged_is in
@@ -287,7 +287,7 @@ module _ (size : ℕ) (b : Body) (is : IsBody (units_in size) b) (generation : b
   merge_answers bytes (Err TooManySegments) merged_is plans = absurd plans
 
 -- nor where nothing was merged
-pub fault_answers : (b : Body) (opened : List OpenSegment) (stored : List Stored) (fault : MergeFault) → MergedAs (live_in stored) 1 (Err fault) → PlansMergeAs b opened stored (Err (merge_refusal fault))
+pub fault_answers : (b : Body) (opened : List OpenSegment) (stored : List Stored) (fault : MergeFault) → MergedAs (live_in stored) written_kind (Err fault) → PlansMergeAs b opened stored (Err (merge_refusal fault))
 fault_answers b opened stored merging.TooLarge h = passes_limit (live_in stored) h
 fault_answers b opened stored merging.Damaged h = absurd h
 fault_answers b opened stored merging.Disk h = tt
@@ -298,7 +298,7 @@ same_number : (b : Body) (extents : List Extent) → (body_merged b extents).nex
 same_number b [] = refl
 same_number b (e ∷ extents) = refl
 
-pub merge_rightly : (size : ℕ) (b : Body) → IsBody (units_in size) b → b.generation < end_of_ids → b.next_segment < end_of_ids → (opened : List OpenSegment) (bytes : Option (Vec ℕ Global)) (r : Result Plan Refusal) → IsSomeMerged 1 bytes → PlansMerged b opened bytes r → PlansMergeRightly size b r
+pub merge_rightly : (size : ℕ) (b : Body) → IsBody (units_in size) b → b.generation < end_of_ids → b.next_segment < end_of_ids → (opened : List OpenSegment) (bytes : Option (Vec ℕ Global)) (r : Result Plan Refusal) → IsSomeMerged written_kind bytes → PlansMerged b opened bytes r → PlansMergeRightly size b r
 merge_rightly size b is generation ids opened bytes (Ok p) some plans =
     (merge_is_plan size b is generation ids opened bytes p some plans, ap (λ (x : Body). x.next_number) plans.4.manifest_is ∙ same_number b plans.2)
 merge_rightly size b is generation ids opened bytes (Err (Full need largest)) some plans = (map length (merge_bytes bytes), plans)

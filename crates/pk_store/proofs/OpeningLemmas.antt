@@ -25,14 +25,14 @@ use Rattle.pk_segment.specs.declared.header.Header.{Header}
 use Rattle.pk_segment.specs.declared.segment.Segment.{Segment}
 use Rattle.pk_segment.specs.Fields.{IsHeader, entry_field, header_field, number_at}
 use Rattle.pk_segment.specs.Opened.{IsOpened, IsSegmentOf, count_of, first_of, last_of}
-use Rattle.pk_segment.specs.Plain.{PlainSpells, texts}
+use Rattle.pk_segment.specs.Spelling.{SegmentSpells, texts}
 use Rattle.pk_segment.proofs.OpeningLemmas.{counted, in_order, long_enough, number_there, texts_counted, whole}
-use Rattle.pk_segment.proofs.PlainLemmas.{length_parts, length_plain}
+use Rattle.pk_segment.proofs.SegmentLemmas.{parts_of}
 use Rattle.pk_store.specs.declared.opening.Found.{Found}
 use Rattle.pk_store.specs.declared.refused.OpenFault.{OpenFault}
 use Rattle.pk_store.specs.declared.refused.OpenFault.TheVariants.{TooSmall, NotAStore, Damaged, Disk, Memory}
-use Rattle.pk_store.specs.Judging.{JudgesFound, IsLarge, IsOpenSoFar, OpensAsPlain, OpensNext, SegmentAs, SegmentsAs, body_fault}
-use Rattle.pk_store.specs.Opening.{IsFresh, IsNoStoreFault, IsStoreOf, IsUncalled, OnSynced, OpenAsSegments, OpensAsList, OpensAsStore, OpensAsSegment, RefusesOpening, SpellsFew}
+use Rattle.pk_store.specs.Judging.{JudgesFound, IsLarge, IsOpenSoFar, OpensNext, SegmentAs, SegmentsAs, body_fault}
+use Rattle.pk_store.specs.Opening.{ExtentOpensAs, IsFresh, IsNoStoreFault, IsStoreOf, IsUncalled, OnSynced, OpenAsSegments, OpensAsList, OpensAsStore, OpensAsSegment, RefusesOpening, SpellsFew}
 use Rattle.pk_store.specs.View.{IsBuffered, IsGrown, IsReady, StoreView, committed_by, state_with, volume_of}
 use Rattle.pk_store.proofs.StoreSteps.{clear_flag}
 use Rattle.pk_state.specs.Committed.{Names, Stored, all_in, collection_of, lists, live_in, whole_of}
@@ -157,12 +157,12 @@ list_opens bytes (Some e) count s spells rising long =
 -- ---- one entry
 
 -- a fault of the segment is one of the entry
-pub fault_plain : (bytes : List ℕ) (e : Entry) (why : OpenFault) → SegmentAs (OpensAsPlain bytes e) (Err why) → SegmentAs (OpensAsSegment bytes e) (Err why)
-fault_plain bytes e TooSmall h = h
-fault_plain bytes e NotAStore h = h
-fault_plain bytes e Damaged h = λ o opens. h o.segment (opens.kind, opens.opened)
-fault_plain bytes e Disk h = tt
-fault_plain bytes e Memory h = tt
+pub fault_segment : (bytes : List ℕ) (e : Entry) (why : OpenFault) → SegmentAs (ExtentOpensAs bytes e) (Err why) → SegmentAs (OpensAsSegment bytes e) (Err why)
+fault_segment bytes e TooSmall h = h
+fault_segment bytes e NotAStore h = h
+fault_segment bytes e Damaged h = λ o opens. h o.segment opens.opened
+fault_segment bytes e Disk h = tt
+fault_segment bytes e Memory h = tt
 
 -- a fault of an entry is one of its segment with bounds
 pub fault_next : (bytes : List ℕ) (low next : ℕ) (e : Entry) (why : OpenFault) → SegmentAs (OpensAsSegment bytes e) (Err why) → SegmentAs (OpensNext bytes low next e) (Err why)
@@ -187,7 +187,7 @@ module _ (bytes : List ℕ) (next : ℕ) (entries : List Entry) (low : ℕ) (seg
     where
       behind : (rest : List OpenSegment) × OpenAsSegments bytes low next (e ∷ left) rest → (rest : List OpenSegment) × OpenAsSegments bytes (last_of s.segment) next left rest
       behind ([], opens) = absurd opens
-      behind (t ∷ rest, opens) = (rest, subst (λ (n : ℕ). OpenAsSegments bytes n next left rest) (same_ends (extent_bytes bytes e.extent) e.extent.bytes 1 t.segment s.segment opens.0.opened here.0.opened).1 opens.3)
+      behind (t ∷ rest, opens) = (rest, subst (λ (n : ℕ). OpenAsSegments bytes n next left rest) (same_ends (extent_bytes bytes e.extent) e.extent.bytes e.kind t.segment s.segment opens.0.opened here.0.opened).1 opens.3)
 
   -- where it is damaged, the entries open as no segments
   pub none_open : (e : Entry) (left : List Entry) → IsOpenSoFar bytes next entries low segments (e ∷ left) → ((s : OpenSegment) → OpensNext bytes low next e s → ⊥) → (all : List OpenSegment) → OpenAsSegments bytes 0 next entries all → ⊥
@@ -279,22 +279,22 @@ header_in bytes = record {
 header_read : (bytes : List ℕ) → IsHeader (header_field bytes) (header_in bytes)
 header_read bytes = record { kind_is = refl; count_is = refl; texts_is = refl; postings_is = refl; dictionary_is = refl; terms_is = refl }
 
-pub opens : (bytes : List ℕ) (docs : List Doc) (size : ℕ) → PlainSpells bytes docs → size ≡ length bytes → (s : Segment) × IsOpened bytes size 1 s
-opens bytes docs size is long =
+pub opens : (bytes : List ℕ) (docs : List Doc) (kind size : ℕ) → SegmentSpells bytes docs kind → size ≡ length bytes → (s : Segment) × IsOpened bytes size kind s
+opens bytes docs kind size is long =
     let h = header_in bytes in
     let read = header_read bytes in
-    let count : h.count ≡ length docs = counted bytes docs h is read in
-    let text : h.texts ≡ length (texts docs) = texts_counted bytes docs h is read in
-    let fits : 24 + 12 * h.count + h.texts < 2 ^ 32 = omega (arith, count, text, length_plain docs, length_parts docs, is.fits) in
+    let count : h.count ≡ length docs = counted bytes docs kind h is read in
+    let text : h.texts ≡ length (texts docs) = texts_counted bytes docs kind h is read in
+    let fits : 24 + 12 * h.count + h.texts < 2 ^ 32 = omega (arith, count, text, parts_of docs kind, is.fits) in
     let first = number_at 0 (entry_field bytes 0) in
     let last = number_at 0 (entry_field bytes (h.count - 1)) in
-    let order = in_order bytes docs first last is refl (ap (λ (n : ℕ). number_at 0 (entry_field bytes (n - 1))) count) in (
+    let order = in_order bytes docs kind first last is refl (ap (λ (n : ℕ). number_at 0 (entry_field bytes (n - 1))) count) in (
       record { count = h.count; texts = h.texts; first = first; last = last; fits = fits },
       record {
         header = h;
         read = read;
-        sound = whole bytes docs 1 size h is read refl long;
-        inside = omega (arith, count, long_enough bytes docs is);
+        sound = whole bytes docs kind size h is read long;
+        inside = omega (arith, count, long_enough bytes docs kind is);
         count_is = refl;
         texts_is = refl;
         first_is = refl;
@@ -304,15 +304,15 @@ opens bytes docs size is long =
       },
     )
 
-pub segment_of : (bytes : List ℕ) (docs : List Doc) (size : ℕ) (s : Segment) → IsOpened bytes size 1 s → PlainSpells bytes docs → IsSegmentOf s docs
-segment_of bytes docs size s opened is =
+pub segment_of : (bytes : List ℕ) (docs : List Doc) (kind size : ℕ) (s : Segment) → IsOpened bytes size kind s → SegmentSpells bytes docs kind → IsSegmentOf s docs
+segment_of bytes docs kind size s opened is =
     let some = is.are.some in
-    let count = counted bytes docs opened.header is opened.read in
+    let count = counted bytes docs kind opened.header is opened.read in
     record {
       count_is = opened.count_is ∙ count;
-      texts_is = opened.texts_is ∙ texts_counted bytes docs opened.header is opened.read;
-      first_is = number_there bytes docs 0 (first_of s) is some opened.first_is;
-      last_is = number_there bytes docs (length docs - 1) (last_of s) is (omega arith) (opened.last_is ∙ ap (λ (n : ℕ). number_at 0 (entry_field bytes (n - 1))) count);
+      texts_is = opened.texts_is ∙ texts_counted bytes docs kind opened.header is opened.read;
+      first_is = number_there bytes docs kind 0 (first_of s) is some opened.first_is;
+      last_is = number_there bytes docs kind (length docs - 1) (last_of s) is (omega arith) (opened.last_is ∙ ap (λ (n : ℕ). number_at 0 (entry_field bytes (n - 1))) count);
     }
 
 -- an open segment is that of the entry's documents, with its dead numbers
@@ -322,7 +322,7 @@ is_open bytes e o s opened spells =
     let all : o.deleted ≡ s.dead = opened.deleted ∙ was in
     let posting = list_posting bytes e.dead s spells.list in
     record {
-      segment = segment_of (extent_bytes bytes e.extent) s.documents e.extent.bytes o.segment opened.opened spells.segment.1;
+      segment = segment_of (extent_bytes bytes e.extent) s.documents e.kind e.extent.bytes o.segment opened.opened spells.segment;
       dead = was;
       kept = λ n is. ap (lists n) all ∙ is;
       names = subst (λ (ns : List ℕ). Names ns s.documents) (sym all) (list_names bytes e.dead s spells.list);
@@ -407,7 +407,7 @@ rise_through bytes low next [] (x ∷ stored) spells h = absurd spells
 rise_through bytes low next (e ∷ es) [] spells h = absurd spells
 rise_through bytes low next (e ∷ es) (x ∷ stored) spells h =
     let docs = x.documents in
-    let parts = rises_split low next docs (all_in stored) spells.0.segment.1.are.some (subst (Rises low next) (all_cons x stored) h) in
+    let parts = rises_split low next docs (all_in stored) spells.0.segment.are.some (subst (Rises low next) (all_cons x stored) h) in
     (parts.0, parts.1, rise_through bytes (slice_index (numbers_of docs) (length docs - 1)) next es stored spells.1 parts.2)
 
 abbrev InsideEntry : ℕ → Entry → Type 0
@@ -422,14 +422,14 @@ entries_open bytes low next (e ∷ es) [] inside spells rise = absurd spells
 entries_open bytes low next (e ∷ es) (x ∷ stored) inside spells rise =
     let docs = x.documents in
     let room = All-head (InsideEntry (length bytes)) e es inside in
-    let plain = spells.0.segment.1 in
+    let segment = spells.0.segment in
     let long = length_extent bytes e.extent room.0 in
-    let one = opens (extent_bytes bytes e.extent) docs e.extent.bytes plain (sym long) in
-    let of = segment_of (extent_bytes bytes e.extent) docs e.extent.bytes one.0 one.1 plain in
+    let one = opens (extent_bytes bytes e.extent) docs e.kind e.extent.bytes segment (sym long) in
+    let of = segment_of (extent_bytes bytes e.extent) docs e.kind e.extent.bytes one.0 one.1 segment in
     let more = entries_open bytes (last_of one.0) next es stored (All-tail (InsideEntry (length bytes)) e es inside) spells.1 (subst (λ (n : ℕ). RiseThrough n next stored) (sym of.last_is) rise.2) in (
       record { segment = one.0; dead = x.dead; deleted = x.dead } ∷ more.0,
       (
-        record { kind = spells.0.segment.0; opened = one.1; list = list_opens bytes e.dead (count_of one.0) x spells.0.list plain.are.rising of.count_is; deleted = refl },
+        record { opened = one.1; list = list_opens bytes e.dead (count_of one.0) x spells.0.list segment.are.rising of.count_is; deleted = refl },
         subst (λ (n : ℕ). low < n) (sym of.first_is) rise.0,
         subst (λ (n : ℕ). n < next) (sym of.last_is) rise.1,
         more.1,

@@ -5,9 +5,9 @@ use Rattle.pk_model.specs.Collection.{Doc}
 use Rattle.pk_posting.specs.declared.source.SourceFault.{SourceFault}
 use Rattle.pk_posting.specs.declared.source.SourceFault.TheVariants.{Damaged as Broken, Disk}
 use Rattle.pk_posting.specs.Source.{CountsFaults}
-use Rattle.pk_segment.specs.Plain.{SegmentSpells, plain_length, longest}
+use Rattle.pk_segment.specs.Spelling.{SegmentSpells, segment_length, longest}
 use Rattle.pk_segment.specs.Reading.{IsNoDamage, read_of}
-use Rattle.pk_segment.proofs.PlainLemmas.{length_plain, parts_of}
+use Rattle.pk_segment.proofs.SegmentLemmas.{length_segment, parts_of}
 use Rattle.pk_space.specs.declared.runs.Full.{Full as NoRoom}
 use Rattle.pk_space.specs.Free.{free_at}
 use Rattle.pk_space.specs.Places.{FullAs, IsPlacedIn, PlacedAs}
@@ -15,14 +15,14 @@ use Rattle.pk_space.proofs.CallerLemmas.{first_fit_same, free_more, full_at_same
 use Rattle.pk_store.specs.Plan.{IsTaken}
 
 -- the length of a spelling
-pub spelled_length : (bytes : List ℕ) (docs : List Doc) → SegmentSpells bytes docs 1 → (length bytes ≡ plain_length docs) × (length bytes ≤ longest)
-spelled_length bytes docs spells =
-    let long = ap length spells.1.same ∙ length_plain docs in
-    (long, subst (λ n. n ≤ longest) (sym long) spells.1.fits)
+pub spelled_length : {kind : ℕ} (bytes : List ℕ) (docs : List Doc) → SegmentSpells bytes docs kind → (length bytes ≡ segment_length docs kind) × (length bytes ≤ longest)
+spelled_length {kind} bytes docs spells =
+    let long = ap length spells.same ∙ length_segment docs kind in
+    (long, subst (λ n. n ≤ longest) (sym long) spells.fits)
 
 -- a spelling has some bytes
-pub some_bytes : (bytes : List ℕ) (docs : List Doc) → SegmentSpells bytes docs 1 → 1 ≤ length bytes
-some_bytes bytes docs spells = let l = (spelled_length bytes docs spells).0 in omega (arith, l, parts_of docs)
+pub some_bytes : {kind : ℕ} (bytes : List ℕ) (docs : List Doc) → SegmentSpells bytes docs kind → 1 ≤ length bytes
+some_bytes {kind} bytes docs spells = let l = (spelled_length bytes docs spells).0 in omega (arith, l, parts_of docs kind)
 
 -- a slice as a source meets no fault of a device
 pub no_fault : {T : Type 0} (fault : SourceFault) → IsNoDamage (read_of fault) → CountsFaults {T = T} 0 0 (Err fault) → ⊥

@@ -23,10 +23,10 @@ use Rattle.pk_replace.specs.Claims.{Claim}
 use Rattle.pk_search.specs.Opened.{IsOpenOf}
 use Rattle.pk_segment.specs.declared.segment.Segment.{Segment}
 use Rattle.pk_segment.specs.Opened.{IsSegmentOf}
-use Rattle.pk_segment.specs.Plain.{SegmentSpells, longest, plain_length}
-use Rattle.pk_segment.proofs.PlainLemmas.{parts_of}
+use Rattle.pk_segment.specs.Spelling.{SegmentSpells, longest, segment_length}
+use Rattle.pk_segment.proofs.SegmentLemmas.{parts_of}
 use Rattle.pk_space.specs.Places.{FullAs}
-use Rattle.pk_state.specs.Writing.{is_too_large, new_entry, new_stored}
+use Rattle.pk_state.specs.Writing.{is_too_large, new_entry, new_stored, written_kind}
 use Rattle.pk_store.proofs.PlacingLemmas.{some_bytes as some_bytes_of, spelled_length}
 use Rattle.pk_disk.specs.Units.{apart, lies_within, overlap, units_in}
 use Rattle.pk_manifest.proofs.Fields.{extents_of_disk}
@@ -38,6 +38,7 @@ use Rattle.pk_search.specs.Opened.{AreOpenOf, present}
 use Rattle.pk_state.specs.Committed.{Stored}
 use Rattle.pk_state.specs.Kept.{AreEntries, claims_of}
 use Rattle.pk_state.proofs.HoldsLemmas.{units_room}
+use Rattle.pk_state.proofs.KindLemmas.{written_is_kind}
 use Rattle.pk_store.specs.declared.planning.Plan.{Plan}
 use Rattle.pk_store.specs.Placed.{AreLaid}
 use Rattle.pk_store.proofs.ExtentLemmas.{laid_inside, laid_missed, next_untouched}
@@ -243,7 +244,7 @@ each_and P [] ds first second = second
 each_and P (c ∷ cs) ds first second = (first.0, each_and P cs ds first.1 second)
 
 module _ (size : ℕ) (b : Body) (is : IsBody (units_in size) b) (os : List OpenSegment) (count : length os ≡ length b.entries) (left : b.generation < end_of_ids) (ids : b.next_segment < end_of_ids) (room : length b.entries < 64) (next : ℕ) (some : 1 ≤ next) (most : next ≤ end_of_numbers)
-    (can : CanBeWritten (new_lists os)) (docs : List Doc) (bytes : List ℕ) (spells : SegmentSpells bytes docs 1) (o : Segment) (opened_is : IsSegmentOf o docs) (e : Extent) (xs : List Extent) (placed : PlacedAs b.units (named b) (map length (bytes ∷ new_lists os)) (e ∷ xs))
+    (can : CanBeWritten (new_lists os)) (docs : List Doc) (bytes : List ℕ) (spells : SegmentSpells bytes docs written_kind) (o : Segment) (opened_is : IsSegmentOf o docs) (e : Extent) (xs : List Extent) (placed : PlacedAs b.units (named b) (map length (bytes ∷ new_lists os)) (e ∷ xs))
     (p : Plan) (plan : IsPlanOf (body_with_segment b os next (e ∷ xs)) (map settled os ++ fresh_segment o ∷ []) (e ∷ xs) (bytes ∷ new_lists os) p) where
   abbrev entries' : List Entry
   entries' = relisted b.entries os xs ++ new_entry b e ∷ []
@@ -313,7 +314,7 @@ module _ (size : ℕ) (b : Body) (is : IsBody (units_in size) b) (os : List Open
   segment_goes stored entries are =
       let claims = claims_of b.entries stored in
       let entries_now = entries_relisted (units_in size) (e ∷ named b) b.entries os stored xs entries are placed_there in
-      let new : AreEntries (new_entry b e ∷ []) (new_stored docs ∷ []) = (record { segment = record { kind = refl; are = spells.1.are; fits = spells.1.fits; long = placed.0.long ∙ (spelled_length bytes docs spells).0 }; list = refl }, tt) in
+      let new : AreEntries (new_entry b e ∷ []) (new_stored docs ∷ []) = (record { segment = record { kind = written_is_kind; are = spells.are; fits = spells.fits; long = placed.0.long ∙ (spelled_length bytes docs spells).0 }; list = refl }, tt) in
       goes_to size b (body_with_segment b os next (e ∷ xs)) is left segment_sound refl (bytes ∷ new_lists os) enough (e ∷ xs) placed (map settled os ++ fresh_segment o ∷ []) many all_grown p plan
       stored (present os stored ++ new_stored docs ∷ []) entries
       (entries_append (relisted b.entries os xs) (new_entry b e ∷ []) (present os stored) (new_stored docs ∷ []) entries_now new)
@@ -321,21 +322,21 @@ module _ (size : ℕ) (b : Body) (is : IsBody (units_in size) b) (os : List Open
       (subst (Each (λ c. IsAmong c claims ⊎ IsAmong c (laid_in (e ∷ xs) (bytes ∷ new_lists os)))) (sym (claims_append (relisted b.entries os xs) (new_entry b e ∷ []) (present os stored) (new_stored docs ∷ []) entries_now))
       (each_and (λ c. IsAmong c claims ⊎ IsAmong c (laid_in (e ∷ xs) (bytes ∷ new_lists os))) (claims_of (relisted b.entries os xs) (present os stored)) (claims_of (new_entry b e ∷ []) (new_stored docs ∷ []))
       (each_later claims (record { at = start_of e; bytes = bytes }) (laid_in xs (new_lists os)) (claims_of (relisted b.entries os xs) (present os stored)) (claims_relisted (units_in size) (e ∷ named b) b.entries os stored xs entries are placed_there))
-      (inr (inl (ap (λ (bs : List ℕ). record { at = start_of e; bytes = bs }) (sym spells.1.same))), tt)))
+      (inr (inl (ap (λ (bs : List ℕ). record { at = start_of e; bytes = bs }) (sym spells.same))), tt)))
 
 -- a segment that fits
-pub fits_limit : (d : Doc) (docs : List Doc) → plain_length (d ∷ docs) ≤ longest → is_too_large (d ∷ docs) ≡ false
-fits_limit d docs short = or_from (nat_lt longest (plain_length (d ∷ docs))) false (le-ltb longest (plain_length (d ∷ docs)) short) refl
+pub fits_limit : (d : Doc) (docs : List Doc) → segment_length (d ∷ docs) written_kind ≤ longest → is_too_large (d ∷ docs) ≡ false
+fits_limit d docs short = or_from (nat_lt longest (segment_length (d ∷ docs) written_kind)) false (le-ltb longest (segment_length (d ∷ docs) written_kind) short) refl
 
 -- and one that doesn't
-pub passes_limit : (docs : List Doc) → longest < plain_length docs → 0 < length docs → is_too_large docs ≡ true
+pub passes_limit : (docs : List Doc) → longest < segment_length docs written_kind → 0 < length docs → is_too_large docs ≡ true
 passes_limit [] long some = absurd (omega (arith, some))
-passes_limit (d ∷ docs) long some = or_left (nat_lt longest (plain_length (d ∷ docs))) false (lt-ltb longest (plain_length (d ∷ docs)) long)
+passes_limit (d ∷ docs) long some = or_left (nat_lt longest (segment_length (d ∷ docs) written_kind)) false (lt-ltb longest (segment_length (d ∷ docs) written_kind) long)
 
 -- the plan of a commit with these documents, wherever they lie
 pub planned_with : (size : ℕ) (b : Body) → IsBody (units_in size) b → (os : List OpenSegment) → length os ≡ length b.entries → (docs : List Doc) → DueAs b (length docs) None → (next : ℕ) → 1 ≤ next → next ≤ end_of_numbers → CanBeWritten (new_lists os)
-    → (bytes : List ℕ) → SegmentSpells bytes docs 1 → (o : Segment) → IsSegmentOf o docs → (p : Plan) → PlansWith b (bytes ∷ new_lists os) (map settled os ++ fresh_segment o ∷ []) (body_with_segment b os next) (Ok p) → PlansAs size b os docs next (Ok p)
-planned_with size b is os count [] due next some most can bytes spells o opened_is p plan = let h : 0 < 0 = spells.1.are.some in absurd (omega (arith, h))
+    → (bytes : List ℕ) → SegmentSpells bytes docs written_kind → (o : Segment) → IsSegmentOf o docs → (p : Plan) → PlansWith b (bytes ∷ new_lists os) (map settled os ++ fresh_segment o ∷ []) (body_with_segment b os next) (Ok p) → PlansAs size b os docs next (Ok p)
+planned_with size b is os count [] due next some most can bytes spells o opened_is p plan = let h : 0 < 0 = spells.are.some in absurd (omega (arith, h))
 planned_with size b is os count (d ∷ docs) due next some most can bytes spells o opened_is p ([], placed, plan) = absurd placed
 planned_with size b is os count (d ∷ docs) due next some most can bytes spells o opened_is p (e ∷ xs, placed, plan) =
     let room = due.2 (omega arith) in (
@@ -344,8 +345,8 @@ planned_with size b is os count (d ∷ docs) due next some most can bytes spells
         next_is = ap (λ (x : Body). x.next_number) plan.manifest_is;
         settled = subst AreSettled (sym plan.opened_is) (settled_append (map settled os) (fresh_segment o ∷ []) (map_settled os) (refl, tt));
         extents = e ∷ xs;
-        placed = subst (λ (w : List ℕ). PlacedAs b.units (named b) (map length (w ∷ new_lists os)) (e ∷ xs)) spells.1.same placed;
-        fits = fits_limit d docs spells.1.fits;
+        placed = subst (λ (w : List ℕ). PlacedAs b.units (named b) (map length (w ∷ new_lists os)) (e ∷ xs)) spells.same placed;
+        fits = fits_limit d docs spells.fits;
         goes = segment_goes size b is os count due.0 due.1 room next some most can (d ∷ docs) bytes spells o opened_is e xs placed p plan;
       },
     )
@@ -368,10 +369,10 @@ planned_without size b is os count docs none due next some most (Err Damaged) ca
 planned_without size b is os count docs none due next some most (Err Device) can plan = absurd plan
 
 -- what finds no place is not planned
-pub not_placed : (size : ℕ) (b : Body) (os : List OpenSegment) (docs : List Doc) (next : ℕ) (bytes : List ℕ) (opened : List OpenSegment) (body : List Extent → Body) (why : Refusal) → SegmentSpells bytes docs 1 → PlansWith b (bytes ∷ new_lists os) opened body (Err why) → PlansAs size b os docs next (Err why)
-not_placed size b os [] next bytes opened body why spells plan = let h : 0 < 0 = spells.1.are.some in absurd (omega (arith, h))
+pub not_placed : (size : ℕ) (b : Body) (os : List OpenSegment) (docs : List Doc) (next : ℕ) (bytes : List ℕ) (opened : List OpenSegment) (body : List Extent → Body) (why : Refusal) → SegmentSpells bytes docs written_kind → PlansWith b (bytes ∷ new_lists os) opened body (Err why) → PlansAs size b os docs next (Err why)
+not_placed size b os [] next bytes opened body why spells plan = let h : 0 < 0 = spells.are.some in absurd (omega (arith, h))
 not_placed size b os (d ∷ docs) next bytes opened body (Full need largest) spells plan =
-    (fits_limit d docs spells.1.fits, subst (λ (w : List ℕ). FullAs b.units (named b) (map length (w ∷ new_lists os)) need largest) spells.1.same plan)
+    (fits_limit d docs spells.fits, subst (λ (w : List ℕ). FullAs b.units (named b) (map length (w ∷ new_lists os)) need largest) spells.same plan)
 not_placed size b os (d ∷ docs) next bytes opened body Memory spells plan = tt
 not_placed size b os (d ∷ docs) next bytes opened body SegmentTooLarge spells plan = absurd plan
 not_placed size b os (d ∷ docs) next bytes opened body Reopen spells plan = absurd plan
@@ -398,13 +399,13 @@ not_built size b os docs next Damaged some h = absurd h
 not_built size b os docs next Device some h = absurd h
 
 -- the segment may be written
-pub can_segment : (bytes : List ℕ) (docs : List Doc) → SegmentSpells bytes docs 1 → CanBeWritten (bytes ∷ [])
+pub can_segment : (bytes : List ℕ) (docs : List Doc) → SegmentSpells bytes docs written_kind → CanBeWritten (bytes ∷ [])
 can_segment bytes docs spells =
     let long = spelled_length bytes docs spells in
-    All-cons (λ (w : List ℕ). (5 ≤ length w) × (length w ≤ segment_limit)) bytes [] (omega (arith, long.0, parts_of docs), long.1) (All-nil (λ (w : List ℕ). (5 ≤ length w) × (length w ≤ segment_limit)))
+    All-cons (λ (w : List ℕ). (5 ≤ length w) × (length w ≤ segment_limit)) bytes [] (omega (arith, long.0, parts_of docs written_kind), long.1) (All-nil (λ (w : List ℕ). (5 ≤ length w) × (length w ≤ segment_limit)))
 
 -- what is planned with a segment, whatever the answer
 pub planned_segment : (size : ℕ) (b : Body) → IsBody (units_in size) b → (os : List OpenSegment) → length os ≡ length b.entries → (docs : List Doc) → DueAs b (length docs) None → (next : ℕ) → 1 ≤ next → next ≤ end_of_numbers
-    → (bytes : List ℕ) → SegmentSpells bytes docs 1 → (o : Segment) → IsSegmentOf o docs → (r : Result Plan Refusal) → OnOk r (CanBeWritten (new_lists os)) → PlansWith b (bytes ∷ new_lists os) (map settled os ++ fresh_segment o ∷ []) (body_with_segment b os next) r → PlansAs size b os docs next r
+    → (bytes : List ℕ) → SegmentSpells bytes docs written_kind → (o : Segment) → IsSegmentOf o docs → (r : Result Plan Refusal) → OnOk r (CanBeWritten (new_lists os)) → PlansWith b (bytes ∷ new_lists os) (map settled os ++ fresh_segment o ∷ []) (body_with_segment b os next) r → PlansAs size b os docs next r
 planned_segment size b is os count docs due next some most bytes spells o opened_is (Ok p) can plan = planned_with size b is os count docs due next some most can bytes spells o opened_is p plan
 planned_segment size b is os count docs due next some most bytes spells o opened_is (Err why) can plan = not_placed size b os docs next bytes (map settled os ++ fresh_segment o ∷ []) (body_with_segment b os next) why spells plan

@@ -16,6 +16,7 @@ use Rattle.pk_search.specs.declared.opened.OpenSegment.{OpenSegment}
 use Rattle.pk_search.specs.Opened.{AreOpenOf}
 use Rattle.pk_state.specs.Committed.{Stored, all_in, live_in, whole_of}
 use Rattle.pk_state.specs.Holds.{SpellsEntries}
+use Rattle.pk_state.specs.Writing.{written_kind}
 use Rattle.pk_state.proofs.HoldsLemmas.{kept_spelled}
 use Rattle.pk_store.specs.declared.planning.Plan.{Plan}
 use Rattle.pk_store.specs.Merging.{MergeCause, PlansAll, PlansMerged}
@@ -66,23 +67,23 @@ module _ {D : Type 0} (d : Ghosts D) (v : VolumeView D) (disk : D) (ready : IsRe
       merged honest stored (spelled (d.content v.disk) stored spells stand.opened) numbers.rising
 
   pub plans_all : (bytes : Option (Vec ℕ Global)) (r : Result Plan Refusal)
-      → (d.honest → (stored : List Stored) → SpellsInputs (d.content v.disk) inputs stored → IsStrictlyIncreasing (numbers_of (all_in stored)) → MergedAs (live_in stored) 1 (Ok bytes))
-      → IsSomeMerged 1 bytes → d.failed_reads disk ≡ d.failed_reads v.disk → PlansMerged v.body v.opened bytes r → PlansAll d v (length (d.content v.disk)) r (read_on v disk)
+      → (d.honest → (stored : List Stored) → SpellsInputs (d.content v.disk) inputs stored → IsStrictlyIncreasing (numbers_of (all_in stored)) → MergedAs (live_in stored) written_kind (Ok bytes))
+      → IsSomeMerged written_kind bytes → d.failed_reads disk ≡ d.failed_reads v.disk → PlansMerged v.body v.opened bytes r → PlansAll d v (length (d.content v.disk)) r (read_on v disk)
   plans_all bytes r merged some reads plans = record {
     plans = λ honest stored stand clear numbers.
         merge_answers (length (d.content v.disk)) v.body ready.sound due.0 due.1 v.opened stored (stand.kept clear).entries stand.opened numbers bytes r
-        (merged_there (Ok bytes) (λ ss x. MergedAs (live_in ss) 1 x) merged honest stored stand clear numbers) plans;
+        (merged_there (Ok bytes) (λ ss x. MergedAs (live_in ss) written_kind x) merged honest stored stand clear numbers) plans;
     rightly = merge_rightly (length (d.content v.disk)) v.body ready.sound due.0 due.1 v.opened bytes r some plans;
     keeps = kept;
     cause = plan_cause d v.disk disk v.body v.opened bytes r (record { reads = reads; writes = keeps.writes }) plans;
   }
 
   pub plans_none : (fault : MergeFault)
-      → (d.honest → (stored : List Stored) → SpellsInputs (d.content v.disk) inputs stored → IsStrictlyIncreasing (numbers_of (all_in stored)) → MergedAs (live_in stored) 1 (Err fault))
+      → (d.honest → (stored : List Stored) → SpellsInputs (d.content v.disk) inputs stored → IsStrictlyIncreasing (numbers_of (all_in stored)) → MergedAs (live_in stored) written_kind (Err fault))
       → CountsMerge {T = Option (Vec ℕ Global)} (d.failed_reads v.disk) (d.failed_reads disk) (Err fault) → PlansAll d v (length (d.content v.disk)) (Err (merge_refusal fault)) (read_on v disk)
   plans_none fault merged reads = record {
     plans = λ honest stored stand clear numbers. fault_answers v.body v.opened stored fault
-        (merged_there {T = Result (Option (Vec ℕ Global)) MergeFault} (Err fault) (λ ss x. MergedAs (live_in ss) 1 x) merged honest stored stand clear numbers);
+        (merged_there {T = Result (Option (Vec ℕ Global)) MergeFault} (Err fault) (λ ss x. MergedAs (live_in ss) written_kind x) merged honest stored stand clear numbers);
     rightly = fault_rightly (length (d.content v.disk)) v.body fault;
     keeps = kept;
     cause = fault_cause d v.disk disk fault keeps reads;

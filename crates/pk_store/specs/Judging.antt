@@ -2,14 +2,12 @@
 use Rattle.std.specs.Prelude.{◌≡◌, ◌<◌, ℕ, List, ◌++◌, Result, Ok, Err}
 use Rattle.std.specs.Global.{Vec}
 use Rattle.pk_disk.specs.Disk.{Rose}
-use Rattle.pk_disk.specs.Units.{extent_bytes}
 use Rattle.pk_manifest.specs.declared.fault.ManifestFault.{ManifestFault}
 use Rattle.pk_manifest.specs.declared.fault.ManifestFault.TheVariants as manifest
 use Rattle.pk_manifest.specs.declared.manifest.Part.{Part as Entry}
 use Rattle.pk_manifest.specs.Spelling.{Body, view}
 use Rattle.pk_search.specs.declared.opened.OpenSegment.{OpenSegment}
-use Rattle.pk_segment.specs.declared.segment.Segment.{Segment}
-use Rattle.pk_segment.specs.Opened.{IsOpened, first_of, last_of}
+use Rattle.pk_segment.specs.Opened.{first_of, last_of}
 use Rattle.pk_store.specs.declared.opening.Found.{Found}
 use Rattle.pk_store.specs.declared.refused.OpenFault.{OpenFault}
 use Rattle.pk_store.specs.declared.refused.OpenFault.TheVariants.{TooSmall, NotAStore, Damaged}
@@ -32,11 +30,6 @@ SegmentCause (Err NotAStore) reads reads' = ⊥
 SegmentCause (Err Damaged) reads reads' = reads' ≡ reads
 SegmentCause (Err Disk) reads reads' = Rose reads reads'
 SegmentCause (Err Memory) reads reads' = reads' ≡ reads
-
--- the entry is a segment of kind 1, whose header and whose directory's ends open as this one
-abbrev pub OpensAsPlain : List ℕ → Entry → Segment → Type 0
-OpensAsPlain bytes e s =
-    (e.kind ≡ 1) × IsOpened (extent_bytes bytes e.extent) e.extent.bytes 1 s
 
 -- the entry opens as this segment, whose numbers are above low and below next
 abbrev pub OpensNext : List ℕ → ℕ → ℕ → Entry → OpenSegment → Type 0

@@ -16,10 +16,11 @@ use Rattle.pk_replace.specs.Cause.{NoneFailed, ReadFailed}
 use Rattle.pk_search.specs.declared.opened.OpenSegment.{OpenSegment}
 use Rattle.pk_search.specs.Opened.{present}
 use Rattle.pk_segment.specs.Opened.{IsSegmentOf}
-use Rattle.pk_segment.specs.Plain.{SegmentSpells}
+use Rattle.pk_segment.specs.Spelling.{SegmentSpells}
 use Rattle.pk_space.specs.Places.{FullAs, PlacedAs}
 use Rattle.pk_state.specs.Committed.{Stored, lists, live_in, whole_of}
 use Rattle.pk_state.specs.Writing.{after_merge, is_too_large, new_entry, next_body, segment_writes}
+use Rattle.pk_state.specs.Writing.{written_kind}
 use Rattle.pk_store.specs.declared.planning.Plan.{Plan}
 use Rattle.pk_store.specs.Plan.{GoesTo, IsPlan, IsPlanOf}
 use Rattle.pk_store.specs.View.{KeepsVolume, StandFor, VolumeView, committed_by}
@@ -60,7 +61,8 @@ TakesPending opened (Err why) = ⊥
 -- The one open segment after a merge: that of the documents which its bytes spell, without a
 -- deletion list; the deletions that were pending still are.
 pub record IsMergedOpen (opened : List OpenSegment) (bytes : List ℕ) (o : OpenSegment) : Type 0 where
-  pub segment : (docs : List Doc) → SegmentSpells bytes docs 1 → IsSegmentOf o.segment docs
+  pub segment : (docs : List Doc) → SegmentSpells bytes docs written_kind
+      → IsSegmentOf o.segment docs
   pub no_list : o.dead ≡ []
   pub deleted : ArePending opened o.deleted
   pub posting : IsPosting o.deleted

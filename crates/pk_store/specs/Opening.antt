@@ -19,6 +19,7 @@ use Rattle.pk_replace.specs.Cause.{NoneFailed, ReadFailed, WriteFailed}
 use Rattle.pk_posting.specs.Posting.{IsPosting}
 use Rattle.pk_posting.specs.Spelling.{spelling as list_spelling}
 use Rattle.pk_search.specs.declared.opened.OpenSegment.{OpenSegment}
+use Rattle.pk_segment.specs.declared.segment.Segment.{Segment}
 use Rattle.pk_segment.specs.Opened.{IsOpened, count_of, first_of, last_of}
 use Rattle.pk_state.specs.Holds.{Holds}
 use Rattle.pk_state.specs.Legal.{State, marked}
@@ -51,11 +52,14 @@ abbrev pub OpensAsList : List ℕ → Option Extent → ℕ → List ℕ → Typ
 OpensAsList bytes None count dead = dead ≡ []
 OpensAsList bytes (Some e) count dead = SpellsFew (extent_bytes bytes e) count dead
 
--- The entry is a segment of kind 1, whose header and whose directory's ends open as this one, with
--- the dead numbers of its deletion list; no other one is deleted.
+-- the header and the directory's ends in the entry's extent open as this segment of its kind
+abbrev pub ExtentOpensAs : List ℕ → Entry → Segment → Type 0
+ExtentOpensAs bytes e s = IsOpened (extent_bytes bytes e.extent) e.extent.bytes e.kind s
+
+-- The entry's extent opens as this segment, with the dead numbers of its deletion list; no other
+-- one is deleted.
 pub record OpensAsSegment (bytes : List ℕ) (e : Entry) (o : OpenSegment) : Type 0 where
-  pub kind : e.kind ≡ 1
-  pub opened : IsOpened (extent_bytes bytes e.extent) e.extent.bytes 1 o.segment
+  pub opened : ExtentOpensAs bytes e o.segment
   pub list : OpensAsList bytes e.dead (count_of o.segment) o.dead
   pub deleted : o.deleted ≡ o.dead
 

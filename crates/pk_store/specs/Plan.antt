@@ -29,14 +29,15 @@ use Rattle.pk_segment.specs.Opened.{IsSegmentOf}
 use Rattle.pk_posting.specs.Spelling.{spelling as list_spelling}
 use Rattle.pk_search.specs.declared.opened.OpenSegment.{OpenSegment}
 use Rattle.pk_search.specs.Opened.{AreOpenOf, pends, present}
-use Rattle.pk_segment.specs.Plain.{SegmentSpells, longest, plain_length, plain_spelling}
+use Rattle.pk_segment.specs.Spelling.{SegmentSpells, longest}
+use Rattle.pk_segment.specs.Spelling.{segment_length, segment_spelling}
 use Rattle.pk_space.specs.declared.runs.Full.{Full as NoRoom}
 use Rattle.pk_space.specs.Free.{IsFirstFit, IsFullAt}
 use Rattle.pk_space.specs.Places.{PlacedAs, FullAs}
 use Rattle.pk_state.specs.Committed.{Stored, Committed, collection_of, whole_of}
 use Rattle.pk_state.specs.Holds.{HoldsOne}
 use Rattle.pk_state.specs.Kept.{AreEntries, claims_of}
-use Rattle.pk_state.specs.Writing.{is_too_large, new_entry, new_stored, next_body}
+use Rattle.pk_state.specs.Writing.{is_too_large, new_entry, new_stored, next_body, written_kind}
 use Rattle.pk_store.specs.declared.planning.Plan.{Plan}
 use Rattle.pk_store.specs.View.{IsGrown, KeepsVolume, StandFor, VolumeView, committed_by}
 
@@ -63,7 +64,7 @@ new_lists (o ∷ opened) =
 -- and of a segment of these documents, none for no document
 abbrev pub new_segments : List Doc → List (List ℕ)
 new_segments [] = []
-new_segments (d ∷ docs) = plain_spelling (d ∷ docs) ∷ []
+new_segments (d ∷ docs) = segment_spelling (d ∷ docs) written_kind ∷ []
 
 -- all that a commit writes besides the body
 abbrev pub commit_bytes : List OpenSegment → List Doc → List (List ℕ)
@@ -204,8 +205,8 @@ PlacesAs b lengths (Err why) = ⊥
 
 -- a segment is built and open, or why it is not
 abbrev pub BuildsAs : List Doc → Result (Vec ℕ × Segment) Refusal → Type 0
-BuildsAs docs (Ok built) = SegmentSpells built.0.items docs 1 × IsSegmentOf built.1 docs
-BuildsAs docs (Err SegmentTooLarge) = longest < plain_length docs
+BuildsAs docs (Ok built) = SegmentSpells built.0.items docs written_kind × IsSegmentOf built.1 docs
+BuildsAs docs (Err SegmentTooLarge) = longest < segment_length docs written_kind
 BuildsAs docs (Err Memory) = Unit {0}
 BuildsAs docs (Err why) = ⊥
 

@@ -13,7 +13,7 @@ ghost use Rattle.pk_model.specs.Collection.{Doc, numbers_of};
 ghost use Rattle.pk_model.specs.Limits.{end_of_ids};
 ghost use Rattle.pk_model.specs.Steps.{commit, committed};
 ghost use Rattle.pk_segment.specs.Opened.{IsSegmentOf};
-ghost use Rattle.pk_segment.specs.Plain.{docs_of};
+ghost use Rattle.pk_segment.specs.Spelling.{docs_of};
 ghost use Rattle.pk_state.specs.Legal.{answered};
 ghost use Rattle.pk_store.specs.Plan.{AreNext, BuildsAs, CanBeWritten, DueAs, PlansAs, PlansWith};
 ghost use Rattle.pk_store.specs.Plan.{body_with_lists, body_with_segment, fresh_segment, new_lists};
@@ -23,7 +23,7 @@ ghost use Rattle.pk_store.specs.View.{IsGrown};
 
 use crate::planning::{
     Plan, lengths_of, next_manifest, one_write, open_built, place_all, plan_for, put_entries,
-    put_lists, put_settled, settled_with,
+    put_lists, put_settled, settled_with, written_kind,
 };
 use crate::store::Store;
 use pk_disk::Disk;
@@ -40,7 +40,7 @@ fn new_segment(alloc: Global, documents: &[Document]) -> Result<(Vec<u8>, Segmen
     requires least { All (λ d. 1 ≤ d.number.0) documents.now }
     ensures { BuildsAs (docs_of documents.now) result }
 {
-    let bytes = match build(alloc, documents, 1) {
+    let bytes = match build(alloc, documents, written_kind()) {
         Ok(bytes) => bytes,
         Err(BuildFault::TooLarge) => return Err(Refusal::SegmentTooLarge),
         Err(BuildFault::Memory) => return Err(Refusal::Memory),

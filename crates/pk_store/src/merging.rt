@@ -17,8 +17,9 @@ ghost use Rattle.pk_model.specs.Steps.{merge, merged};
 ghost use Rattle.pk_search.specs.Opened.{AreOpenOf};
 ghost use Rattle.pk_state.specs.Committed.{Stored};
 ghost use Rattle.pk_state.specs.Holds.{SpellsEntries};
-ghost use Rattle.pk_state.specs.Kept.{LieInside};
+ghost use Rattle.pk_state.specs.Kept.{HaveKinds, LieInside};
 ghost use Rattle.pk_state.specs.Legal.{answered};
+ghost use Rattle.pk_state.specs.Writing.{written_kind};
 ghost use Rattle.pk_store.specs.Merging.{PlansMerged, PutsPending, TakesPending};
 ghost use Rattle.pk_store.specs.Refusing.{merge_refusal};
 ghost use Rattle.pk_store.specs.Steps.{Steps};
@@ -60,13 +61,13 @@ pub(crate) fn inputs_of<'a>(
         → SpellsInputs bytes v.items stored) }
     ensures inside { IfOk result (λ v. (size : ℕ) → LieInside size entries.now
         → All (LiesInside size) v.items) }
-    ensures kinds { IfOk result (λ v. All HasKind v.items) }
+    ensures kinds { IfOk result (λ v. HaveKinds entries.now → All HasKind v.items) }
 {
     let mut inputs = Vec::with_capacity(alloc, entries.len())?;
     for (entry, segment) in entries.iter().zip(opened) {
         inputs.push(MergeInput {
             extent: entry.extent,
-            kind: 1,
+            kind: entry.kind,
             dead: &segment.dead,
         })?;
     }
@@ -134,7 +135,7 @@ fn plan_one(
     requires sound { IsBody manifest.now.units (view manifest.now) }
     requires generation { manifest.now.generation < end_of_ids }
     requires id { manifest.now.next_segment < end_of_ids }
-    requires spelled { IsSomeMerged 1 (Some bytes) }
+    requires spelled { IsSomeMerged written_kind (Some bytes) }
     ensures { PlansMerged (view manifest.now) opened.now (Some bytes) result }
 {
     let segment = open_built(&bytes);
@@ -162,7 +163,7 @@ pub(crate) fn plan_merged(
     requires sound { IsBody manifest.now.units (view manifest.now) }
     requires generation { manifest.now.generation < end_of_ids }
     requires id { manifest.now.next_segment < end_of_ids }
-    requires spelled { IsSomeMerged 1 bytes }
+    requires spelled { IsSomeMerged written_kind bytes }
     ensures { PlansMerged (view manifest.now) opened.now bytes result }
 {
     match bytes {
@@ -175,7 +176,8 @@ impl<D: Disk> Store<D> {
     /// Makes one segment of all, without the documents whose deletion is committed, or none where
     /// no document is left; their places are free afterwards. What is uncommitted stays so:
     /// buffered documents, pending deletions and the next number. Where there is no segment, or
-    /// just one without a deletion list, there is nothing to do, and no call of the device is made.
+    /// just one, of the kind that is written and without a deletion list, there is nothing to do,
+    /// and no call of the device is made.
     ///
     /// The old segments stand beside the new one until it is in force, so a run of free units as
     /// long as the new segment is needed.

@@ -17,10 +17,11 @@ ghost use Rattle.pk_manifest.specs.Current.{units_of_disk};
 ghost use Rattle.pk_manifest.specs.Sound.{IsBody};
 ghost use Rattle.pk_manifest.specs.Spelling.{view};
 ghost use Rattle.pk_segment.specs.Opened.{count_of};
-ghost use Rattle.pk_state.specs.Kept.{EndsInside, LieInside, ListEndsInside};
-ghost use Rattle.pk_store.specs.Judging.{JudgesFound, IsLarge, OpensAsPlain, OpensNext, SegmentAs};
+ghost use Rattle.pk_segment.specs.Spelling.{IsKind};
+ghost use Rattle.pk_state.specs.Kept.{EndsInside, HaveKinds, LieInside, ListEndsInside};
+ghost use Rattle.pk_store.specs.Judging.{JudgesFound, IsLarge, OpensNext, SegmentAs};
 ghost use Rattle.pk_store.specs.Judging.{SegmentCause, SegmentsAs};
-ghost use Rattle.pk_store.specs.Opening.{OnSynced, OpenCause, Opens, OpensAsList};
+ghost use Rattle.pk_store.specs.Opening.{ExtentOpensAs, OnSynced, OpenCause, Opens, OpensAsList};
 ghost use Rattle.pk_store.specs.Opening.{OpensAsSegment, SpellsFew};
 ghost use Rattle.pk_store.specs.View.{IsGrown};
 
@@ -38,9 +39,6 @@ use std::alloc::Global;
 
 /// The fewest units of a store's disk.
 pub(crate) const LEAST_UNITS: u32 = 64;
-
-// The one kind of segment that is read.
-const PLAIN: u32 = 1;
 
 // No list has more bytes than these, for its count,
 const LIST_COUNT_BYTES: u64 = 4;
@@ -75,18 +73,16 @@ impl From<ManifestFault> for OpenFault {
     }
 }
 
-// The segment of an entry: one of kind 1.
-fn open_plain<D: Disk>(disk: &mut D, entry: Part) -> Result<Segment, OpenFault>
-    requires { EndsInside (length (D.content disk.old)) entry.extent }
-    ensures opened { D.honest → SegmentAs (OpensAsPlain (D.content disk.old) entry) result }
+// The segment of an entry.
+fn open_segment<D: Disk>(disk: &mut D, entry: Part) -> Result<Segment, OpenFault>
+    requires kind { IsKind entry.kind }
+    requires inside { EndsInside (length (D.content disk.old)) entry.extent }
+    ensures opened { D.honest → SegmentAs (ExtentOpensAs (D.content disk.old) entry) result }
     ensures keeps { KeepsDisk D.Disk disk.old disk.new }
     ensures cause { SegmentCause result (D.failed_reads disk.old) (D.failed_reads disk.new) }
 {
-    if entry.kind != PLAIN {
-        return Err(OpenFault::Damaged);
-    }
     let mut source = ExtentSource::on(disk, entry.extent);
-    match Segment::open(&mut source, entry.extent.bytes, PLAIN) {
+    match Segment::open(&mut source, entry.extent.bytes, entry.kind) {
         Ok(segment) => Ok(segment),
         Err(SourceFault::Damaged) => Err(OpenFault::Damaged),
         Err(SourceFault::Disk) => Err(OpenFault::Disk),
@@ -140,6 +136,7 @@ fn read_list<D: Disk>(
 
 // The segment of an entry with the numbers of its deletion list, and no others deleted.
 fn open_entry<D: Disk>(alloc: Global, disk: &mut D, entry: Part) -> Result<OpenSegment, OpenFault>
+    requires kind { IsKind entry.kind }
     requires segment { EndsInside (length (D.content disk.old)) entry.extent }
     requires list { ListEndsInside (length (D.content disk.old)) entry.dead }
     ensures opened { D.honest → SegmentAs (OpensAsSegment (D.content disk.old) entry) result }
@@ -147,7 +144,7 @@ fn open_entry<D: Disk>(alloc: Global, disk: &mut D, entry: Part) -> Result<OpenS
     ensures keeps { KeepsDisk D.Disk disk.old disk.new }
     ensures cause { SegmentCause result (D.failed_reads disk.old) (D.failed_reads disk.new) }
 {
-    let segment = open_plain(disk, entry)?;
+    let segment = open_segment(disk, entry)?;
     let dead = read_list(alloc, disk, entry.dead, segment.count())?;
     let Ok(deleted) = dead.copy(alloc) else {
         return Err(OpenFault::Memory);
@@ -167,6 +164,7 @@ fn open_next<D: Disk>(
     low: u32,
     next: u32,
 ) -> Result<OpenSegment, OpenFault>
+    requires kind { IsKind entry.kind }
     requires segment { EndsInside (length (D.content disk.old)) entry.extent }
     requires list { ListEndsInside (length (D.content disk.old)) entry.dead }
     ensures opened { D.honest → SegmentAs (OpensNext (D.content disk.old) low next entry) result }
@@ -187,7 +185,8 @@ fn open_segments<D: Disk>(
     disk: &mut D,
     manifest: &Manifest,
 ) -> Result<Vec<OpenSegment>, OpenFault>
-    requires { LieInside (length (D.content disk.old)) manifest.now.entries.items }
+    requires kinds { HaveKinds manifest.now.entries.items }
+    requires inside { LieInside (length (D.content disk.old)) manifest.now.entries.items }
     ensures opened { D.honest → SegmentsAs (D.content disk.old) (view manifest.now) result }
     ensures count { IfOk result (λ v. length v.items ≡ length manifest.now.entries.items) }
     ensures grown { IfOk result (λ v. All IsGrown v.items) }

@@ -8,9 +8,9 @@ ghost use Rattle.pk_model.specs.Collection.{Doc};
 ghost use Rattle.pk_model.specs.Limits.{end_of_ids};
 ghost use Rattle.pk_replace.specs.Claims.{claim_of};
 ghost use Rattle.pk_segment.specs.Opened.{IsSegmentOf};
-ghost use Rattle.pk_segment.specs.Plain.{SegmentSpells};
+ghost use Rattle.pk_segment.specs.Spelling.{IsKind, SegmentSpells};
 ghost use Rattle.pk_space.specs.Space.{is_free};
-ghost use Rattle.pk_state.specs.Writing.{next_body};
+ghost use Rattle.pk_state.specs.Writing.{next_body, written_kind};
 ghost use Rattle.pk_store.specs.Plan.{CanBeWritten, IsPlanOf, IsTaken, fresh_segment};
 ghost use Rattle.pk_store.specs.Plan.{PlacesAs, entry_in, ids_in, laid_in, new_lists, relisted};
 ghost use Rattle.pk_store.specs.Plan.{settled, with_list};
@@ -40,13 +40,23 @@ pub(crate) struct Plan {
     pub(crate) opened: Vec<OpenSegment>,
 }
 
+/// The kind of the segments that are written.
+#[tactic(auto, unfolding(pk_state::specs::Writing::written_kind))]
+pub(crate) fn written_kind() -> u32
+    ensures is { result ≡ written_kind }
+    ensures kind { IsKind result }
+{
+    1
+}
+
 /// The segment that these bytes spell, open.
 pub(crate) fn open_built(bytes: &[u8]) -> Segment
-    requires { (docs : List Doc) × SegmentSpells bytes.now docs 1 }
-    ensures { (docs : List Doc) → SegmentSpells bytes.now docs 1 → IsSegmentOf result docs }
+    requires { (docs : List Doc) × SegmentSpells bytes.now docs written_kind }
+    ensures { (docs : List Doc) → SegmentSpells bytes.now docs written_kind
+        → IsSegmentOf result docs }
 {
     let mut source = SliceSource::new(bytes);
-    let Ok(segment) = Segment::open(&mut source, bytes.len() as u32, 1) else {
+    let Ok(segment) = Segment::open(&mut source, bytes.len() as u32, written_kind()) else {
         unreachable!()
     };
     segment
@@ -273,7 +283,7 @@ pub(crate) fn next_manifest(
         entries.push(Part {
             segment: next_segment,
             extent,
-            kind: 1,
+            kind: written_kind(),
             dead: None,
         })?;
         next_segment += 1;

@@ -8,7 +8,7 @@ ghost use Rattle.pk_model.specs.Collection.{IsCollection};
 ghost use Rattle.pk_model.specs.Tree.{tree_of};
 ghost use Rattle.pk_search.specs.Finding.{FoundAs, LooksUpAs};
 ghost use Rattle.pk_search.specs.Opened.{pends, present};
-ghost use Rattle.pk_segment.specs.Plain.{docs_of};
+ghost use Rattle.pk_segment.specs.Spelling.{docs_of};
 ghost use Rattle.pk_segment.specs.Reading.{CountsReads};
 ghost use Rattle.pk_state.specs.Committed.{Stored, live_in, whole_of};
 ghost use Rattle.pk_store.specs.Deleting.{DeletesAt, DeletesIn};
@@ -19,7 +19,7 @@ ghost use Rattle.pk_store.specs.View.{IsReady, KeepsVolume, StandFor, committed_
 
 use crate::committing::plan_commit;
 use crate::merging::{MAX_DELETED, inputs_of, plan_merged, refusal_of};
-use crate::planning::Plan;
+use crate::planning::{Plan, written_kind};
 use pk_disk::Disk;
 use pk_manifest::{Half, Manifest};
 use pk_merge::merged;
@@ -236,7 +236,7 @@ impl<D: Disk> Volume<D> {
     {
         match self.manifest.entries.as_slice() {
             [] => true,
-            [entry] => entry.kind == 1 && entry.dead.is_none(),
+            [entry] => entry.kind == written_kind() && entry.dead.is_none(),
             _ => false,
         }
     }
@@ -250,7 +250,7 @@ impl<D: Disk> Volume<D> {
         ensures { PlansAll D.Disk self.old (length (D.content self.old.disk)) result self.new }
     {
         let inputs = inputs_of(alloc, &self.manifest.entries, &self.opened)?;
-        match merged(alloc, &mut self.disk, &inputs, 1) {
+        match merged(alloc, &mut self.disk, &inputs, written_kind()) {
             Ok(bytes) => plan_merged(alloc, &self.manifest, &self.opened, bytes),
             Err(fault) => Err(refusal_of(fault)),
         }

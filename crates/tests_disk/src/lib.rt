@@ -7,6 +7,8 @@ mod disk;
 #[cfg(test)]
 mod filedisk;
 #[cfg(test)]
+mod indexed;
+#[cfg(test)]
 mod manifest;
 #[cfg(test)]
 mod merge;

@@ -3,7 +3,7 @@
 ghost use Rattle.std.specs.Prelude.{◌≡◌, ◌≤◌, ◌<◌, length, All, IfOk};
 ghost use Rattle.std.specs.List.Sorted.{IsStrictlyIncreasing};
 ghost use Rattle.pk_model.specs.Collection.{numbers_of};
-ghost use Rattle.pk_segment.specs.Plain.{docs_of};
+ghost use Rattle.pk_segment.specs.Spelling.{docs_of};
 
 use crate::segment::{ROW, document};
 use pk_dead::Dead;

@@ -3,7 +3,7 @@
 ghost use Rattle.std.specs.Prelude.{◌≡◌, ◌<◌, ◌≤◌, length, All, IfOk};
 ghost use Rattle.std.specs.List.Sorted.{IsStrictlyIncreasing};
 ghost use Rattle.pk_model.specs.Collection.{numbers_of};
-ghost use Rattle.pk_segment.specs.Plain.{docs_of};
+ghost use Rattle.pk_segment.specs.Spelling.{docs_of};
 
 use pk_disk::{Disk, Extent, FaultDisk, MemoryDisk};
 use pk_model::{DocNo, Document};
@@ -37,7 +37,7 @@ pub(crate) fn document(alloc: Global, number: u32, text: &str) -> Result<Documen
 }
 
 // The documents of the row.
-fn documents(alloc: Global) -> Result<Vec<Document>, AllocError>
+pub(crate) fn documents(alloc: Global) -> Result<Vec<Document>, AllocError>
     ensures some { IfOk result (λ v. 0 < length v.items) }
     ensures rising { IfOk result (λ v. IsStrictlyIncreasing (numbers_of (docs_of v.items))) }
     ensures least { IfOk result (λ v. All (λ d. 1 ≤ d.number.0) v.items) }
@@ -122,7 +122,7 @@ fn survey<S: ByteSource>(alloc: Global, source: &mut S, size: u32) -> Result<u32
 }
 
 // One for an answer, none for damage; any other fault is passed on.
-fn sound<T: Drop>(answer: Result<T, ReadFault>) -> Result<u32, ReadFault> {
+pub(crate) fn sound<T: Drop>(answer: Result<T, ReadFault>) -> Result<u32, ReadFault> {
     match answer {
         Ok(_) => Ok(1),
         Err(ReadFault::Damaged) => Ok(0),

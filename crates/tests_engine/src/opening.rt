@@ -25,7 +25,7 @@ const STORE: &str = "
 ";
 
 /// What creating and opening tell of that store, byte by byte.
-const STORES: [&str; 6] = [
+const STORES: [&str; 7] = [
     // It is opened, and no store is made over it.
     "
     !open => opened
@@ -83,7 +83,7 @@ const STORES: [&str; 6] = [
     !set 26648 02
     !open => damaged
     ",
-    // Kind 2 stands in a sound body, and is of later stores.
+    // A segment says the kind that its entry does, 1 or 2.
     "
     !set 1056 01 00 00 00
     !set 1100 {00 *24}
@@ -92,6 +92,48 @@ const STORES: [&str; 6] = [
     !close
     !set 1080 02
     !open => damaged
+    !set 25600 02
+    !open => opened
+    count => count 1 next 9
+    !close
+    !set 1080 01
+    !open => damaged
+    !set 1080 03
+    !set 25600 03
+    !open => damaged
+    ",
+    // A segment of kind 2, of `a b` and `a`, is searched by its lists: a byte of a text that changed
+    // changes no find, one of a list does.
+    "
+    !set 1056 01 00 00 00
+    !set 1076 4E 00 00 00 02
+    !set 1100 {00 *24}
+    !set 25600 02 00 00 00 02 00 00 00 04 00 00 00 0B 00 00 00 0F 00 00 00 02 00 00 00
+    !set 25624 01 00 00 00 00 00 00 00 03 00 00 00 02 00 00 00 03 00 00 00 01 00 00 00
+    !set 25648 61 20 62 61 02 00 00 00 81 81 01 00 00 00 81
+    !set 25663 00 00 00 00 81 61 82 80 86 80 81 62 81 86 85
+    !open => opened
+    find a => found 2: 1 2
+    find b => found 1: 1
+    find c => found 0:
+    find NOT b => found 1: 2
+    find a NOT b => found 1: 2
+    find b OR c => found 1: 1
+    find a b => found 1: 1
+    show 1 => text a b
+    !close
+    !set 25648 7A
+    !open => opened
+    find a => found 2: 1 2
+    find z => found 0:
+    delete 1 => deleted 1
+    find a => found 1: 2
+    find NOT b => found 1: 2
+    !close
+    !set 25657 80
+    !open => opened
+    find a => refused damaged
+    count => count 2 next 9
     ",
     // With the last generation, and with the last segment id, nothing is written.
     "

@@ -27,7 +27,7 @@ returns-in_err-gather_in-clause-gathered g c = λ honest stored spells rise.
     let fault = c.in_err-gather_in.ensures.gathered honest s.documents (all_in (drop (i + 1) stored)) input.segment next in
     let on = left_on live_in live_append stored i s (docs_in c.args.gathered.now) (docs_in c.loop-input.gathered) part (take_stored stored i lt) (live_here dead s input.dead) (c.loop-input.invariant.left honest stored spells rise) in
     gathers_fault (live_in stored) [] c.args.gathered.now c.gather_in.new.gathered c.from_residual.result found.0 found.1
-    (subst (λ (x : MergeFault). MergeFails (docs_in c.args.gathered.now ++ live_in stored) x) (sym found.2)
+    (subst (λ (x : MergeFault). MergeFails (docs_in c.args.gathered.now ++ live_in stored) 1 x) (sym found.2)
     (fails_longer (docs_in c.loop-input.gathered ++ part) (live_in (drop (i + 1) stored)) (docs_in c.args.gathered.now ++ live_in stored) c.in_err-gather_in.field-0.0 on fault))
 
 pub loop-input-preserved : goal.loop-input-preserved

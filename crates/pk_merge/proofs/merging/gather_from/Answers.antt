@@ -3,7 +3,7 @@ use Rattle.std.proofs.Common.{◌∙◌, ◌<◌, ◌≤◌, ◌+◌, ◌++◌, 
 use Rattle.std.proofs.lemmas.Result.{err_from_is_err_and}
 use Rattle.std.proofs.lemmas.List.{drop_all, take_all}
 use Rattle.pk_model.specs.Collection.{Doc}
-use Rattle.pk_segment.specs.Plain.{DirectorySpells, SegmentSpells}
+use Rattle.pk_segment.specs.Spelling.{DirectorySpells, SegmentSpells}
 use Rattle.pk_segment.specs.Directory.{doc_in}
 use Rattle.pk_segment.specs.Reading.{read_of}
 use Rattle.pk_segment.proofs.DirectoryLemmas.{directory_of}
@@ -21,7 +21,7 @@ returns-in_err-segment-clause-gathered g c = λ honest docs more is rise.
     let left = left_by c.args.dead.now docs in
     let all = docs_in c.args.gathered.now ++ left in
     gathers_fault left more c.args.gathered.now c.args.gathered.now c.from_residual.result found.0 found.1
-    (subst (λ (x : MergeFault). MergeFails all x) (sym found.2)
+    (subst (λ (x : MergeFault). MergeFails all 1 x) (sym found.2)
     (fails_read all (read_of c.in_err-segment.field-0.0)
     (c.in_err-segment.ensures.directory honest docs (directory_of content docs c.args.kind is) c.len-bytes.ensures)))
 
@@ -53,7 +53,7 @@ returns-in_err-gather_one-clause-gathered g c = λ honest docs more is rise.
     let fault = c.in_err-gather_one.ensures.gathered honest docs more c.args.kind here ready.0 ready.1 (c.loop-i.invariant.rise honest docs more is rise) in
     let on = left_on (left_by dead) (left_append dead) docs i (doc_in docs i) (docs_in c.args.gathered.now) (docs_in c.loop-i.gathered) part (take_doc docs i lt) refl (c.loop-i.invariant.left honest docs more is rise) in
     gathers_fault (left_by dead docs) more c.args.gathered.now c.gather_one.new.gathered c.from_residual-in_err-gather_one.result found.0 found.1
-    (subst (λ (x : MergeFault). MergeFails (docs_in c.args.gathered.now ++ left_by dead docs) x) (sym found.2)
+    (subst (λ (x : MergeFault). MergeFails (docs_in c.args.gathered.now ++ left_by dead docs) 1 x) (sym found.2)
     (fails_longer (docs_in c.loop-i.gathered ++ part) (left_by dead (drop (i + 1) docs)) (docs_in c.args.gathered.now ++ left_by dead docs) c.in_err-gather_one.field-0.0 on fault))
 
 pub loop-i-preserved : goal.loop-i-preserved

@@ -3,7 +3,7 @@ use Rattle.std.proofs.Common.{◌≡◌, ◌++◌, List, take, drop}
 use Rattle.pk_model.specs.Collection.{Doc}
 use Rattle.pk_segment.specs.Directory.{IsDirectoryOf}
 use Rattle.pk_segment.specs.Opened.{IsSegmentOf}
-use Rattle.pk_segment.specs.Plain.{SegmentSpells}
+use Rattle.pk_segment.specs.Spelling.{SegmentSpells}
 use Rattle.pk_merge.specs.Gathering.{RiseFrom, docs_in, left_by}
 use Rattle.pk_merge.proofs.merging.gather_from.Given as goal
 

@@ -36,7 +36,7 @@ returns-in_err-document-clause-gathered g c = λ honest docs more kind is of rea
     let left = left_by c.args.dead.now (doc_in docs c.args.i ∷ []) in
     let all = docs_in c.args.gathered.now ++ left in
     gathers_fault left (drop (c.args.i + 1) docs ++ more) c.args.gathered.now c.args.gathered.now c.from_residual.result found.0 found.1
-    (subst (λ (x : MergeFault). MergeFails all x) (sym found.2)
+    (subst (λ (x : MergeFault). MergeFails all 1 x) (sym found.2)
     (fails_read all c.in_err-document.field-0.0 (c.in_err-document.ensures.spelled honest docs kind is of read)))
 
 pub returns-clause-gathered : goal.returns-clause-gathered

@@ -10,7 +10,7 @@ use Rattle.pk_disk.proofs.FrameLemmas.{keeps_disk_then}
 use Rattle.pk_search.specs.Opened.{none_stored, present}
 use Rattle.pk_state.specs.Committed.{live_in}
 use Rattle.pk_state.specs.Holds.{SpellsEntries}
-use Rattle.pk_search.proofs.FindingLemmas.{entry_at, found_all, found_fault, found_segment, opened_at, spells_plain}
+use Rattle.pk_search.proofs.FindingLemmas.{entry_at, found_all, found_fault, found_segment, opened_at}
 use Rattle.pk_search.proofs.finding.find_stored.Goals as goal
 
 pub loop-entry-preserved : goal.loop-entry-preserved
@@ -23,7 +23,7 @@ loop-entry-preserved g c =
       reads = c.in_ok-find_in.ensures.reads.ok ∙ c.loop-entry.invariant.reads;
       found = λ h stored spells are.
           let here = subst (λ (bytes : List ℕ). SpellsEntries bytes c.args.entries.now stored) (sym (c.loop-entry.invariant.keeps.read h).bytes) spells in
-          let more = c.in_ok-find_in.ensures.found h (get_or stored i none_stored) (spells_plain _ _ _ (entry_at _ c.args.entries.now stored i c.in-Some.entry.now here turn.0 (turn.2 c.in-Some.entry.now)))
+          let more = c.in_ok-find_in.ensures.found h (get_or stored i none_stored) (entry_at _ c.args.entries.now stored i c.in-Some.entry.now here turn.0 (turn.2 c.in-Some.entry.now)).segment
           (opened_at c.args.opened.now stored i c.in-Some.segment.now are turn.1 (turn.3 c.in-Some.segment.now)).segment in
           found_segment (tree_of c.args.query.now) c.args.opened.now stored i c.in-Some.segment.now c.args.found.now.items c.loop-entry.found.items c.find_in.new.found.items are turn.1 (turn.3 c.in-Some.segment.now)
           (c.loop-entry.invariant.found h stored spells are) more
@@ -38,7 +38,7 @@ returns-in_err-find_in-clause-found g c = λ h stored spells are.
     let here = subst (λ (bytes : List ℕ). SpellsEntries bytes c.args.entries.now stored) (sym (c.loop-entry.invariant.keeps.read h).bytes) spells in
     let err = err_from_is_err_and c.from_residual.result c.from_residual.ensures.1 in
     found_fault (tree_of c.args.query.now) (live_in (present c.args.opened.now stored)) c.args.found.now.items c.find_in.new.found.items c.from_residual.result err.0 c.in_err-find_in.field-0.0 err.1 err.2
-    (c.in_err-find_in.ensures.found h (get_or stored i none_stored) (spells_plain _ _ _ (entry_at _ c.args.entries.now stored i c.in-Some.entry.now here turn.0 (turn.2 c.in-Some.entry.now)))
+    (c.in_err-find_in.ensures.found h (get_or stored i none_stored) (entry_at _ c.args.entries.now stored i c.in-Some.entry.now here turn.0 (turn.2 c.in-Some.entry.now)).segment
     (opened_at c.args.opened.now stored i c.in-Some.segment.now are turn.1 (turn.3 c.in-Some.segment.now)).segment)
 
 pub returns-clause-found : goal.returns-clause-found

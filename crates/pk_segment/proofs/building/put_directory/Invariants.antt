@@ -1,7 +1,7 @@
 -- What is left of the directory stands behind what was put.
 use Rattle.std.proofs.Common.{◌≡◌, ◌+◌, ◌++◌, ◌<◌, ◌^◌, drop, take, length}
 use Rattle.std.specs.Prelude.{All}
-use Rattle.pk_segment.specs.Plain.{directory, texts, docs_of}
+use Rattle.pk_segment.specs.Spelling.{directory, texts, docs_of}
 use Rattle.pk_model.specs.declared.documents.Document.{Document}
 use Rattle.pk_segment.proofs.building.put_directory.Given as goal
 

@@ -1,6 +1,6 @@
 -- The texts of the documents so far were put.
 use Rattle.std.proofs.Common.{◌≡◌, ◌++◌, take}
-use Rattle.pk_segment.specs.Plain.{texts, docs_of}
+use Rattle.pk_segment.specs.Spelling.{texts, docs_of}
 use Rattle.pk_segment.proofs.building.put_texts.Given as goal
 
 abbrev pub invariant-loop-d : goal.invariant-loop-d

@@ -3,4 +3,4 @@ use Rattle.std.proofs.Common.{◌∙◌, sym}
 use Rattle.pk_segment.proofs.laws.a_list_has_one_segment.Goals as goal
 
 pub returns : goal.returns
-returns c = λ a b docs kind x y. x.1.same ∙ sym y.1.same
+returns c = λ a b docs kind x y. x.same ∙ sym y.same

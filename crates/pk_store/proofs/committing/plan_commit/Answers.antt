@@ -2,7 +2,7 @@
 use Rattle.std.proofs.Common.{◌∙◌, ℕ, sym, subst, refl, None}
 use Rattle.std.proofs.lemmas.Bool.{eqb-true}
 use Rattle.pk_manifest.specs.Spelling.{view}
-use Rattle.pk_segment.specs.Plain.{docs_of}
+use Rattle.pk_segment.specs.Spelling.{docs_of}
 use Rattle.pk_store.specs.Plan.{DueAs}
 use Rattle.pk_store.proofs.PlanLemmas.{as_many, can_segment, least_of, no_documents, planned_segment, planned_without}
 use Rattle.pk_store.proofs.committing.plan_commit.Goals as goal

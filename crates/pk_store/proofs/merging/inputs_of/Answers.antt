@@ -1,5 +1,5 @@
 -- One input more, of the entry and the open segment at its place.
-use Rattle.std.proofs.Common.{refl, sym, inl, subst, List, length}
+use Rattle.std.proofs.Common.{refl, sym, subst, List, length}
 use Rattle.std.specs.Prelude.{All}
 use Rattle.std.proofs.lemmas.List.{length_push}
 use Rattle.std.proofs.lemmas.List.Elements.{All-push}
@@ -7,7 +7,7 @@ use Rattle.std.proofs.lemmas.Slice.Zip.{zip_turn, zip_end}
 use Rattle.pk_merge.specs.declared.merging.MergeInput.{MergeInput}
 use Rattle.pk_merge.specs.Merging.{HasKind, LiesInside}
 use Rattle.pk_search.proofs.FindingLemmas.{inside_at}
-use Rattle.pk_store.proofs.PendingLemmas.{inputs_more, inputs_all}
+use Rattle.pk_store.proofs.PendingLemmas.{inputs_more, inputs_all, kind_at}
 use Rattle.pk_store.proofs.merging.inputs_of.Goals as goal
 
 pub loop-entry-preserved : goal.loop-entry-preserved
@@ -19,7 +19,7 @@ loop-entry-preserved c =
       spelled = λ bytes stored spells are. inputs_more bytes c.args.entries.now c.args.opened.now stored n c.in-Some.entry.now c.in-Some.segment.now c.loop-entry.inputs.items c.push.new.self.items _ _ spells are turn.0 turn.1 (turn.2 c.in-Some.entry.now) (turn.3 c.in-Some.segment.now)
           c.in_ok-push.ensures.items (length_push c.loop-entry.yielded (c.in-Some.entry, c.in-Some.segment)) refl refl refl (c.loop-entry.invariant.spelled bytes stored spells are);
       inside = λ size lie. subst (λ (is : List MergeInput). All (LiesInside size) is) (sym c.in_ok-push.ensures.items) (All-push (LiesInside size) c.loop-entry.inputs.items _ (c.loop-entry.invariant.inside size lie) (inside_at size c.args.entries.now n c.in-Some.entry.now lie turn.0 (turn.2 c.in-Some.entry.now)));
-      kinds = subst (λ (is : List MergeInput). All HasKind is) (sym c.in_ok-push.ensures.items) (All-push HasKind c.loop-entry.inputs.items _ c.loop-entry.invariant.kinds (inl refl));
+      kinds = λ have. subst (λ (is : List MergeInput). All HasKind is) (sym c.in_ok-push.ensures.items) (All-push HasKind c.loop-entry.inputs.items _ (c.loop-entry.invariant.kinds have) (kind_at c.args.entries.now n c.in-Some.entry.now have turn.0 (turn.2 c.in-Some.entry.now)));
     }
 
 pub returns-clause-spelled : goal.returns-clause-spelled

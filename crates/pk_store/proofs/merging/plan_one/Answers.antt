@@ -6,9 +6,9 @@ use Rattle.pk_manifest.specs.Spelling.{view}
 use Rattle.pk_search.specs.declared.opened.OpenSegment.{OpenSegment}
 use Rattle.pk_manifest.specs.declared.manifest.Part.{Part}
 use Rattle.pk_posting.specs.Posting.{IsPosting}
-use Rattle.pk_segment.specs.Plain.{SegmentSpells}
+use Rattle.pk_segment.specs.Spelling.{SegmentSpells}
 use Rattle.pk_space.specs.Places.{PlacedAs}
-use Rattle.pk_state.specs.Writing.{new_entry, next_body}
+use Rattle.pk_state.specs.Writing.{new_entry, next_body, written_kind}
 use Rattle.pk_store.specs.Merging.{body_merged}
 use Rattle.pk_store.proofs.PlacingLemmas.{some_bytes, spelled_length}
 use Rattle.pk_store.proofs.MergeLemmas.{one_extent, one_least, plan_same}
@@ -37,7 +37,7 @@ returns c =
         o,
         refl,
         record {
-          segment = λ docs spells. c.open_built-segment.ensures docs (subst (λ (bs : List ℕ). SegmentSpells bs docs 1) (sym c.deref.ensures.value) spells);
+          segment = λ docs spells. c.open_built-segment.ensures docs (subst (λ (bs : List ℕ). SegmentSpells bs docs written_kind) (sym c.deref.ensures.value) spells);
           no_list = refl;
           deleted = c.in_ok-deleted.ensures;
           posting = subst IsPosting c.deleted.view_is c.deleted.invariant;

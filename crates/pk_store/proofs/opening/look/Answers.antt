@@ -7,7 +7,7 @@ use Rattle.pk_store.specs.declared.refused.OpenFault.{OpenFault}
 use Rattle.pk_store.specs.Judging.{JudgesFound, SegmentsAs}
 use Rattle.pk_state.specs.Kept.{LieInside}
 use Rattle.pk_store.proofs.OpeningLemmas.{body_refuses, segments_refuse}
-use Rattle.pk_state.proofs.HoldsLemmas.{lie_inside}
+use Rattle.pk_state.proofs.HoldsLemmas.{have_kinds, lie_inside}
 use Rattle.pk_store.proofs.opening.look.Goals as goal
 
 pub returns-in_err-manifest-clause-found : goal.returns-in_err-manifest-clause-found
@@ -17,8 +17,12 @@ returns-in_err-manifest-clause-found g c = λ honest.
     subst (λ (r : Result Found OpenFault). JudgesFound bytes r) (sym (found.1 ∙ ap Err found.2))
     (body_refuses bytes c.in_err-manifest.field-0.0 (c.in_err-manifest.ensures.answer honest))
 
-pub open_segments-requires : goal.open_segments-requires
-open_segments-requires g c =
+pub open_segments-requires-clause-kinds : goal.open_segments-requires-clause-kinds
+open_segments-requires-clause-kinds g c =
+    have_kinds _ (view c.in_ok-manifest.manifest) c.in_ok-manifest.ensures.sound
+
+pub open_segments-requires-clause-inside : goal.open_segments-requires-clause-inside
+open_segments-requires-clause-inside g c =
     subst (λ (n : ℕ). LieInside n c.in_ok-manifest.manifest.entries.items) (sym c.read_current.ensures.size)
     (lie_inside (g.D.Disk.content c.args.disk.now) (view c.in_ok-manifest.manifest) c.in_ok-manifest.ensures.sound)
 

@@ -2,12 +2,12 @@
 use Rattle.std.proofs.Common.{arith}
 use Rattle.pk_model.specs.Views.{doc_of}
 use Rattle.pk_merge.specs.Gathering.{docs_in}
-use Rattle.pk_merge.proofs.GatherLemmas.{kept_each, kept_rise, kept_size, plain_one}
+use Rattle.pk_merge.proofs.GatherLemmas.{kept_each, kept_rise, kept_size, front_one}
 use Rattle.pk_merge.proofs.gathered.Gathered.keep.Goals as goal
 
 pub returns-then-bytes-from : goal.returns-then-bytes-from
 returns-then-bytes-from c =
-    omega (arith, plain_one (docs_in c.args.self.now) (doc_of c.args.document), c.args.self.now.size, c.if-bytes-from.true, c.from.ensures, c.len.ensures)
+    omega (arith, front_one (docs_in c.args.self.now) (doc_of c.args.document), c.args.self.now.size, c.if-bytes-from.true, c.from.ensures, c.len.ensures)
 
 pub invariant_of-self-2-clause-rising : goal.invariant_of-self-2-clause-rising
 invariant_of-self-2-clause-rising c =

@@ -31,7 +31,7 @@ loop-low-preserved-then-entry-number-2 g c =
           let lt : middle < length docs = omega (arith, count, c.loop-low.invariant.within, c.loop-low-test.true) in
           let at = subst (λ (x : List ℕ). IsEntry (entry_field x middle) c.in_ok-entry.entry) (c.loop-low.invariant.same honest) (c.in_ok-entry.ensures.value honest) in
           let entry = says (content c.args.source.now) docs kind middle c.in_ok-entry.entry is lt at in
-          below_middle docs middle i c.args.number _ _ _ is.spelled.1.are lt entry c.if-entry-number-2.true le;
+          below_middle docs middle i c.args.number _ _ _ is.spelled.are lt entry c.if-entry-number-2.true le;
       above = c.loop-low.invariant.above;
     }
 
@@ -55,7 +55,7 @@ loop-low-preserved g c =
           let at = subst (λ (x : List ℕ). IsEntry (entry_field x middle) c.in_ok-entry.entry) (c.loop-low.invariant.same honest) (c.in_ok-entry.ensures.value honest) in
           let entry = says (content c.args.source.now) docs kind middle c.in_ok-entry.entry is lt at in
           let more : c.args.number < c.in_ok-entry.entry.number = omega (arith, c.if-entry-number.false, c.if-entry-number-2.false) in
-          above_middle docs middle i c.args.number _ _ _ is.spelled.1.are lt entry more le long;
+          above_middle docs middle i c.args.number _ _ _ is.spelled.are lt entry more le long;
     }
 
 pub returns-clause-found : goal.returns-clause-found

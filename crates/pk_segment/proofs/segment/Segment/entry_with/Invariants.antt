@@ -1,7 +1,7 @@
 -- What is below the range has smaller numbers, what is above it greater ones.
 use Rattle.std.proofs.Common.{◌≡◌, ◌≤◌, ◌<◌, ◌+◌, ◌-◌, ◌^◌, List, ℕ, length}
 use Rattle.pk_model.specs.Collection.{Doc}
-use Rattle.pk_segment.specs.Plain.{DirectorySpells}
+use Rattle.pk_segment.specs.Spelling.{DirectorySpells}
 use Rattle.pk_segment.specs.Directory.{doc_in}
 use Rattle.pk_segment.proofs.segment.Segment.entry_with.Given as goal
 

@@ -22,20 +22,20 @@ pub returns-then-not-is_sound-clause-directory : goal.returns-then-not-is_sound-
 returns-then-not-is_sound-clause-directory g c = λ honest docs is size.
     let content = g.S.ByteSource.content in
     let header = header_in (content c.args.source.now) docs c.args.kind c.in_ok-header.header is (c.in_ok-header.ensures.value honest) in
-    let yes = whole is.segment docs c.args.kind c.args.bytes c.in_ok-header.header is.spelled.1 header is.spelled.0 (size ∙ is.long) in
+    let yes = whole is.segment docs c.args.kind c.args.bytes c.in_ok-header.header is.spelled header (size ∙ is.long) in
     cc (yes, c.is_sound.ensures, c.if-not-is_sound.true)
 
 pub returns-then-first-eq0-clause-directory : goal.returns-then-first-eq0-clause-directory
 returns-then-first-eq0-clause-directory g c = λ honest docs is size.
     let bytes = g.S.ByteSource.content c.args.source.now in
     let header = header_in bytes docs c.args.kind c.in_ok-header.header is (c.in_ok-header.ensures.value honest) in
-    let count = counted is.segment docs c.in_ok-header.header is.spelled.1 header in
-    let some = is.spelled.1.are.some in
+    let count = counted is.segment docs c.args.kind c.in_ok-header.header is.spelled header in
+    let some = is.spelled.are.some in
     let same = c.header_of.ensures.content honest in
     let first = number_in bytes docs c.args.kind 0 _ is some (c.in_ok-first.ensures.first honest ∙ ap (λ (x : List ℕ). number_at 0 (entry_field x 0)) same) in
     let at_last = c.in_ok-first.ensures.last honest ∙ ap (λ (x : List ℕ). number_at 0 (entry_field x (c.in_ok-header.header.count - 1))) same ∙ ap (λ (n : ℕ). number_at 0 (entry_field bytes (n - 1))) count in
     let last = number_in bytes docs c.args.kind (length docs - 1) _ is (omega (arith, some)) at_last in
-    let order = in_order is.segment docs c.in_ok-first.first c.in_ok-first.last is.spelled.1 first last in
+    let order = in_order is.segment docs c.args.kind c.in_ok-first.first c.in_ok-first.last is.spelled first last in
     elim c.then-first-eq0.branch [
       | then-first-eq0-via-then-first-eq0 w ↦ omega (arith, order, w.if-first-eq0.true)
       | then-first-eq0-via-else-first-eq0+then-last-first w ↦ omega (arith, order, w.if-last-first.true)
@@ -45,15 +45,15 @@ pub returns-clause-directory : goal.returns-clause-directory
 returns-clause-directory g c = λ honest docs is size.
     let bytes = g.S.ByteSource.content c.args.source.now in
     let header = header_in bytes docs c.args.kind c.in_ok-header.header is (c.in_ok-header.ensures.value honest) in
-    let count = counted is.segment docs c.in_ok-header.header is.spelled.1 header in
-    let some = is.spelled.1.are.some in
+    let count = counted is.segment docs c.args.kind c.in_ok-header.header is.spelled header in
+    let some = is.spelled.are.some in
     let same = c.header_of.ensures.content honest in
     let first = number_in bytes docs c.args.kind 0 _ is some (c.in_ok-first.ensures.first honest ∙ ap (λ (x : List ℕ). number_at 0 (entry_field x 0)) same) in
     let at_last = c.in_ok-first.ensures.last honest ∙ ap (λ (x : List ℕ). number_at 0 (entry_field x (c.in_ok-header.header.count - 1))) same ∙ ap (λ (n : ℕ). number_at 0 (entry_field bytes (n - 1))) count in
     let last = number_in bytes docs c.args.kind (length docs - 1) _ is (omega (arith, some)) at_last in
     record {
       count_is = omega (arith, count);
-      texts_is = texts_counted is.segment docs c.in_ok-header.header is.spelled.1 header;
-      first_is = number_there is.segment docs 0 _ is.spelled.1 some first;
-      last_is = number_there is.segment docs (length docs - 1) _ is.spelled.1 (omega (arith, some)) last;
+      texts_is = texts_counted is.segment docs c.args.kind c.in_ok-header.header is.spelled header;
+      first_is = number_there is.segment docs c.args.kind 0 _ is.spelled some first;
+      last_is = number_there is.segment docs c.args.kind (length docs - 1) _ is.spelled (omega (arith, some)) last;
     }

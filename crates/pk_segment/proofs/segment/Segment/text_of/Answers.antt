@@ -6,10 +6,10 @@ use Rattle.std.proofs.lemmas.Result.{err_from_is_err_and}
 use Rattle.pk_segment.specs.declared.directory.Entry.{Entry}
 use Rattle.pk_segment.specs.declared.fault.ReadFault.{ReadFault}
 use Rattle.pk_segment.specs.Directory.{FindsEntry}
-use Rattle.pk_segment.specs.Plain.{SegmentSpells}
+use Rattle.pk_segment.specs.Spelling.{SegmentSpells}
 use Rattle.pk_segment.specs.Reading.{TextAs, IsNoDamage}
 use Rattle.pk_segment.proofs.DirectoryLemmas.{directory_of, within}
-use Rattle.pk_segment.proofs.PlainLemmas.{text_missing}
+use Rattle.pk_segment.proofs.SegmentLemmas.{text_missing}
 use Rattle.pk_segment.proofs.ReadLemmas.{cause_read, text_is}
 use Rattle.pk_segment.proofs.segment.Segment.text_of.Goals as goal
 
@@ -41,4 +41,4 @@ returns-clause-spelled g c = λ honest docs kind is of.
     let content = g.S.ByteSource.content in
     let entry = subst (λ (o : Option Entry). FindsEntry docs c.args.number o) c.in-Some.is (c.in_ok-entry.ensures.found honest docs kind (directory_of (content c.args.source.now) docs kind is) of) in
     let there = subst (λ (x : List ℕ). SegmentSpells x docs kind) (sym (c.in_ok-entry.ensures.content honest)) is in
-    text_is docs entry.0 c.args.number _ is.1.are entry.1 (sym entry.2 ∙ entry.3.number_is) (c.in_ok-text.ensures.spelled honest docs kind entry.0 there of entry.1 entry.3)
+    text_is docs entry.0 c.args.number _ is.are entry.1 (sym entry.2 ∙ entry.3.number_is) (c.in_ok-text.ensures.spelled honest docs kind entry.0 there of entry.1 entry.3)

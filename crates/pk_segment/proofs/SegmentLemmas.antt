@@ -1,6 +1,6 @@
--- What a segment of kind 1 spells is read again.
-use Rattle.std.proofs.Common.{◌≡◌, ℕ, zero, suc, ◌+◌, ◌*◌, ◌-◌, ◌^◌, ◌<◌, ◌≤◌, List, [], ◌∷◌, ◌++◌, length, take, drop, map, Some, None, eqb, true, false, refl, sym, ap, subst, ◌∙◌, append_assoc, arith}
-use Rattle.std.proofs.lemmas.List.{length-map, length-append, take_at, drop_at, drop-drop, append-nil}
+-- What a segment spells is read again, field by field.
+use Rattle.std.proofs.Common.{◌≡◌, ℕ, zero, suc, ◌+◌, ◌*◌, ◌-◌, ◌^◌, ◌<◌, ◌≤◌, List, [], ◌∷◌, ◌++◌, length, take, drop, map, Some, None, eqb, true, false, inl, inr, refl, sym, ap, subst, ◌∙◌, append_assoc, arith}
+use Rattle.std.proofs.lemmas.List.{length-map, length-append, length-drop, take_at, drop_at, drop-drop, append-nil, take-append-le, drop-append-le}
 use Rattle.std.proofs.lemmas.Bool.{eq-eqb, ne_eqb, or_parts, or_right}
 use Rattle.std.proofs.lemmas.List.Concat.{flat_map-cons}
 use Rattle.std.proofs.lemmas.Nat.{from_le_bytes-to_le_bytes_4}
@@ -10,8 +10,12 @@ use Rattle.std.specs.List.Sorted.{IsStrictlyIncreasing}
 use Rattle.pk_model.specs.Collection.{Doc, numbers_of, is_live}
 use Rattle.pk_segment.specs.Directory.{doc_in, offset_in, EntrySays}
 use Rattle.pk_segment.specs.Fields.{number_at, header_field, entry_field}
-use Rattle.pk_segment.specs.Plain.{le32, texts, directory_entry, directory, header, plain_spelling, plain_length, AreDocuments, PlainSpells, longest}
+use Rattle.pk_segment.specs.Spelling.{le32, texts, directory_entry, directory, header, header_in, postings_in, dictionary_in, terms_in, segment_spelling, segment_length, AreDocuments, IsKind, SegmentSpells, longest}
+use Rattle.pk_segment.specs.Indexed.{dictionary, items_of}
 use Rattle.pk_segment.specs.Reading.{text_of}
+use Rattle.pk_dict.proofs.Room.{as_long}
+use Rattle.pk_model.specs.Terms.{terms_of}
+use Rattle.pk_segment.proofs.IndexLemmas.{items_count}
 
 -- each number is above the one before, the first above a given one
 abbrev pub Rise : ℕ → List Doc → Type 0
@@ -71,8 +75,8 @@ docs_at zero entries bytes = []
 docs_at (suc n) entries bytes =
     record { number = number_at 0 entries; text = take (number_at 8 entries) bytes } ∷ docs_at n (drop 12 entries) (drop (number_at 8 entries) bytes)
 
-unfoldable pub plain_at : List ℕ → List Doc
-plain_at bytes = docs_at (number_at 4 bytes) (drop 24 bytes) (drop (24 + 12 * number_at 4 bytes) bytes)
+unfoldable pub docs_in : List ℕ → List Doc
+docs_in bytes = docs_at (number_at 4 bytes) (drop 24 bytes) (drop (24 + 12 * number_at 4 bytes) bytes)
 
 docs_again : (above at : ℕ) (docs : List Doc) (rest more : List ℕ) → Rise above docs → length (texts docs) < 2 ^ 32 → docs_at (length docs) (directory at docs ++ rest) (texts docs ++ more) ≡ docs
 unfolding docs_at
@@ -108,51 +112,63 @@ pub length_header : (kind count t p g m : ℕ) → length (header kind count t p
 unfolding header le32
 length_header kind count t p g m = refl
 
-abbrev pub plain_header : List Doc → List ℕ
-plain_header docs = header 1 (length docs) (length (texts docs)) 0 0 0
+-- what stands behind the texts
+abbrev pub behind : List Doc → ℕ → List ℕ
+behind docs kind = postings_in docs kind ++ dictionary_in docs kind
 
-pub regrouped_plain : (docs : List Doc) → plain_spelling docs ≡ plain_header docs ++ (directory 0 docs ++ texts docs)
-unfolding plain_spelling
-regrouped_plain docs = append_assoc (plain_header docs) (directory 0 docs) (texts docs)
+pub in_parts : (docs : List Doc) (kind : ℕ) → segment_spelling docs kind ≡ header_in docs kind ++ (directory 0 docs ++ (texts docs ++ behind docs kind))
+unfolding segment_spelling
+in_parts docs kind = refl
 
-pub length_parts : (docs : List Doc) → length (plain_spelling docs) ≡ 24 + 12 * length docs + length (texts docs)
-length_parts docs = ap length (regrouped_plain docs) ∙ omega (arith, length-append (plain_header docs) (directory 0 docs ++ texts docs), length-append (directory 0 docs) (texts docs), length_header 1 (length docs) (length (texts docs)) 0 0 0, length_directory 0 docs)
+-- the header is its 24 bytes
+length_header_in : (docs : List Doc) (kind : ℕ) → length (header_in docs kind) ≡ 24
+length_header_in docs kind = length_header kind (length docs) (length (texts docs)) (length (postings_in docs kind)) (length (dictionary_in docs kind)) (terms_in docs kind)
 
-pub parts_of : (docs : List Doc) → plain_length docs ≡ 24 + 12 * length docs + length (texts docs)
-unfolding plain_length
-parts_of docs = refl
+pub parts_of : (docs : List Doc) (kind : ℕ) → segment_length docs kind ≡ 24 + 12 * length docs + length (texts docs) + length (postings_in docs kind) + length (dictionary_in docs kind)
+unfolding segment_length
+parts_of docs kind = refl
+
+pub length_parts : (docs : List Doc) (kind : ℕ) → length (segment_spelling docs kind) ≡ 24 + 12 * length docs + length (texts docs) + length (postings_in docs kind) + length (dictionary_in docs kind)
+length_parts docs kind = ap length (in_parts docs kind) ∙ omega (arith, length-append (header_in docs kind) (directory 0 docs ++ (texts docs ++ behind docs kind)), length-append (directory 0 docs) (texts docs ++ behind docs kind), length-append (texts docs) (behind docs kind), length-append (postings_in docs kind) (dictionary_in docs kind), length_header_in docs kind, length_directory 0 docs)
 
 -- how long a spelling is
-pub length_plain : (docs : List Doc) → length (plain_spelling docs) ≡ plain_length docs
-length_plain docs = length_parts docs ∙ sym (parts_of docs)
+pub length_segment : (docs : List Doc) (kind : ℕ) → length (segment_spelling docs kind) ≡ segment_length docs kind
+length_segment docs kind = length_parts docs kind ∙ sym (parts_of docs kind)
+
+-- what follows the header
+behind_header : (docs : List Doc) (kind n : ℕ) (rest : List ℕ) → drop (24 + n) (header_in docs kind ++ rest) ≡ drop n rest
+behind_header docs kind n rest = header_rest kind (length docs) (length (texts docs)) (length (postings_in docs kind)) (length (dictionary_in docs kind)) (terms_in docs kind) n rest
+
+pub entries_there : (docs : List Doc) (kind n : ℕ) → drop (24 + n) (segment_spelling docs kind) ≡ drop n (directory 0 docs ++ (texts docs ++ behind docs kind))
+entries_there docs kind n = ap (drop (24 + n)) (in_parts docs kind) ∙ behind_header docs kind n (directory 0 docs ++ (texts docs ++ behind docs kind))
 
 -- the texts, behind header and directory
-pub texts_there : (docs : List Doc) → drop (24 + 12 * length docs) (plain_spelling docs) ≡ texts docs
-texts_there docs =
-    ap (drop (24 + 12 * length docs)) (regrouped_plain docs)
-    ∙ header_rest 1 (length docs) (length (texts docs)) 0 0 0 (12 * length docs) (directory 0 docs ++ texts docs)
-    ∙ drop_at (directory 0 docs) (texts docs) (12 * length docs) (length_directory 0 docs)
+pub texts_there : (docs : List Doc) (kind : ℕ) → drop (24 + 12 * length docs) (segment_spelling docs kind) ≡ texts docs ++ behind docs kind
+texts_there docs kind = entries_there docs kind (12 * length docs) ∙ drop_at (directory 0 docs) (texts docs ++ behind docs kind) (12 * length docs) (length_directory 0 docs)
 
-pub count_there : (docs : List Doc) → length docs < 2 ^ 32 → number_at 4 (plain_spelling docs) ≡ length docs
-count_there docs h = ap (number_at 4) (regrouped_plain docs) ∙ header_count 1 (length docs) (length (texts docs)) 0 0 0 (directory 0 docs ++ texts docs) h
+-- the index, behind the texts
+pub index_there : (docs : List Doc) (kind : ℕ) → drop (24 + 12 * length docs + length (texts docs)) (segment_spelling docs kind) ≡ behind docs kind
+index_there docs kind =
+    sym (drop-drop (length (texts docs)) (24 + 12 * length docs) (segment_spelling docs kind)) ∙ ap (drop (length (texts docs))) (texts_there docs kind)
+    ∙ drop_at (texts docs) (behind docs kind) (length (texts docs)) refl
 
-pub entries_there : (docs : List Doc) (n : ℕ) → drop (24 + n) (plain_spelling docs) ≡ drop n (directory 0 docs ++ texts docs)
-entries_there docs n = ap (drop (24 + n)) (regrouped_plain docs) ∙ header_rest 1 (length docs) (length (texts docs)) 0 0 0 n (directory 0 docs ++ texts docs)
+pub count_there : (docs : List Doc) (kind : ℕ) → length docs < 2 ^ 32 → number_at 4 (segment_spelling docs kind) ≡ length docs
+count_there docs kind h = ap (number_at 4) (in_parts docs kind) ∙ header_count kind (length docs) (length (texts docs)) (length (postings_in docs kind)) (length (dictionary_in docs kind)) (terms_in docs kind) (directory 0 docs ++ (texts docs ++ behind docs kind)) h
 
-pub plain_again : (docs : List Doc) → AreDocuments docs → plain_length docs ≤ longest → plain_at (plain_spelling docs) ≡ docs
-unfolding plain_at
-plain_again docs are fits =
-    let parts = parts_of docs in
+pub read_again : (docs : List Doc) (kind : ℕ) → AreDocuments docs → segment_length docs kind ≤ longest → docs_in (segment_spelling docs kind) ≡ docs
+unfolding docs_in
+read_again docs kind are fits =
+    let parts = parts_of docs kind in
     let few : length docs < 2 ^ 32 = omega arith in
     let small : length (texts docs) < 2 ^ 32 = omega arith in
-    let nothing : texts docs ++ [] ≡ texts docs = append-nil (texts docs) in
-    ap (λ (n : ℕ). docs_at n (drop 24 (plain_spelling docs)) (drop (24 + 12 * n) (plain_spelling docs))) (count_there docs few)
-    ∙ ap (λ (x : List ℕ). docs_at (length docs) x (drop (24 + 12 * length docs) (plain_spelling docs))) (entries_there docs 0)
-    ∙ ap (docs_at (length docs) (directory 0 docs ++ texts docs)) (texts_there docs ∙ sym nothing)
-    ∙ docs_again 0 0 docs (texts docs) [] (rise_of docs are) small
+    let bytes = segment_spelling docs kind in
+    ap (λ (n : ℕ). docs_at n (drop 24 bytes) (drop (24 + 12 * n) bytes)) (count_there docs kind few)
+    ∙ ap (λ (x : List ℕ). docs_at (length docs) x (drop (24 + 12 * length docs) bytes)) (entries_there docs kind 0)
+    ∙ ap (docs_at (length docs) (directory 0 docs ++ (texts docs ++ behind docs kind))) (texts_there docs kind)
+    ∙ docs_again 0 0 docs (texts docs ++ behind docs kind) (behind docs kind) (rise_of docs are) small
 
-pub one_plain : (bytes : List ℕ) (a b : List Doc) → PlainSpells bytes a → PlainSpells bytes b → a ≡ b
-one_plain bytes a b x y = sym (plain_again a x.are x.fits) ∙ ap plain_at (sym x.same ∙ y.same) ∙ plain_again b y.are y.fits
+pub one_list : (bytes : List ℕ) (a b : List Doc) (j k : ℕ) → SegmentSpells bytes a j → SegmentSpells bytes b k → a ≡ b
+one_list bytes a b j k x y = sym (read_again a j x.are x.fits) ∙ ap docs_in (sym x.same ∙ y.same) ∙ read_again b k y.are y.fits
 
 -- ---- by index
 
@@ -243,16 +259,16 @@ text_in (d ∷ docs) (suc i) at h =
     )
 
 -- what the bytes of a segment say at the ith entry
-pub entry_at : (bytes : List ℕ) (docs : List Doc) (i : ℕ) → PlainSpells bytes docs → i < length docs → entry_field bytes i ≡ directory_entry (offset_in 0 docs i) (doc_in docs i)
-entry_at bytes docs i is lt =
-    ap (λ (x : List ℕ). take 12 (drop (24 + 12 * i) x)) is.same ∙ ap (take 12) (entries_there docs (12 * i)) ∙ entry_in docs i 0 (texts docs) lt
+pub entry_at : (bytes : List ℕ) (docs : List Doc) (kind i : ℕ) → SegmentSpells bytes docs kind → i < length docs → entry_field bytes i ≡ directory_entry (offset_in 0 docs i) (doc_in docs i)
+entry_at bytes docs kind i is lt =
+    ap (λ (x : List ℕ). take 12 (drop (24 + 12 * i) x)) is.same ∙ ap (take 12) (entries_there docs kind (12 * i)) ∙ entry_in docs i 0 (texts docs ++ behind docs kind) lt
 
-pub entry_says : (bytes : List ℕ) (docs : List Doc) (i number at len : ℕ) → PlainSpells bytes docs → i < length docs
+pub entry_says : (bytes : List ℕ) (docs : List Doc) (kind i number at len : ℕ) → SegmentSpells bytes docs kind → i < length docs
     → number ≡ number_at 0 (entry_field bytes i) → at ≡ number_at 4 (entry_field bytes i) → len ≡ number_at 8 (entry_field bytes i) → EntrySays docs i number at len
-entry_says bytes docs i number at len is lt n a l =
-    let field = entry_at bytes docs i is lt in
+entry_says bytes docs kind i number at len is lt n a l =
+    let field = entry_at bytes docs kind i is lt in
     let nil = append-nil (directory_entry (offset_in 0 docs i) (doc_in docs i)) in
-    let parts = parts_of docs in
+    let parts = parts_of docs kind in
     let fits = is.fits in
     let there = text_in docs i 0 lt in
     let small = above_all 0 docs i (rise_of docs is.are) lt in
@@ -263,25 +279,34 @@ entry_says bytes docs i number at len is lt n a l =
     }
 
 -- the number of the ith entry is that of the ith document
-pub entry_number_at : (bytes : List ℕ) (docs : List Doc) (i : ℕ) → PlainSpells bytes docs → i < length docs → number_at 0 (entry_field bytes i) ≡ (doc_in docs i).number
-entry_number_at bytes docs i is lt = (entry_says bytes docs i _ _ _ is lt refl refl refl).number_is
+pub entry_number_at : (bytes : List ℕ) (docs : List Doc) (kind i : ℕ) → SegmentSpells bytes docs kind → i < length docs → number_at 0 (entry_field bytes i) ≡ (doc_in docs i).number
+entry_number_at bytes docs kind i is lt = (entry_says bytes docs kind i _ _ _ is lt refl refl refl).number_is
+
+-- a part of the front, whatever stands behind it
+pub inside_part : (at n : ℕ) (xs ys : List ℕ) → at + n ≤ length xs → take n (drop at (xs ++ ys)) ≡ take n (drop at xs)
+inside_part at n xs ys le =
+    ap (take n) (drop-append-le at xs ys (omega (arith, le))) ∙ take-append-le n (drop at xs) ys (omega (arith, le, length-drop at xs))
 
 -- the text that an entry leads to
-pub text_there : (bytes : List ℕ) (docs : List Doc) (i number at len : ℕ) → PlainSpells bytes docs → i < length docs → EntrySays docs i number at len
+pub text_there : (bytes : List ℕ) (docs : List Doc) (kind i number at len : ℕ) → SegmentSpells bytes docs kind → i < length docs → EntrySays docs i number at len
     → (24 + 12 * length docs + at + len ≤ length bytes) × (take len (drop (24 + 12 * length docs + at) bytes) ≡ (doc_in docs i).text)
-text_there bytes docs i number at len is lt says =
-    let size = length_parts docs in
+text_there bytes docs kind i number at len is lt says =
+    let size = length_parts docs kind in
     let whole = ap length is.same in
     let there = text_in docs i 0 lt in
-    let z : offset_in 0 docs i - 0 ≡ offset_in 0 docs i = omega arith in (
+    let z : offset_in 0 docs i - 0 ≡ offset_in 0 docs i = omega arith in
+    let n = length (doc_in docs i).text in
+    let from = offset_in 0 docs i in (
       omega (arith, there.0, says.at_is, says.len_is),
-      rw (says.at_is, says.len_is, is.same) (ap (take (length (doc_in docs i).text)) (sym (drop-drop (offset_in 0 docs i) (24 + 12 * length docs) (plain_spelling docs)) ∙ ap (drop (offset_in 0 docs i)) (texts_there docs)) ∙ subst (λ (k : ℕ). take (length (doc_in docs i).text) (drop k (texts docs)) ≡ (doc_in docs i).text) z there.2),
+      rw (says.at_is, says.len_is, is.same) (ap (take n) (sym (drop-drop from (24 + 12 * length docs) (segment_spelling docs kind)) ∙ ap (drop from) (texts_there docs kind))
+          ∙ inside_part from n (texts docs) (behind docs kind) (omega (arith, there.0))
+          ∙ subst (λ (k : ℕ). take n (drop k (texts docs)) ≡ (doc_in docs i).text) z there.2),
     )
 
 -- ---- the header
 
-header_there : (docs : List Doc) → take 24 (plain_spelling docs) ≡ plain_header docs
-header_there docs = ap (take 24) (regrouped_plain docs) ∙ take_at (plain_header docs) (directory 0 docs ++ texts docs) 24 (length_header 1 (length docs) (length (texts docs)) 0 0 0)
+header_there : (docs : List Doc) (kind : ℕ) → take 24 (segment_spelling docs kind) ≡ header_in docs kind
+header_there docs kind = ap (take 24) (in_parts docs kind) ∙ take_at (header_in docs kind) (directory 0 docs ++ (texts docs ++ behind docs kind)) 24 (length_header_in docs kind)
 
 header_numbers : (kind count t p g m : ℕ) → kind < 2 ^ 32 → count < 2 ^ 32 → t < 2 ^ 32 → p < 2 ^ 32 → g < 2 ^ 32 → m < 2 ^ 32
     → (number_at 0 (header kind count t p g m) ≡ kind) × (number_at 4 (header kind count t p g m) ≡ count) × (number_at 8 (header kind count t p g m) ≡ t)
@@ -296,21 +321,34 @@ header_numbers kind count t p g m a b c d e f = (
   from_le_bytes-to_le_bytes_4 m f,
 )
 
-pub record HeaderSays (docs : List Doc) (kind count t p g m : ℕ) : Type 0 where
-  pub kind_is : kind ≡ 1
+pub record HeaderSays (docs : List Doc) (wanted kind count t p g m : ℕ) : Type 0 where
+  pub kind_is : kind ≡ wanted
   pub count_is : count ≡ length docs
   pub texts_is : t ≡ length (texts docs)
-  pub postings_is : p ≡ 0
-  pub dictionary_is : g ≡ 0
-  pub terms_is : m ≡ 0
+  pub postings_is : p ≡ length (postings_in docs wanted)
+  pub dictionary_is : g ≡ length (dictionary_in docs wanted)
+  pub terms_is : m ≡ terms_in docs wanted
 
-pub header_says : (bytes : List ℕ) (docs : List Doc) → PlainSpells bytes docs
-    → HeaderSays docs (number_at 0 (header_field bytes)) (number_at 4 (header_field bytes)) (number_at 8 (header_field bytes)) (number_at 12 (header_field bytes)) (number_at 16 (header_field bytes)) (number_at 20 (header_field bytes))
-header_says bytes docs is =
-    let field = ap header_field is.same ∙ header_there docs in
-    let parts = parts_of docs in
+-- a kind is small, and so is the number of terms
+small_kind : (kind : ℕ) → IsKind kind → kind < 2 ^ 32
+small_kind kind (inl e) = omega (arith, e)
+small_kind kind (inr e) = omega (arith, e)
+
+pub few_terms : (docs : List Doc) (kind : ℕ) → IsKind kind → terms_in docs kind ≤ length (dictionary_in docs kind)
+unfolding dictionary
+few_terms docs kind (inl e) = rw e (omega arith)
+few_terms docs kind (inr e) = rw e (omega (arith, as_long (items_of docs), items_count docs 0 (terms_of docs)))
+
+pub header_says : (bytes : List ℕ) (docs : List Doc) (kind : ℕ) → SegmentSpells bytes docs kind
+    → HeaderSays docs kind (number_at 0 (header_field bytes)) (number_at 4 (header_field bytes)) (number_at 8 (header_field bytes)) (number_at 12 (header_field bytes)) (number_at 16 (header_field bytes)) (number_at 20 (header_field bytes))
+header_says bytes docs kind is =
+    let field = ap header_field is.same ∙ header_there docs kind in
+    let parts = parts_of docs kind in
     let fits = is.fits in
     let few : length docs < 2 ^ 32 = omega arith in
     let small : length (texts docs) < 2 ^ 32 = omega arith in
-    let all = header_numbers 1 (length docs) (length (texts docs)) 0 0 0 (omega arith) few small (omega arith) (omega arith) (omega arith) in
+    let lists : length (postings_in docs kind) < 2 ^ 32 = omega arith in
+    let words : length (dictionary_in docs kind) < 2 ^ 32 = omega arith in
+    let terms : terms_in docs kind < 2 ^ 32 = omega (arith, words, few_terms docs kind is.is_kind) in
+    let all = header_numbers kind (length docs) (length (texts docs)) (length (postings_in docs kind)) (length (dictionary_in docs kind)) (terms_in docs kind) (small_kind kind is.is_kind) few small lists words terms in
     record { kind_is = ap (number_at 0) field ∙ all.0; count_is = ap (number_at 4) field ∙ all.1; texts_is = ap (number_at 8) field ∙ all.2; postings_is = ap (number_at 12) field ∙ all.3; dictionary_is = ap (number_at 16) field ∙ all.4; terms_is = ap (number_at 20) field ∙ all.5 }

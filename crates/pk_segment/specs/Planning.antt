@@ -1,0 +1,33 @@
+-- A segment of kind 2 before a byte of it is written.
+use Rattle.std.specs.Prelude.{◌≡◌, ◌+◌, ◌≤◌, ◌<◌, ℕ, List, length, map, Result, Ok, Err}
+use Rattle.pk_dict.specs.declared.writer.DictWriter.{DictWriter}
+use Rattle.pk_dict.specs.Writer.{HasAdded}
+use Rattle.pk_model.specs.Collection.{Doc, numbers_of}
+use Rattle.pk_model.specs.Terms.{terms_of}
+use Rattle.pk_segment.specs.declared.building.BuildFault.{BuildFault}
+use Rattle.pk_segment.specs.declared.indexing.IndexPlan.{IndexPlan}
+use Rattle.pk_segment.specs.Building.{BuildFails}
+use Rattle.pk_segment.specs.Indexed.{dictionary, items_of, postings}
+use Rattle.pk_segment.specs.Spelling.{AreDocuments, longest, segment_length}
+
+-- the writer of their dictionary, and the bytes of the posting lists
+abbrev pub PlansListsAs : List Doc → Result (DictWriter × ℕ) BuildFault → Type 0
+PlansListsAs docs (Ok p) =
+    HasAdded p.0 (items_of docs) × (p.1 ≡ length (postings docs)) × (p.1 ≤ longest)
+PlansListsAs docs (Err fault) = BuildFails docs 2 fault
+
+-- The plan is that of the segment of kind 2 of the documents.
+pub record IsIndexPlan (docs : List Doc) (p : IndexPlan) : Type 0 where
+  pub are : AreDocuments docs
+  pub live : p.live.items ≡ numbers_of docs
+  pub words : map (λ w. w.now) p.words.items ≡ terms_of docs
+  pub added : HasAdded p.writer (items_of docs)
+  pub plain : p.plain ≡ segment_length docs 1
+  pub postings_are : p.postings ≡ length (postings docs)
+  pub size_is : p.size ≡ segment_length docs 2
+  pub fits : segment_length docs 2 ≤ longest
+
+-- it, or why there is none
+abbrev pub PlansIndexAs : List Doc → Result IndexPlan BuildFault → Type 0
+PlansIndexAs docs (Ok p) = IsIndexPlan docs p
+PlansIndexAs docs (Err fault) = BuildFails docs 2 fault
