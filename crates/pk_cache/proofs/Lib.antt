@@ -1,0 +1,3 @@
+pub mod CallerLemmas
+pub mod KeptLemmas
+pub mod PlaceLemmas
