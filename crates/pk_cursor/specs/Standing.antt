@@ -39,13 +39,14 @@ pub record CountsDecoded {T : Type 0} (result : Result T SourceFault) (old new :
   pub stays : IsOk result → new.block ≡ old.block → new.decoded ≡ old.decoded
 
 -- what a move leaves: it asks at most `most` times, keeps a fault that it met, and after an earlier
--- fault answers that one and asks nothing
+-- fault answers that one and asks nothing; after a move that went on there is no fault
 pub record IsMoved {S T : Type 0} (honest : Type 0) (content : S → List ℕ) (asked failures : S → ℕ)
     (keeps : S → S → Type 0) (most : ℕ) (result : Result T SourceFault) (old new : Standing)
     (before after : S) : Type 0 where
   pub place : new.place ≡ old.place
   pub decoded : CountsDecoded result old new
   pub faults : IfErr result (λ e. new.fault ≡ Some e)
+  pub sound : IsOk result → new.fault ≡ None
   pub repeats : IfSome old.fault (λ e. (result ≡ Err e) × (after ≡ before))
   pub left : old.fault ≡ None
       → IsRead honest content asked failures keeps most result before after

@@ -2,7 +2,7 @@
 
 ghost use Rattle.std.specs.Prelude.{◌≡◌, ◌+◌, ◌*◌, ◌-◌, ◌<◌, ◌≤◌, ◌^◌};
 ghost use Rattle.std.specs.Prelude.{ℕ, List, length, slice_index};
-ghost use Rattle.std.specs.Prelude.{IfErr, IfSome, OnOk, Some, None, Err, MatchResult};
+ghost use Rattle.std.specs.Prelude.{IfErr, IfSome, IsOk, OnOk, Some, None, Err, MatchResult};
 ghost use Rattle.pk_posting.specs.Parts.{LiesIn, bytes_at};
 ghost use Rattle.pk_posting.specs.Source.{IsRead};
 
@@ -63,6 +63,7 @@ impl Standing {
         ensures on { OnOk result (self.old.block < self.new.block) }
         ensures decoded { CountsDecoded result self.old self.new }
         ensures faults { IfErr result (λ e. self.new.fault ≡ Some e) }
+        ensures after { IsOk result → self.new.fault ≡ None }
         ensures asks { OnOk result ((k : ℕ) → self.new.block - self.old.block < 2 ^ k
             → S.asked source.new ≤ S.asked source.old + 2 * k + 2) }
         ensures left { IsRead S.honest S.content S.asked S.failures S.keeps

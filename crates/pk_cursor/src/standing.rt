@@ -151,6 +151,7 @@ impl Standing {
         ensures shape { self.new.shape ≡ self.old.shape }
         ensures decoded { CountsDecoded result self.old self.new }
         ensures faults { IfErr result (λ e. self.new.fault ≡ Some e) }
+        ensures sound { IsOk result → self.new.fault ≡ None }
         ensures left { IsRead S.honest S.content S.asked S.failures S.keeps
             2 result source.old source.new }
     {

@@ -104,3 +104,7 @@ same_filter p q e (d ∷ docs) = ap₂ (λ b ds. cond b (d ∷ ds) ds) (e d) (sa
 -- an operation that takes what satisfies the query finds the answer
 pub found_answer : (o : Operation) (query : Tree) → ((words : List (List ℕ)) → takes o words ≡ satisfies query words) → (docs : List Doc) → IsStrictlyIncreasing (numbers_of docs) → found o docs ≡ answer query docs
 found_answer o query same docs h = found_is o docs h ∙ ap numbers_of (same_filter (taken o) (is_hit query) (λ d. same (words_of d.text)) docs)
+
+-- operations that take the same find the same
+pub found_same : (a b : Operation) → ((words : List (List ℕ)) → takes a words ≡ takes b words) → (docs : List Doc) → IsStrictlyIncreasing (numbers_of docs) → found a docs ≡ found b docs
+found_same a b same docs h = found_is a docs h ∙ ap numbers_of (same_filter (taken a) (taken b) (λ d. same (words_of d.text)) docs) ∙ sym (found_is b docs h)

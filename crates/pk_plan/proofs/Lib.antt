@@ -1,3 +1,4 @@
 pub mod FoundLemmas
+pub mod OperationLemmas
 pub mod OrderLemmas
 pub mod TakingLemmas

@@ -1,6 +1,11 @@
 -- The numbers that a query finds, document by document and segment by segment.
 use Rattle.std.proofs.Common.{◌≡◌, ℕ, zero, suc, ◌+◌, ◌<◌, ◌≤◌, Bool, true, false, cond, List, [], ◌∷◌, ◌++◌, filter, length, take, Some, slice_get, get_or, min, arith, Result, Err, refl, sym, subst, ap, ◌∙◌, append_assoc, append-nil, add-one, not}
-use Rattle.std.proofs.lemmas.List.{map-append, take_all}
+use Rattle.std.proofs.Common.{None, inl, inr}
+use Rattle.std.proofs.lemmas.Bool.{cases_lt}
+use Rattle.std.proofs.lemmas.List.{length-append, map-append, take_all}
+use Rattle.std.specs.Global.{Vec}
+use Rattle.pk_search.specs.declared.listed.WordEntry.{WordEntry}
+use Rattle.pk_search.specs.Matching.{AreEntriesOf, AreKept}
 use Rattle.std.proofs.lemmas.List.Elements.{filter-append}
 use Rattle.pk_model.specs.declared.documents.DocNo.{DocNo}
 use Rattle.pk_model.specs.Collection.{Doc, answer, is_hit, numbers_of}
@@ -18,7 +23,7 @@ use Rattle.pk_search.specs.declared.opened.OpenSegment.{OpenSegment}
 use Rattle.pk_search.specs.Opened.{AreOpenOf, IsOpenOf, none_stored, present, with_deleted}
 use Rattle.pk_state.proofs.WholeLemmas.{live_cons}
 use Rattle.pk_state.specs.Committed.{Stored, live_in, live_of, lists}
-use Rattle.pk_state.specs.Holds.{SpellsEntries, SpellsEntry}
+use Rattle.pk_state.specs.Holds.{IndexesEntries, IndexesEntry, SpellsEntries, SpellsEntry}
 use Rattle.pk_state.specs.Kept.{LieInside}
 use Rattle.pk_buffer.proofs.SatisfiesLemmas.{satisfies_same}
 
@@ -84,6 +89,13 @@ entry_at bytes [] stored i e spells lt at = absurd (omega arith)
 entry_at bytes (x ∷ es) [] i e spells lt at = absurd spells
 entry_at bytes (x ∷ es) (s ∷ stored) zero e spells lt at = subst (λ (y : Entry). SpellsEntry bytes y s) (sym at) spells.0
 entry_at bytes (x ∷ es) (s ∷ stored) (suc i) e spells lt at = entry_at bytes es stored i e spells.1 (omega arith) at
+
+pub indexes_at : (bytes : List ℕ) (es : List Entry) (stored : List Stored) (i : ℕ) (e : Entry) → IndexesEntries bytes es stored → i < length es → e ≡ get_or es i e
+    → IndexesEntry bytes e (get_or stored i none_stored)
+indexes_at bytes [] stored i e indexes lt at = absurd (omega arith)
+indexes_at bytes (x ∷ es) [] i e indexes lt at = absurd indexes
+indexes_at bytes (x ∷ es) (s ∷ stored) zero e indexes lt at = subst (λ (y : Entry). IndexesEntry bytes y s) (sym at) indexes.0
+indexes_at bytes (x ∷ es) (s ∷ stored) (suc i) e indexes lt at = indexes_at bytes es stored i e indexes.1 (omega arith) at
 
 -- what spells documents has their directory
 pub directory_of : (bytes : List ℕ) (docs : List Doc) (kind : ℕ) → SegmentSpells bytes docs kind → DirectorySpells bytes docs kind
@@ -154,15 +166,65 @@ entries_long bytes [] (s ∷ stored) spells = absurd spells
 entries_long bytes (e ∷ es) [] spells = absurd spells
 entries_long bytes (e ∷ es) (s ∷ stored) spells = ap suc (entries_long bytes es stored spells.1)
 
+pub indexes_long : (bytes : List ℕ) (es : List Entry) (stored : List Stored) → IndexesEntries bytes es stored → length es ≡ length stored
+indexes_long bytes [] [] indexes = refl
+indexes_long bytes [] (s ∷ stored) indexes = absurd indexes
+indexes_long bytes (e ∷ es) [] indexes = absurd indexes
+indexes_long bytes (e ∷ es) (s ∷ stored) indexes = ap suc (indexes_long bytes es stored indexes.1)
+
 -- the numbers found in all of them
 pub found_all : (query : Tree) (bytes : List ℕ) (es : List Entry) (os : List OpenSegment) (stored : List Stored) (n : ℕ) (before now : List DocNo)
-    → SpellsEntries bytes es stored → AreOpenOf os stored → n ≡ min (length es) (length os) → numbers_in now ≡ numbers_in before ++ answer query (live_in (take n (present os stored)))
+    → IndexesEntries bytes es stored → AreOpenOf os stored → n ≡ min (length es) (length os) → numbers_in now ≡ numbers_in before ++ answer query (live_in (take n (present os stored)))
     → numbers_in now ≡ numbers_in before ++ answer query (live_in (present os stored))
 found_all query bytes es os stored n before now spells are ends e =
-    e ∙ ap (λ ts. numbers_in before ++ answer query (live_in ts)) (take_all n (present os stored) (omega (arith, ends, entries_long bytes es stored spells, opened_long os stored are, present_long os stored are)))
+    e ∙ ap (λ ts. numbers_in before ++ answer query (live_in ts)) (take_all n (present os stored) (omega (arith, ends, indexes_long bytes es stored spells, opened_long os stored are, present_long os stored are)))
 
 -- the numbers of the segments, and those of the buffer behind them
 pub found_both : (before mid later now : List DocNo) (xs ys : List ℕ) → before ≡ [] → numbers_in mid ≡ numbers_in before ++ xs → numbers_in later ≡ ys → now ≡ mid ++ later
     → numbers_in now ≡ xs ++ ys
 found_both before mid later now xs ys none one two e =
     ap numbers_in e ∙ map-append (λ (n : DocNo). n.0) mid later ∙ ap (λ ns. ns ++ numbers_in later) (one ∙ ap (λ ns. numbers_in ns ++ xs) none) ∙ ap (λ ns. xs ++ ns) two
+
+-- WHAT IS KEPT OF THE WORDS, segment by segment
+-- the entry at a place, none past the end
+abbrev pub part_at : List Entry → ℕ → Entry
+part_at parts i = get_or parts i (record { segment = 0; extent = record { first = 0; units = 0; bytes = 0 }; kind = 0; dead = None })
+
+pub any_or : {X : Type 0} (xs : List X) (i : ℕ) (d e : X) → i < length xs → get_or xs i d ≡ get_or xs i e
+any_or [] i d e lt = absurd (omega arith)
+any_or (x ∷ xs) zero d e lt = refl
+any_or (x ∷ xs) (suc i) d e lt = any_or xs i d e (omega arith)
+
+pub at_part : (parts : List Entry) (i : ℕ) → i < length parts → part_at parts i ≡ get_or parts i (part_at parts i)
+at_part parts i lt = any_or parts i _ (part_at parts i) lt
+
+push_before : {X : Type 0} (xs : List X) (x : X) (j : ℕ) (d : X) → j < length xs → get_or (xs ++ x ∷ []) j d ≡ get_or xs j d
+push_before [] x j d lt = absurd (omega arith)
+push_before (y ∷ ys) x zero d lt = refl
+push_before (y ∷ ys) x (suc j) d lt = push_before ys x j d (omega arith)
+
+push_last : {X : Type 0} (xs : List X) (x : X) (j : ℕ) (d : X) → j < length (xs ++ x ∷ []) → length xs ≤ j → get_or (xs ++ x ∷ []) j d ≡ x
+push_last [] x zero d lt le = refl
+push_last [] x (suc j) d lt le = absurd (omega arith)
+push_last (y ∷ ys) x zero d lt le = absurd (omega arith)
+push_last (y ∷ ys) x (suc j) d lt le = push_last ys x j d (omega arith) (omega arith)
+
+pub none_kept : (parts : List Entry) (stored : List Stored) (kept : List (Vec WordEntry)) → kept ≡ [] → AreKept parts stored kept
+none_kept parts stored kept e i part entries lt at there two = absurd (let k : length kept ≡ 0 = ap length e in omega (arith, lt, k))
+
+pub one_kept : (parts : List Entry) (stored : List Stored) (kept now : List (Vec WordEntry)) (i : ℕ) (v : Vec WordEntry) (e : Entry) → now ≡ kept ++ v ∷ [] → length kept ≡ i → i < length parts → e ≡ get_or parts i e
+    → AreKept parts stored kept → (e.kind ≡ 2 → AreEntriesOf v.items (get_or stored i none_stored).documents) → AreKept parts stored now
+one_kept parts stored kept now i v e is long inside at are one j part entries lt part_at there two =
+    let size = length-append kept (v ∷ []) in
+    let less : j < length (kept ++ v ∷ []) = subst (λ (vs : List (Vec WordEntry)). j < length vs) is lt in
+    let there_now : entries ≡ get_or (kept ++ v ∷ []) j entries = subst (λ (vs : List (Vec WordEntry)). entries ≡ get_or vs j entries) is there in
+    elim (cases_lt j (length kept)) [
+      | inl l ↦ are j part entries l part_at (there_now ∙ push_before kept v j entries l) two
+      | inr g ↦ (
+          let same : j ≡ i = omega (arith, less, g, size, long) in
+          let part_is : part ≡ e = part_at ∙ ap (λ (k : ℕ). get_or parts k part) same ∙ any_or parts i part e inside ∙ sym at in
+          let entries_is : entries ≡ v = there_now ∙ push_last kept v j entries less g in
+          let here = one (subst (λ (p : Entry). p.kind ≡ 2) part_is two) in
+          subst (λ (w : Vec WordEntry). AreEntriesOf w.items (get_or stored j none_stored).documents) (sym entries_is)
+          (subst (λ (k : ℕ). AreEntriesOf v.items (get_or stored k none_stored).documents) (sym same) here))
+    ]

@@ -1,4 +1,7 @@
 -- The lemma pages; those that callers cite are public.
 pub mod FindingLemmas
+mod JoinLemmas
+mod ListLemmas
+mod LiveLemmas
 pub mod LookUpLemmas
-pub mod MatchLemmas
+mod PlanLemmas

@@ -1,25 +1,29 @@
-//! A query over stored segments: each document is read, cut into words and folded.
-ghost use Rattle.std.specs.Prelude.{◌≡◌, ◌≤◌, ◌+◌, ◌++◌, ◌∷◌, [], ℕ, List, length, IfOk};
+//! A query over stored segments: those of kind 2 by a plan over their posting lists, those of
+//! kind 1 document by document, each read, cut into words and folded.
+ghost use Rattle.std.specs.Prelude.{◌≡◌, ◌≤◌, ◌+◌, ◌++◌, ◌∷◌, [], ℕ, List, length, min, IfOk};
 ghost use Rattle.pk_disk.specs.Frames.{KeepsDisk};
-ghost use Rattle.pk_disk.specs.Units.{extent_bytes, start_of};
+ghost use Rattle.pk_disk.specs.Units.{start_of};
 ghost use Rattle.pk_model.specs.Collection.{answer};
 ghost use Rattle.pk_model.specs.Tree.{tree_of};
 ghost use Rattle.pk_model.specs.Views.{doc_of, numbers_in};
 ghost use Rattle.pk_search.specs.Finding.{FoundAs};
+ghost use Rattle.pk_search.specs.Matching.{AllKeptAs, AreEntriesOf, AreKept, IsPlanFor, KeptAs};
 ghost use Rattle.pk_search.specs.Opened.{AreOpenOf, present, with_deleted};
 ghost use Rattle.pk_segment.specs.Opened.{IsSegmentOf};
-ghost use Rattle.pk_segment.specs.Spelling.{IndexSpells, SegmentSpells};
+ghost use Rattle.pk_segment.specs.Spelling.{SegmentSpells};
 ghost use Rattle.pk_segment.specs.Reading.{CountsReads};
 ghost use Rattle.pk_state.specs.Committed.{Stored, live_in, live_of};
-ghost use Rattle.pk_state.specs.Holds.{SpellsEntries};
+ghost use Rattle.pk_state.specs.Holds.{IndexesEntries, IndexesEntry};
 ghost use Rattle.pk_state.specs.Kept.{LieInside};
 
-use crate::matching::find_listed;
+use crate::listed::{WordEntry, frequencies_of, look_up, words_in};
 use crate::opened::OpenSegment;
+use crate::planned::find_planned;
 use pk_buffer::is_hit;
 use pk_disk::Disk;
 use pk_manifest::Part;
 use pk_model::{DocNo, Document, Query};
+use pk_plan::{Plan, plan};
 use pk_posting::ByteSource;
 use pk_segment::{ExtentSource, ReadFault};
 use pk_words::words;
@@ -71,40 +75,127 @@ fn find_from<S: ByteSource>(
     Ok(())
 }
 
-// The same of the segment of an entry: of kind 2 by its posting lists, else document by document.
+// What the dictionary of an entry's segment says of each word; of kind 1 nothing.
+fn look_up_in<'a, D: Disk>(
+    alloc: Global,
+    disk: &mut D,
+    entry: &Part,
+    opened: &OpenSegment,
+    words: &[&'a str],
+) -> Result<Vec<WordEntry<'a>>, ReadFault>
+    requires { start_of entry.now.extent + entry.now.extent.bytes ≤ length (D.content disk.old) }
+    ensures entries { D.honest → (s : Stored) → IndexesEntry (D.content disk.old) entry.now s
+        → IsSegmentOf opened.now.segment s.documents
+        → KeptAs entry.now.kind s.documents result }
+    ensures keeps { KeepsDisk D.Disk disk.old disk.new }
+    ensures reads { CountsReads (D.failed_reads disk.old) (D.failed_reads disk.new) result }
+{
+    if entry.kind != INDEXED {
+        return Ok(Vec::new(alloc));
+    }
+    let mut source = ExtentSource::on(disk, entry.extent);
+    look_up(alloc, &mut source, &opened.segment, words)
+}
+
+// What the dictionaries of all segments of kind 2 say of each word.
+fn look_up_all<'a, D: Disk>(
+    alloc: Global,
+    disk: &mut D,
+    entries: &[Part],
+    opened: &[OpenSegment],
+    words: &[&'a str],
+) -> Result<Vec<Vec<WordEntry<'a>>>, ReadFault>
+    requires { LieInside (length (D.content disk.old)) entries.now }
+    ensures kept { D.honest → (stored : List Stored)
+        → IndexesEntries (D.content disk.old) entries.now stored → AreOpenOf opened.now stored
+        → AllKeptAs entries.now stored result }
+    ensures count { IfOk result (λ kept. length kept.items
+        ≡ min (length entries.now) (length opened.now)) }
+    ensures keeps { KeepsDisk D.Disk disk.old disk.new }
+    ensures reads { CountsReads (D.failed_reads disk.old) (D.failed_reads disk.new) result }
+{
+    let mut kept = Vec::new(alloc);
+    for i in 0..entries.len().min(opened.len()) {
+        let words = look_up_in(alloc, disk, &entries[i], &opened[i], words)?;
+        let Ok(()) = kept.push(words) else {
+            return Err(ReadFault::Memory);
+        };
+    }
+    Ok(kept)
+}
+
+// A query, and the plan by which it is asked.
+#[derive(Drop)]
+struct Planned<'a> {
+    query: &'a Query,
+    plan: Plan,
+}
+
+// Puts the numbers of the documents of an entry's segment that are not deleted and satisfy the
+// query behind those that were found: of kind 2 by its posting lists, else document by document.
 fn find_in<D: Disk>(
     alloc: Global,
     disk: &mut D,
     entry: &Part,
     opened: &OpenSegment,
-    query: &Query,
+    kept: &[WordEntry],
+    planned: &Planned,
     found: &mut Vec<DocNo>,
 ) -> Result<(), ReadFault>
     requires { start_of entry.now.extent + entry.now.extent.bytes ≤ length (D.content disk.old) }
-    ensures found { D.honest → (s : Stored)
-        → SegmentSpells (extent_bytes (D.content disk.old) entry.now.extent) s.documents
-        entry.now.kind
+    ensures found { D.honest → (s : Stored) → IndexesEntry (D.content disk.old) entry.now s
         → IsSegmentOf opened.now.segment s.documents
-        → FoundAs (tree_of query.now) (live_of (with_deleted opened.now s)) found.old.items
-        found.new.items result }
-    // Of kind 2 no text counts.
-    ensures listed { D.honest → (s : Stored) → entry.now.kind ≡ 2
-        → IndexSpells (extent_bytes (D.content disk.old) entry.now.extent) s.documents
-        → IsSegmentOf opened.now.segment s.documents
-        → FoundAs (tree_of query.now) (live_of (with_deleted opened.now s)) found.old.items
-        found.new.items result }
+        → (entry.now.kind ≡ 2 → AreEntriesOf kept.now s.documents)
+        → IsPlanFor planned.now.plan (tree_of planned.now.query.now)
+        → FoundAs (tree_of planned.now.query.now) (live_of (with_deleted opened.now s))
+        found.old.items found.new.items result }
     ensures keeps { KeepsDisk D.Disk disk.old disk.new }
     ensures reads { CountsReads (D.failed_reads disk.old) (D.failed_reads disk.new) result }
 {
     let mut source = ExtentSource::on(disk, entry.extent);
     if entry.kind == INDEXED {
-        return find_listed(alloc, &mut source, opened, query, found);
+        return find_planned(alloc, &mut source, opened, kept, &planned.plan, found);
     }
-    find_from(alloc, &mut source, opened, query, found)
+    find_from(alloc, &mut source, opened, planned.query, found)
+}
+
+// The same of all segments.
+fn find_all<D: Disk>(
+    alloc: Global,
+    disk: &mut D,
+    entries: &[Part],
+    opened: &[OpenSegment],
+    kept: &[Vec<WordEntry>],
+    planned: &Planned,
+    found: &mut Vec<DocNo>,
+) -> Result<(), ReadFault>
+    requires inside { LieInside (length (D.content disk.old)) entries.now }
+    requires count { length kept.now ≡ min (length entries.now) (length opened.now) }
+    ensures found { D.honest → (stored : List Stored)
+        → IndexesEntries (D.content disk.old) entries.now stored → AreOpenOf opened.now stored
+        → AreKept entries.now stored kept.now
+        → IsPlanFor planned.now.plan (tree_of planned.now.query.now)
+        → FoundAs (tree_of planned.now.query.now) (live_in (present opened.now stored))
+        found.old.items found.new.items result }
+    ensures keeps { KeepsDisk D.Disk disk.old disk.new }
+    ensures reads { CountsReads (D.failed_reads disk.old) (D.failed_reads disk.new) result }
+{
+    for i in 0..kept.len() {
+        find_in(
+            alloc,
+            disk,
+            &entries[i],
+            &opened[i],
+            &kept[i],
+            planned,
+            found,
+        )?;
+    }
+    Ok(())
 }
 
 /// Puts the numbers of the live documents of all segments that satisfy the query behind those that
-/// were found. Each open segment stands at the place of its entry.
+/// were found. Each open segment stands at the place of its entry. Of kind 2 no text is read.
 ///
 /// Answers `Damaged` where a segment is none, `Disk` where a read failed, or `Memory`; then some of
 /// the numbers may stand there.
@@ -118,14 +209,16 @@ pub fn find_stored<D: Disk>(
 ) -> Result<(), ReadFault>
     requires { LieInside (length (D.content disk.old)) entries.now }
     ensures found { D.honest → (stored : List Stored)
-        → SpellsEntries (D.content disk.old) entries.now stored → AreOpenOf opened.now stored
+        → IndexesEntries (D.content disk.old) entries.now stored → AreOpenOf opened.now stored
         → FoundAs (tree_of query.now) (live_in (present opened.now stored)) found.old.items
         found.new.items result }
     ensures keeps { KeepsDisk D.Disk disk.old disk.new }
     ensures reads { CountsReads (D.failed_reads disk.old) (D.failed_reads disk.new) result }
 {
-    for (entry, segment) in entries.iter().zip(opened) {
-        find_in(alloc, disk, entry, segment, query, found)?;
-    }
-    Ok(())
+    let words = words_in(alloc, query)?;
+    let kept = look_up_all(alloc, disk, entries, opened, &words)?;
+    let frequencies = frequencies_of(alloc, &words, &kept)?;
+    let plan = plan(alloc, query, &frequencies)?;
+    let planned = Planned { query, plan };
+    find_all(alloc, disk, entries, opened, &kept, &planned, found)
 }

@@ -3,23 +3,39 @@
 //!
 //! A caller hands the disk, the entries of the body in force and their open segments, each at the
 //! place of its entry. An `OpenSegment` has the numbers of its deleted documents, those of its
-//! deletion list and all. What the entries stand for is said by pk_state (`SpellsEntries`), and what
-//! is left of it once each deletion counts by `present`; the clauses hold for whatever that is.
+//! deletion list and all. What the entries stand for is said by pk_state: by `SpellsEntries`, and
+//! for a find by `IndexesEntries`, in which the texts of kind 2 may be any bytes. What is left of it
+//! once each deletion counts is `present`; the clauses hold for whatever that is.
 //!
 //! | call | answers | reads |
 //! |---|---|---|
-//! | `find_stored` | the numbers of the live documents that satisfy a query | each document |
+//! | `find_stored` | the numbers of the live documents that satisfy a query | posting lists, or each document |
 //! | `text_stored` | the text of the live document of a number, or none | one text, by halving |
 //! | `place_stored` | the place of the segment that has it, or none | one directory, by halving |
 //! | `count_stored` | how many documents there are | nothing |
+//!
+//! A find looks each distinct word up once in each segment of kind 2, and keeps what the
+//! dictionaries say (`listed`). The sums of a word's frequencies go into the plan of the query
+//! (pk_plan), which is carried out in each of these segments (`planned`): of an intersection the
+//! rarest word's list is taken out whole by a cursor, block by block; a later word is sought number
+//! by number where its list is more than 50 times as long as what is left, else taken out too and
+//! joined (`lists`). Joins write into a buffer and change it for the one they read (`joining`), so
+//! that a step takes memory only where its result is longer than each before it. Where nothing is
+//! left, nothing more is read. A segment of kind 1 has no lists: its documents are read, cut into
+//! words and folded.
+//!
+//! The answer is exact whatever the frequencies are: they choose the way alone.
 //!
 //! A search is refused as damaged where a segment is none, as disk where a read failed, or as
 //! memory. It writes nothing.
 #![tactic(auto)]
 
 mod finding;
-mod matching;
+mod joining;
+mod listed;
+mod lists;
 mod opened;
+mod planned;
 mod showing;
 
 pub use finding::find_stored;

@@ -1,0 +1,13 @@
+-- The hits without what is deleted.
+use Rattle.std.proofs.Common.{◌∙◌, ◌++◌, ℕ, List, ap, ap₂}
+use Rattle.pk_model.specs.Views.{numbers_in}
+use Rattle.pk_sets.specs.Sets.{difference}
+use Rattle.pk_search.specs.Opened.{with_deleted}
+use Rattle.pk_search.proofs.LiveLemmas.{live_is}
+use Rattle.pk_search.proofs.planned.find_planned.Goals as goal
+
+pub returns-clause-found : goal.returns-clause-found
+returns-clause-found g c = λ h s is of are query means.
+    let hits = c.in_ok-carry_out.ensures.numbers h s.documents is (record { segment = of; entries = are }) ∙ means s.documents is.front.spelled.are.rising in
+    let live = c.in_ok-keep_without.ensures.numbers ∙ ap₂ difference hits c.numbers.ensures.numbers ∙ live_is (with_deleted c.args.opened.now s) query in
+    c.in_ok-put_numbers.ensures ∙ ap (λ (ns : List ℕ). numbers_in c.args.found.now.items ++ ns) (c.deref.ensures.value ∙ live)

@@ -1,0 +1,217 @@
+//! One posting list: taken out by a cursor, or asked by its seeks.
+ghost use Rattle.std.specs.Prelude.{◌≡◌, ◌↔◌, ℕ, List, length, IsTrue, OnOk, MatchResult};
+ghost use Rattle.std.specs.List.Sorted.{IsStrictlyIncreasing};
+ghost use Rattle.pk_model.specs.Collection.{Doc};
+ghost use Rattle.pk_search.specs.Matching.{AreListsOf, ListLies, PutsAs};
+ghost use Rattle.pk_segment.specs.Indexed.{list_with};
+ghost use Rattle.pk_segment.specs.Listing.{LeadsTo};
+ghost use Rattle.pk_segment.specs.Opened.{IsSegmentOf};
+ghost use Rattle.pk_segment.specs.Reading.{CountsReads, IsNoDamage};
+ghost use Rattle.pk_segment.specs.Spelling.{IndexSpells};
+ghost use Rattle.pk_sets.specs.Sets.{intersection};
+
+use crate::joining::keep_both;
+use crate::listed::{WordLists, entry_for};
+use pk_cursor::Cursor;
+use pk_dict::Entry;
+use pk_posting::{ByteSource, ListPlace};
+use pk_segment::{ReadFault, Segment};
+use std::alloc::Global;
+
+/// Whether each number is above the one before.
+pub(crate) fn is_rising(numbers: &[u32]) -> bool
+    ensures { IsTrue result ↔ IsStrictlyIncreasing numbers.now }
+{
+    for i in 1..numbers.len() {
+        if numbers[i] <= numbers[i - 1] {
+            return false;
+        }
+    }
+    true
+}
+
+// Where the posting list that an entry leads to lies in the segment.
+fn place_of(segment: &Segment, entry: Entry) -> Result<ListPlace, ReadFault>
+    ensures place { (bytes word : List ℕ) (docs : List Doc) → IndexSpells bytes docs
+        → IsSegmentOf segment.now docs → LeadsTo docs word entry
+        → MatchResult result (λ place. ListLies bytes place (list_with word docs)) IsNoDamage }
+    ensures faults { CountsReads 0 0 result }
+{
+    let Some(at) = segment.postings().checked_add(entry.place.at) else {
+        return Err(ReadFault::Damaged);
+    };
+    Ok(ListPlace {
+        at,
+        bytes: entry.place.bytes,
+    })
+}
+
+// Puts the list of so many numbers that lies at a place into `out`, block by block. The cursor holds
+// a block, which is no part of the frames of a recursion.
+#[inline(never)]
+fn copy_out<S: ByteSource>(
+    source: &mut S,
+    place: ListPlace,
+    count: u32,
+    out: &mut Vec<u32>,
+) -> Result<(), ReadFault>
+    ensures numbers { S.honest → (xs : List ℕ) → ListLies (S.content source.old) place xs
+        → count ≡ length xs → PutsAs xs out.new.items result }
+    ensures content { S.honest → S.content source.new ≡ S.content source.old }
+    ensures keeps { S.keeps source.old source.new }
+    ensures faults { CountsReads (S.failures source.old) (S.failures source.new) result }
+{
+    out.clear();
+    let mut cursor = Cursor::open(source, place);
+    if let Some(fault) = cursor.fault() {
+        return Err(fault.into());
+    }
+    for _block in 0..count / 128 + 1 {
+        out.extend_from_slice(cursor.rest())?;
+        cursor.pass()?;
+    }
+    if !cursor.rest().is_empty() {
+        return Err(ReadFault::Damaged);
+    }
+    Ok(())
+}
+
+// The same. `Damaged` where the numbers don't rise.
+fn take_out<S: ByteSource>(
+    source: &mut S,
+    place: ListPlace,
+    count: u32,
+    out: &mut Vec<u32>,
+) -> Result<(), ReadFault>
+    ensures numbers { S.honest → (xs : List ℕ) → ListLies (S.content source.old) place xs
+        → count ≡ length xs → PutsAs xs out.new.items result }
+    ensures rising { OnOk result (IsStrictlyIncreasing out.new.items) }
+    ensures content { S.honest → S.content source.new ≡ S.content source.old }
+    ensures keeps { S.keeps source.old source.new }
+    ensures faults { CountsReads (S.failures source.old) (S.failures source.new) result }
+{
+    copy_out(source, place, count, out)?;
+    if !is_rising(out) {
+        return Err(ReadFault::Damaged);
+    }
+    Ok(())
+}
+
+// Keeps of the numbers those that a seek finds in the list at a place.
+#[inline(never)]
+fn seek_each<S: ByteSource>(
+    source: &mut S,
+    place: ListPlace,
+    numbers: &mut Vec<u32>,
+) -> Result<(), ReadFault>
+    requires { IsStrictlyIncreasing numbers.old.items }
+    ensures numbers { S.honest → (xs : List ℕ) → ListLies (S.content source.old) place xs
+        → PutsAs (intersection numbers.old.items xs) numbers.new.items result }
+    ensures content { S.honest → S.content source.new ≡ S.content source.old }
+    ensures keeps { S.keeps source.old source.new }
+    ensures faults { CountsReads (S.failures source.old) (S.failures source.new) result }
+{
+    let mut cursor = Cursor::open(source, place);
+    if let Some(fault) = cursor.fault() {
+        return Err(fault.into());
+    }
+    let mut kept = 0;
+    for i in 0..numbers.len() {
+        let number = numbers[i];
+        cursor.seek(number)?;
+        if cursor.current() == Some(number) {
+            numbers[kept] = number;
+            kept += 1;
+        }
+    }
+    numbers.truncate(kept);
+    Ok(())
+}
+
+// The same. `Damaged` where what is kept doesn't rise.
+fn cut_in<S: ByteSource>(
+    source: &mut S,
+    place: ListPlace,
+    numbers: &mut Vec<u32>,
+) -> Result<(), ReadFault>
+    requires { IsStrictlyIncreasing numbers.old.items }
+    ensures numbers { S.honest → (xs : List ℕ) → ListLies (S.content source.old) place xs
+        → PutsAs (intersection numbers.old.items xs) numbers.new.items result }
+    ensures rising { OnOk result (IsStrictlyIncreasing numbers.new.items) }
+    ensures content { S.honest → S.content source.new ≡ S.content source.old }
+    ensures keeps { S.keeps source.old source.new }
+    ensures faults { CountsReads (S.failures source.old) (S.failures source.new) result }
+{
+    seek_each(source, place, numbers)?;
+    if !is_rising(numbers) {
+        return Err(ReadFault::Damaged);
+    }
+    Ok(())
+}
+
+/// Puts the numbers of the segment's documents that have the word into `out`.
+pub(crate) fn put_word<S: ByteSource>(
+    alloc: Global,
+    source: &mut S,
+    lists: &WordLists,
+    word: &str,
+    out: &mut Vec<u32>,
+) -> Result<(), ReadFault>
+    ensures numbers { S.honest → (docs : List Doc) → IndexSpells (S.content source.old) docs
+        → AreListsOf lists.now docs → PutsAs (list_with word.now docs) out.new.items result }
+    ensures rising { OnOk result (IsStrictlyIncreasing out.new.items) }
+    ensures content { S.honest → S.content source.new ≡ S.content source.old }
+    ensures keeps { S.keeps source.old source.new }
+    ensures faults { CountsReads (S.failures source.old) (S.failures source.new) result }
+{
+    let Some(entry) = entry_for(alloc, source, lists, word)? else {
+        out.clear();
+        return Ok(());
+    };
+    let place = place_of(lists.segment, entry)?;
+    take_out(source, place, entry.frequency, out)
+}
+
+// Whether a list is more than 50 times as long as the numbers that are sought in it.
+fn is_far(numbers: usize, frequency: u32) -> bool {
+    let long = frequency as usize;
+    numbers < long / 50 || (numbers == long / 50 && long % 50 > 0)
+}
+
+/// Keeps of the numbers those of documents that have the word: by a seek for each of them where
+/// the word's list is far longer, else by the list, which goes into `list`. What `spare` holds is
+/// open. Where there is no number, nothing is read.
+pub(crate) fn cut_word<S: ByteSource>(
+    alloc: Global,
+    source: &mut S,
+    lists: &WordLists,
+    word: &str,
+    numbers: &mut Vec<u32>,
+    list: &mut Vec<u32>,
+    spare: &mut Vec<u32>,
+) -> Result<(), ReadFault>
+    requires { IsStrictlyIncreasing numbers.old.items }
+    ensures numbers { S.honest → (docs : List Doc) → IndexSpells (S.content source.old) docs
+        → AreListsOf lists.now docs
+        → PutsAs (intersection numbers.old.items (list_with word.now docs)) numbers.new.items
+        result }
+    ensures rising { OnOk result (IsStrictlyIncreasing numbers.new.items) }
+    ensures content { S.honest → S.content source.new ≡ S.content source.old }
+    ensures keeps { S.keeps source.old source.new }
+    ensures faults { CountsReads (S.failures source.old) (S.failures source.new) result }
+{
+    if numbers.is_empty() {
+        return Ok(());
+    }
+    let Some(entry) = entry_for(alloc, source, lists, word)? else {
+        numbers.clear();
+        return Ok(());
+    };
+    let place = place_of(lists.segment, entry)?;
+    if is_far(numbers.len(), entry.frequency) {
+        return cut_in(source, place, numbers);
+    }
+    take_out(source, place, entry.frequency, list)?;
+    keep_both(numbers, list, spare)?;
+    Ok(())
+}
