@@ -258,7 +258,7 @@ class Store:
         self.ask("merge")
 
     def tidy(self) -> None:
-        """Puts one segment in the place of neighbours."""
+        """Puts one segment in the place of the eight neighbours with the least bytes."""
         self.ask("tidy")
 
     def count(self) -> Counts:

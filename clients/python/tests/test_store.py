@@ -96,16 +96,17 @@ class Sessions(Stores):
             Store(self.folder / "none")
         self.assertEqual(caught.exception.reason, "missing")
 
-    def test_merge_tidy_and_check_where_the_program_has_them(self):
+    def test_merge_and_tidy(self):
         with Store.create(self.store, 256) as store:
-            store.add("kept")
-            store.commit()
-            for way in (store.merge, store.tidy):
-                try:
-                    way()
-                except Unknown:
-                    pass
-            self.assertEqual(store.find("kept"), [1])
+            for _ in range(9):
+                store.add("kept")
+                store.commit()
+            for way in (store.tidy, store.merge):
+                way()
+                self.assertEqual(store.find("kept"), list(range(1, 10)))
+
+    def test_check_where_the_program_has_it(self):
+        Store.create(self.store, 256).close()
         try:
             Store.check(self.store)
         except Unknown:

@@ -35,7 +35,7 @@ The store has N units of 512 bytes, from 64 to 2147483648, and its file gets tha
 It never grows: 34 units are the store's own, and the others are for documents. A commit takes the
 bytes of its texts, 12 more for each and 24 more, in whole units side by side, and is refused where
 that room is not left. A store takes 64 commits of new documents, and more after a merge, which
-needs room for all its documents once again while it works.
+needs room for all its documents once again while it works, or after a tidy, which needs less.
 
 The file is sparse: what was never written takes no room on the disk. So choose N generously. The
 bytes of all texts to come, divided by 64, give eight times their room. For texts of 4 MiB
@@ -54,12 +54,13 @@ Commands, one on each line, each answered by one line:
   show N       tells the text of document N
   commit       writes what was added and deleted since the last commit to the file
   merge        writes the committed documents that are left anew, together, and frees the old places
+  tidy         does so with eight neighbouring segments, those that have the least bytes together
   count        tells how many documents live, and the next number
   quit         ends the session
 
 What was added or deleted since the last commit is undone when the session ends, be it by `quit`,
 by the end of the input or by a kill, and when the machine stops. What is committed stays:
-`committed` is told once it is on the disk. A merge commits nothing.
+`committed` is told once it is on the disk. Neither a merge nor a tidy commits anything.
 
 One program at a time: a store that another program has is refused as `disk`, and stays as it is.
 

@@ -101,6 +101,7 @@ fn help(rt: HostRuntime) -> Result<(), Fail> {
         ("pk_find run --help", "commit "),
         ("pk_find help run", "NOT green"),
         ("pk_find run --help", "merge "),
+        ("pk_find run --help", "tidy "),
         ("pk_find create --help", "512 bytes"),
         ("pk_find help create", "--units <N>"),
         ("pk_find --version", "pk_find "),

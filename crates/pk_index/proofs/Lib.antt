@@ -7,3 +7,4 @@ pub mod LastLemmas
 pub mod RisingLemmas
 pub mod TableLemmas
 pub mod TermLemmas
+pub mod ReachLemmas

@@ -8,7 +8,7 @@ ghost use Rattle.pk_model.specs.Tree.{Term, tree_of};
 
 use crate::combining::{in_both, in_either, in_first};
 use crate::index::Index;
-use crate::numbers::is_any_in;
+use crate::numbers::{is_any_in, reaches_over};
 use pk_model::Query;
 use pk_sets::both;
 use std::alloc::{AllocError, Global};
@@ -89,6 +89,10 @@ impl Index {
             → take result out.new ≡ answer (Term word.now) docs }
     {
         let list = self.list(word);
+        if reaches_over(live, list) {
+            out[..list.len()].copy_from_slice(list);
+            return list.len();
+        }
         both(live, list, out)
     }
 }

@@ -1,3 +1,4 @@
 -- The definitions that the contracts cite.
+pub mod Choosing
 pub mod Gathering
 pub mod Merging

@@ -9,6 +9,7 @@
 //! |---|---|
 //! | `MergeInput` | a segment on the disk: its extent, its kind, and its deletion list |
 //! | `merged` | the bytes of the one segment, in memory; none where no document is left |
+//! | `choose` | which eight neighbours to merge where not all are: those with the least bytes |
 //!
 //! Of each input the directory is read once, in large stretches, and the text of each document that
 //! is left, once. The documents are then in memory, all of them, until the segment is built.
@@ -24,13 +25,15 @@
 //! again. Whatever was read, what is answered is the bytes of a segment.
 //!
 //! Where the words are: `specs/Merging` has what inputs spell and what a merge answers,
-//! `specs/Gathering` what stands in memory on the way. Lemma pages: `RiseLemmas` on the order of
-//! the numbers, `GatherLemmas` on what was gathered.
+//! `specs/Gathering` what stands in memory on the way, `specs/Choosing` what is chosen. Lemma pages:
+//! `RiseLemmas` on the order of the numbers, `GatherLemmas` on what was gathered.
 #![tactic(auto)]
 
+mod choosing;
 mod fault;
 mod gathered;
 mod merging;
 
+pub use choosing::choose;
 pub use fault::MergeFault;
 pub use merging::{MergeInput, merged};

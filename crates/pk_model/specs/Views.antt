@@ -3,12 +3,12 @@ use Rattle.std.specs.Prelude.{ℕ, List, map, string_bytes, Result, Ok, Err}
 use Rattle.pk_model.specs.declared.documents.DocNo.{DocNo}
 use Rattle.pk_model.specs.declared.documents.Document.{Document}
 use Rattle.pk_model.specs.declared.commands.Command.{Command}
-use Rattle.pk_model.specs.declared.commands.Command.TheVariants.{Add, Delete, Find, Show, Commit, Merge, Count}
+use Rattle.pk_model.specs.declared.commands.Command.TheVariants.{Add, Delete, Find, Show, Commit, Merge, Tidy, Count}
 use Rattle.pk_model.specs.declared.commands.Reply.{Reply}
-use Rattle.pk_model.specs.declared.commands.Reply.TheVariants.{Added, Deleted, Found, Text, Committed, Merged, Counted, Refused}
+use Rattle.pk_model.specs.declared.commands.Reply.TheVariants.{Added, Deleted, Found, Text, Committed, Merged, Tidied, Counted, Refused}
 use Rattle.pk_model.specs.declared.commands.Refusal.{Refusal}
 use Rattle.pk_model.specs.Collection.{Doc}
-use Rattle.pk_model.specs.Steps.{Request, Answer, add, delete, find, show, commit, merge, count, added, deleted, found, text_is, committed, merged, counted}
+use Rattle.pk_model.specs.Steps.{Request, Answer, add, delete, find, show, commit, merge, tidy, count, added, deleted, found, text_is, committed, merged, tidied, counted}
 use Rattle.pk_model.specs.Tree.{tree_of}
 
 -- a document of the code
@@ -27,6 +27,7 @@ request_of (Find query) = find (tree_of query)
 request_of (Show n) = show n.0
 request_of Commit = commit
 request_of Merge = merge
+request_of Tidy = tidy
 request_of Count = count
 
 -- a reply of the code
@@ -37,5 +38,6 @@ reply_of (Found ns) = Ok (found (numbers_in ns.items))
 reply_of (Text t) = Ok (text_is (string_bytes t))
 reply_of Committed = Ok committed
 reply_of Merged = Ok merged
+reply_of Tidied = Ok tidied
 reply_of (Counted c) = Ok (counted c.documents c.next)
 reply_of (Refused why) = Err why

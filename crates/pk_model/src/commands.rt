@@ -19,6 +19,8 @@ pub enum Command {
     Commit,
     /// Makes one segment of all, without what is deleted in them.
     Merge,
+    /// Makes one segment of eight neighbouring ones, without what is deleted in them.
+    Tidy,
     /// Asks how many documents live, and for the next number.
     Count,
 }
@@ -91,6 +93,8 @@ pub enum Reply {
     Committed,
     /// All segments are one.
     Merged,
+    /// Eight neighbouring segments are one, or there are fewer than eight.
+    Tidied,
     /// The counts of the collection.
     Counted(Counts),
     /// The command was refused.

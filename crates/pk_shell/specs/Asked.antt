@@ -5,7 +5,7 @@ use Rattle.std.specs.List.{before_first, after_first, position_or_len}
 use Rattle.std.specs.Str.{bytes_eq, all_ascii_digits}
 use Rattle.std.specs.Str.Lossy.{utf8_valid_len}
 use Rattle.std.specs.Str.Parse.{digits_value}
-use Rattle.pk_model.specs.Steps.{Request, add, delete, show, commit, merge, count}
+use Rattle.pk_model.specs.Steps.{Request, add, delete, show, commit, merge, tidy, count}
 
 -- what a line asks: a refusal of the shell's own, a command, the documents of a query text, or
 -- the end
@@ -43,6 +43,7 @@ abbrev pub asked_alone : List ℕ → Asked
 asked_alone word =
     if bytes_eq word (codes "commit") then does commit
     else if bytes_eq word (codes "merge") then does merge
+    else if bytes_eq word (codes "tidy") then does tidy
     else if bytes_eq word (codes "count") then does count
     else if bytes_eq word (codes "quit") then quits
     else refuses (codes "unknown")

@@ -23,6 +23,7 @@ pub enum Ask<'a> {
     Show(DocNo),
     Commit,
     Merge,
+    Tidy,
     Count,
     Quit,
     Unknown,
@@ -68,6 +69,8 @@ fn ask_alone<'a>(word: &str) -> Ask<'a>
         Ask::Commit
     } else if word == "merge" {
         Ask::Merge
+    } else if word == "tidy" {
+        Ask::Tidy
     } else if word == "count" {
         Ask::Count
     } else if word == "quit" {

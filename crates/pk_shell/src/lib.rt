@@ -12,6 +12,8 @@
 //! | `find Q` | `found K:` and the K numbers, each after a space |
 //! | `show N` | `text ` and the text, a line feed as `\n`, a backslash as `\\` |
 //! | `commit` | `committed`: what was uncommitted is on the disk |
+//! | `merge` | `merged`: all segments are one |
+//! | `tidy` | `tidied`: eight neighbouring segments are one, or there are fewer than eight |
 //! | `count` | `count D next N` |
 //! | `quit` | `bye`; what follows is not answered |
 //!
@@ -23,11 +25,11 @@
 //! |---|---|
 //! | `reopen` | a write or a sync failed before: no command is answered until it is opened again |
 //! | `text too long`, `buffer full` | the text to add, or all that is uncommitted, is too long |
-//! | `numbers used up` | no number is left for a document, or none for a commit |
-//! | `no such document` | no live document has the number, or `delete` names a committed one |
+//! | `numbers used up` | no number is left for a document, or none for what is to be written |
+//! | `no such document` | no live document has the number |
 //! | `too many segments` | a commit of new documents would be the 65th |
-//! | `segment too large` | what a commit adds would pass 1,073,741,824 bytes |
-//! | `full need A largest B` | a commit needs A units in a row, and the disk has B |
+//! | `segment too large` | the segment to be written would pass 1,073,741,824 bytes |
+//! | `full need A largest B` | A units are needed in a row to write, and the disk has B |
 //! | `memory`, `disk` | a growth of memory was refused, a call of the device failed |
 //! | `damaged` | bytes of the disk are no spelling of what should stand there |
 //!

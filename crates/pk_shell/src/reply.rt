@@ -1,7 +1,7 @@
 //! What a line is answered.
 
 ghost use Rattle.std.specs.Prelude.{◌≡◌};
-ghost use Rattle.pk_model.specs.Steps.{add, commit, count, delete, find, merge, show};
+ghost use Rattle.pk_model.specs.Steps.{add, commit, count, delete, find, merge, show, tidy};
 ghost use Rattle.pk_model.specs.Tree.{tree_of};
 ghost use Rattle.pk_model.specs.Views.{reply_of};
 ghost use Rattle.pk_shell.specs.Asked.{asked_short, queries, is_quit};
@@ -68,6 +68,7 @@ fn answer_ask<D: Disk>(alloc: Global, store: &mut Store<D>, ask: Ask<'_>) -> Res
         Ask::Show(number) => Response::Replied(reply_to_show(alloc, store, number)),
         Ask::Commit => Response::Replied(reply_to_commit(alloc, store)),
         Ask::Merge => Response::Replied(reply_to_merge(alloc, store)),
+        Ask::Tidy => Response::Replied(reply_to_tidy(alloc, store)),
         Ask::Count => Response::Replied(reply_to_count(store)),
         Ask::Quit => Response::Bye,
         Ask::Unknown => Response::Unknown,
@@ -142,6 +143,16 @@ fn reply_to_merge<D: Disk>(alloc: Global, store: &mut Store<D>) -> Reply
 {
     match store.merge(alloc) {
         Ok(()) => Reply::Merged,
+        Err(why) => Reply::Refused(why),
+    }
+}
+
+/// The reply to `tidy`.
+fn reply_to_tidy<D: Disk>(alloc: Global, store: &mut Store<D>) -> Reply
+    ensures { StoreStep D.Disk store.old tidy (reply_of result) store.new }
+{
+    match store.tidy(alloc) {
+        Ok(()) => Reply::Tidied,
         Err(why) => Reply::Refused(why),
     }
 }

@@ -228,6 +228,7 @@ fn put_reply<W: Write>(outbox: &mut Outbox, writer: &mut W, reply: &Reply) -> Re
         Reply::Text(text) => put_text(outbox, writer, text.as_bytes()),
         Reply::Committed => put(outbox, writer, b"committed"),
         Reply::Merged => put(outbox, writer, b"merged"),
+        Reply::Tidied => put(outbox, writer, b"tidied"),
         Reply::Counted(counts) => {
             let next = u64::from(counts.next);
             put_pair(outbox, writer, b"count ", counts.documents, b" next ", next)

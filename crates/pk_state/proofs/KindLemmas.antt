@@ -9,7 +9,7 @@ use Rattle.pk_state.specs.Writing.{written_kind}
 
 pub written_is_kind : IsKind written_kind
 unfolding written_kind
-written_is_kind = inl refl
+written_is_kind = inr refl
 
 pub kind_within : (kind : ℕ) → IsKind kind → (1 ≤ kind) × (kind ≤ 2)
 kind_within kind (inl e) = (omega (arith, e), omega (arith, e))

@@ -2,6 +2,7 @@
 pub mod CallerLemmas
 pub mod KindLemmas
 pub mod HoldsLemmas
+pub mod IndexedLemmas
 pub mod MemberLemmas
 pub mod WholeLemmas
 pub mod CommitLemmas

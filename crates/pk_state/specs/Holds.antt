@@ -9,7 +9,7 @@ use Rattle.pk_manifest.specs.Bodies.{body_of, has_open_gate}
 use Rattle.pk_manifest.specs.Current.{HasBody}
 use Rattle.pk_manifest.specs.Sound.{named}
 use Rattle.pk_manifest.specs.Spelling.{Body}
-use Rattle.pk_segment.specs.Spelling.{SegmentSpells}
+use Rattle.pk_segment.specs.Spelling.{IndexSpells, SegmentSpells}
 use Rattle.pk_model.specs.Collection.{Collection, IsCollection}
 use Rattle.pk_posting.specs.Posting.{IsPosting}
 use Rattle.pk_posting.specs.Spelling.{spelling}
@@ -40,6 +40,19 @@ SpellsEntries bytes [] (s ∷ stored) = ⊥
 SpellsEntries bytes (e ∷ es) [] = ⊥
 SpellsEntries bytes (e ∷ es) (s ∷ stored) = SpellsEntry bytes e s × SpellsEntries bytes es stored
 
+-- The same, but of kind 2 the texts may be any bytes: what a search by posting lists rests on.
+pub record IndexesEntry (bytes : List ℕ) (e : Entry) (s : Stored) : Type 0 where
+  pub plain : (e.kind ≡ 2 → ⊥) → SegmentSpells (extent_bytes bytes e.extent) s.documents e.kind
+  pub indexed : e.kind ≡ 2 → IndexSpells (extent_bytes bytes e.extent) s.documents
+  pub list : ListSpells bytes e.dead s
+
+-- each entry indexes what stands at its place
+abbrev pub IndexesEntries : List ℕ → List Entry → List Stored → Type 0
+IndexesEntries bytes [] [] = Unit {0}
+IndexesEntries bytes [] (s ∷ stored) = ⊥
+IndexesEntries bytes (e ∷ es) [] = ⊥
+IndexesEntries bytes (e ∷ es) (s ∷ stored) = IndexesEntry bytes e s × IndexesEntries bytes es stored
+
 -- THE BYTES HOLD THE COLLECTION: the body in force is sound, each of its entries spells what it
 -- stands for, numbers rise from entry to entry, and what the deletion lists leave is the
 -- collection's.
@@ -48,6 +61,15 @@ pub record Holds (bytes : List ℕ) (c : Collection) : Type 0 where
   pub committed : Committed
   pub current : HasBody bytes half committed.body
   pub spelled : SpellsEntries bytes committed.body.entries committed.stored
+  pub numbers : IsCollection (whole_of committed)
+  pub stands_for : collection_of committed ≡ c
+
+-- THE BYTES INDEX THE COLLECTION: they hold it, but the texts of segments of kind 2 may be any bytes.
+pub record Indexes (bytes : List ℕ) (c : Collection) : Type 0 where
+  pub half : Half
+  pub committed : Committed
+  pub current : HasBody bytes half committed.body
+  pub indexed : IndexesEntries bytes committed.body.entries committed.stored
   pub numbers : IsCollection (whole_of committed)
   pub stands_for : collection_of committed ≡ c
 

@@ -1,5 +1,6 @@
 -- The definitions of what a store means.
 pub mod Committed
+pub mod Runs
 pub mod Writing
 pub mod Legal
 pub mod Session

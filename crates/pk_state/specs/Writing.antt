@@ -1,21 +1,22 @@
 -- What a commit, a merge and a tidy write, and what is committed after them.
-use Rattle.std.specs.Prelude.{ℕ, ◌+◌, ◌≤◌, ◌<◌, Bool, true, false, ◌&&◌, ◌==◌, not, nat_lt}
-use Rattle.std.specs.Prelude.{List, [], ◌∷◌, ◌++◌, length, sum_by, take, drop, Some, None, is_some}
+use Rattle.std.specs.Prelude.{ℕ, ◌+◌, Bool, true, false, ◌&&◌, ◌==◌, not, nat_lt}
+use Rattle.std.specs.Prelude.{List, [], ◌∷◌, ◌++◌, map, take, drop, Some, None, is_some}
 use Rattle.std.specs.Prelude.{if◌then◌else◌}
 use Rattle.std.specs.List.{list_any}
 use Rattle.pk_disk.specs.declared.units.Extent.{Extent}
 use Rattle.pk_manifest.specs.declared.manifest.Part.{Part as Entry}
 use Rattle.pk_manifest.specs.Spelling.{Body}
 use Rattle.pk_model.specs.Collection.{Doc, Collection}
-use Rattle.pk_model.specs.Limits.{max_segment_bytes, tidy_run}
+use Rattle.pk_model.specs.Limits.{max_segment_bytes}
 use Rattle.pk_posting.specs.Spelling.{spelled_length}
 use Rattle.pk_segment.specs.Spelling.{segment_length}
 use Rattle.pk_state.specs.Committed.{Stored, Committed, live_in, uncommitted, deleted_of}
 use Rattle.pk_state.specs.Committed.{is_pending, has_documents}
+use Rattle.pk_state.specs.Runs.{IsLeastRun}
 
 -- the kind of the segments that are written
 unfoldable pub written_kind : ℕ
-written_kind = 1
+written_kind = 2
 
 -- SEGMENTS. The byte lengths of the segment of these documents: none without a document.
 abbrev pub segment_writes : List Doc → List ℕ
@@ -105,14 +106,11 @@ is_merged (e ∷ []) = (e.kind == written_kind) && not (is_some e.dead)
 is_merged (e ∷ f ∷ es) = false
 
 -- TIDY. It merges the run of eight neighbours with the least sum of bytes, the first of such runs.
-abbrev pub bytes_of_run : List Entry → ℕ
-bytes_of_run es = sum_by (λ e. e.extent.bytes) (take tidy_run es)
+abbrev pub sizes_of : List Entry → List ℕ
+sizes_of entries = map (λ e. e.extent.bytes) entries
 
-pub record IsTidyRun (entries : List Entry) (at : ℕ) : Type 0 where
-  pub fits : at + tidy_run ≤ length entries
-  pub least : (i : ℕ) → i + tidy_run ≤ length entries
-      → bytes_of_run (drop at entries) ≤ bytes_of_run (drop i entries)
-  pub first : (i : ℕ) → i < at → bytes_of_run (drop at entries) < bytes_of_run (drop i entries)
+abbrev pub IsTidyRun : List Entry → ℕ → Type 0
+IsTidyRun entries at = IsLeastRun (sizes_of entries) at
 
 -- the live documents of the n entries from a place on: what a merge of them writes
 abbrev pub run_documents : Committed → ℕ → ℕ → List Doc

@@ -10,9 +10,9 @@ ghost use Rattle.pk_model.specs.declared.commands.Refusal.{Refusal};
 ghost use Rattle.pk_model.specs.Collection.{Collection, Doc, IsCollection};
 ghost use Rattle.pk_model.specs.Steps.{Answer, Request, commit, merge, tidy};
 ghost use Rattle.pk_segment.specs.Spelling.{segment_length};
-ghost use Rattle.pk_state.specs.Committed.{Committed, collection_of, whole_of};
+ghost use Rattle.pk_state.specs.Committed.{Committed, Stored, collection_of, whole_of};
 ghost use Rattle.pk_state.specs.Follows.{Commits, Replaces};
-ghost use Rattle.pk_state.specs.Holds.{AgreeWith, Holds};
+ghost use Rattle.pk_state.specs.Holds.{AgreeWith, Holds, IndexesEntries, SpellsEntries};
 ghost use Rattle.pk_state.specs.Kept.{IsKept};
 ghost use Rattle.pk_state.specs.Legal.{IsFull, IsPlaceOf, LegalStep, State};
 ghost use Rattle.pk_state.specs.Legal.{Writes, has_work, marked};
@@ -40,6 +40,12 @@ pub fn bytes_that_agree_hold_the_same()
     ensures { (bytes image : List ℕ) (half : Half) (b : Body) (c : Collection)
         → HasBody bytes half b → AgreeWith bytes image b
         → (Holds bytes c → Holds image c) × (Holds image c → Holds bytes c) }
+{}
+
+/// Entries that spell documents index them, so that a search needs no text of kind 2.
+pub fn what_is_spelled_is_indexed()
+    ensures { (bytes : List ℕ) (entries : List Entry) (stored : List Stored)
+        → SpellsEntries bytes entries stored → IndexesEntries bytes entries stored }
 {}
 
 /// A disk that keeps what is committed holds its collection, in each image that a crash may leave.

@@ -7,6 +7,7 @@
 //! | specs/ | what it defines |
 //! |---|---|
 //! | `Committed` | a body with what its entries stand for, and the collection that this is |
+//! | `Runs` | which run of eight neighbours a tidy takes |
 //! | `Writing` | what a commit, a merge and a tidy write, and what is committed after them |
 //! | `Legal` | the state, the refusals in their order, the legal step |
 //! | `Merged` | when a merge has nothing to do, in plain words |

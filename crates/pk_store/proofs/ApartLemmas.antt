@@ -9,38 +9,54 @@ use Rattle.pk_replace.specs.Claims.{AreApart, Claim}
 use Rattle.pk_space.specs.Places.{PlacedAs}
 use Rattle.pk_store.specs.Placed.{AreLaid}
 use Rattle.pk_store.specs.Plan.{laid_in}
-use Rattle.pk_store.proofs.ExtentLemmas.{apart_parts, lies_in, overlap_sym, places_missed, placed_apart, placed_within}
+use Rattle.pk_store.proofs.ExtentLemmas.{apart_by, apart_parts, lies_in, overlap_sym, places_missed, placed_apart, placed_within}
 
 -- a test that none of a list meets, with one of it taken out or put in
-pub any_out : (p : Extent → Bool) (xs ys : List Extent) (e : Extent) → list_any p (xs ++ e ∷ ys) ≡ false → (p e ≡ false) × (list_any p (xs ++ ys) ≡ false)
+pub any_out : {X : Type 0} (p : X → Bool) (xs ys : List X) (e : X) → list_any p (xs ++ e ∷ ys) ≡ false → (p e ≡ false) × (list_any p (xs ++ ys) ≡ false)
 any_out p [] ys e h = (or_left (p e) (list_any p ys) h, or_right (p e) (list_any p ys) h)
 any_out p (x ∷ xs) ys e h =
     let rest = any_out p xs ys e (or_right (p x) (list_any p (xs ++ e ∷ ys)) h) in
     (rest.0, or_both (p x) (list_any p (xs ++ ys)) (or_left (p x) (list_any p (xs ++ e ∷ ys)) h) rest.1)
 
-any_in : (p : Extent → Bool) (xs ys : List Extent) (e : Extent) → p e ≡ false → list_any p (xs ++ ys) ≡ false → list_any p (xs ++ e ∷ ys) ≡ false
+any_in : {X : Type 0} (p : X → Bool) (xs ys : List X) (e : X) → p e ≡ false → list_any p (xs ++ ys) ≡ false → list_any p (xs ++ e ∷ ys) ≡ false
 any_in p [] ys e h k = or_both (p e) (list_any p ys) h k
 any_in p (x ∷ xs) ys e h k = or_both (p x) (list_any p (xs ++ e ∷ ys)) (or_left (p x) (list_any p (xs ++ ys)) k) (any_in p xs ys e h (or_right (p x) (list_any p (xs ++ ys)) k))
 
--- one more in front
-pub apart_from : (e : Extent) (es : List Extent) → list_any (overlap e) es ≡ false → apart overlap es ≡ true → apart overlap (e ∷ es) ≡ true
-apart_from e es h k = and_from (not (list_any (overlap e) es)) (apart overlap es) (not_from_false _ h) k
+module _ {X : Type 0} (meets : X → X → Bool) (turned : (x y : X) → meets x y ≡ false → meets y x ≡ false) where
+  -- one more in front
+  front_by : (e : X) (es : List X) → list_any (meets e) es ≡ false → apart meets es ≡ true → apart meets (e ∷ es) ≡ true
+  front_by e es h k = and_from (not (list_any (meets e) es)) (apart meets es) (not_from_false _ h) k
 
--- taken out of the middle, and put there
+  -- one taken out of the middle, and put there
+  out_by : (xs ys : List X) (e : X) → apart meets (xs ++ e ∷ ys) ≡ true → (list_any (meets e) (xs ++ ys) ≡ false) × (apart meets (xs ++ ys) ≡ true)
+  out_by [] ys e h = apart_by meets e ys h
+  out_by (x ∷ xs) ys e h =
+      let parts = apart_by meets x (xs ++ e ∷ ys) h in
+      let out = any_out (meets x) xs ys e parts.0 in
+      let rest = out_by xs ys e parts.1 in
+      (or_both (meets e x) (list_any (meets e) (xs ++ ys)) (turned x e out.0) rest.0, front_by x (xs ++ ys) out.1 rest.1)
+
+  pub in_by : (xs ys : List X) (e : X) → list_any (meets e) (xs ++ ys) ≡ false → apart meets (xs ++ ys) ≡ true → apart meets (xs ++ e ∷ ys) ≡ true
+  in_by [] ys e h k = front_by e ys h k
+  in_by (x ∷ xs) ys e h k =
+      let parts = apart_by meets x (xs ++ ys) k in
+      front_by x (xs ++ e ∷ ys) (any_in (meets x) xs ys e (turned e x (or_left (meets e x) (list_any (meets e) (xs ++ ys)) h)) parts.0)
+      (in_by xs ys e (or_right (meets e x) (list_any (meets e) (xs ++ ys)) h) parts.1)
+
+  -- several taken out
+  pub without_by : (xs ys zs : List X) → apart meets (xs ++ (ys ++ zs)) ≡ true → apart meets (xs ++ zs) ≡ true
+  without_by xs [] zs h = h
+  without_by xs (y ∷ ys) zs h = without_by xs ys zs (out_by xs (ys ++ zs) y h).1
+
+-- the same of extents
+pub apart_from : (e : Extent) (es : List Extent) → list_any (overlap e) es ≡ false → apart overlap es ≡ true → apart overlap (e ∷ es) ≡ true
+apart_from = front_by overlap overlap_sym
+
 pub apart_out : (xs ys : List Extent) (e : Extent) → apart overlap (xs ++ e ∷ ys) ≡ true → (list_any (overlap e) (xs ++ ys) ≡ false) × (apart overlap (xs ++ ys) ≡ true)
-apart_out [] ys e h = apart_parts e ys h
-apart_out (x ∷ xs) ys e h =
-    let parts = apart_parts x (xs ++ e ∷ ys) h in
-    let out = any_out (overlap x) xs ys e parts.0 in
-    let rest = apart_out xs ys e parts.1 in
-    (or_both (overlap e x) (list_any (overlap e) (xs ++ ys)) (overlap_sym x e out.0) rest.0, apart_from x (xs ++ ys) out.1 rest.1)
+apart_out = out_by overlap overlap_sym
 
 pub apart_in : (xs ys : List Extent) (e : Extent) → list_any (overlap e) (xs ++ ys) ≡ false → apart overlap (xs ++ ys) ≡ true → apart overlap (xs ++ e ∷ ys) ≡ true
-apart_in [] ys e h k = apart_from e ys h k
-apart_in (x ∷ xs) ys e h k =
-    let parts = apart_parts x (xs ++ ys) k in
-    apart_from x (xs ++ e ∷ ys) (any_in (overlap x) xs ys e (overlap_sym e x (or_left (overlap e x) (list_any (overlap e) (xs ++ ys)) h)) parts.0)
-    (apart_in xs ys e (or_right (overlap e x) (list_any (overlap e) (xs ++ ys)) h) parts.1)
+apart_in = in_by overlap overlap_sym
 
 pub apart_back : (xs ys : List Extent) → apart overlap (xs ++ ys) ≡ true → apart overlap ys ≡ true
 apart_back [] ys h = h

@@ -1,10 +1,9 @@
 -- The body that follows another one, and the claims of entries.
-use Rattle.std.proofs.Common.{◌≡◌, ℕ, ◌+◌, ◌<◌, ◌≤◌, ◌^◌, true, false, not, ◌&&◌, ◌||◌, eqb, leb, ltb, List, [], ◌∷◌, ◌++◌, length, Option, Some, None, refl, sym, ◌∙◌, ap, subst, arith, append_assoc}
+use Rattle.std.proofs.Common.{◌≡◌, ℕ, ◌+◌, ◌<◌, ◌≤◌, ◌^◌, true, false, ◌&&◌, eqb, leb, ltb, List, [], ◌∷◌, ◌++◌, length, Option, Some, None, refl, sym, ◌∙◌, ap, subst, arith, append-nil, append_assoc}
 use Rattle.std.specs.List.{flat_map, list_all, list_any}
-use Rattle.std.proofs.lemmas.Bool.{and_from, and_parts, eqb-true, leb-true, le-leb, ltb-true, lt-ltb, not-true, not_from_false}
+use Rattle.std.proofs.lemmas.Bool.{and_from, and_parts, eqb-true, leb-true, le-leb, ltb-true, lt-ltb}
 use Rattle.std.proofs.lemmas.Bool.Decides.{nat_tests}
 use Rattle.std.proofs.lemmas.List.Concat.{flat_map-cons}
-use Rattle.std.proofs.lemmas.List.Folds.{list_any-append}
 use Rattle.pk_disk.proofs.Ranges.{or_both}
 use Rattle.pk_disk.specs.Units.{IsFitted, apart, lies_within, overlap, start_of}
 use Rattle.pk_disk.specs.declared.units.Extent.{Extent}
@@ -22,6 +21,7 @@ use Rattle.pk_state.specs.Writing.{new_entry, next_body, written_kind}
 use Rattle.pk_state.proofs.HoldsLemmas.{fitted_entry, fitted_list}
 use Rattle.pk_state.proofs.KindLemmas.{kind_within, written_is_kind}
 use Rattle.pk_store.specs.Placed.{AreLaid}
+use Rattle.pk_store.proofs.ApartLemmas.{in_by}
 use Rattle.pk_store.proofs.ExtentLemmas.{laid_append, lies_in}
 
 -- an entry stays sound when ids go on
@@ -50,15 +50,21 @@ part_below units next p h =
     let d = and_parts (leb 1 p.segment && ltb p.segment next) (leb 1 p.kind) c.0 in
     ltb-true _ _ (and_parts (leb 1 p.segment) (ltb p.segment next) d.0).1
 
-pub ids_apart : (units : ℕ) (n : Entry) (ps : List Entry) → list_all (is_part units n.segment) ps ≡ true → apart same_segment ps ≡ true → apart same_segment (ps ++ n ∷ []) ≡ true
-ids_apart units n [] all h = refl
-ids_apart units n (p ∷ ps) all h =
+pub new_id : (units : ℕ) (n : Entry) (ps : List Entry) → list_all (is_part units n.segment) ps ≡ true → list_any (same_segment n) ps ≡ false
+new_id units n [] all = refl
+new_id units n (p ∷ ps) all =
     let parts = and_parts (is_part units n.segment p) (list_all (is_part units n.segment) ps) all in
-    let old = and_parts (not (list_any (same_segment p) ps)) (apart same_segment ps) h in
     let lt = part_below units n.segment p parts.0 in
-    let other : eqb p.segment n.segment ≡ false = grind (arith, nat_tests, lt) in
-    let none : list_any (same_segment p) (ps ++ n ∷ []) ≡ false = list_any-append (same_segment p) ps (n ∷ []) ∙ or_both (list_any (same_segment p) ps) (same_segment p n || false) (not-true _ old.0) (or_both (same_segment p n) false other refl) in
-    and_from (not (list_any (same_segment p) (ps ++ n ∷ []))) (apart same_segment (ps ++ n ∷ [])) (not_from_false _ none) (ids_apart units n ps parts.1 old.1)
+    let other : eqb n.segment p.segment ≡ false = grind (arith, nat_tests, lt) in
+    or_both (same_segment n p) (list_any (same_segment n) ps) other (new_id units n ps parts.1)
+
+pub segments_turned : (p q : Entry) → same_segment p q ≡ false → same_segment q p ≡ false
+segments_turned p q h = grind (arith, nat_tests, h)
+
+pub ids_apart : (units : ℕ) (n : Entry) (ps : List Entry) → list_all (is_part units n.segment) ps ≡ true → apart same_segment ps ≡ true → apart same_segment (ps ++ n ∷ []) ≡ true
+ids_apart units n ps all h =
+    let same : ps ++ [] ≡ ps = append-nil ps in
+    in_by same_segment segments_turned ps [] n (ap (list_any (same_segment n)) same ∙ new_id units n ps all) (ap (apart same_segment) same ∙ h)
 
 -- what a sound body says, part by part
 pub record SaysSound (units : ℕ) (b : Body) : Type 0 where
@@ -91,7 +97,7 @@ is_sound_by units b s =
 
 -- ---- a body that follows is sound
 
-no_more : (n : ℕ) → n + 0 ≡ n
+pub no_more : (n : ℕ) → n + 0 ≡ n
 no_more n = omega arith
 
 -- with these entries, a generation later

@@ -46,8 +46,11 @@ places_missed e c in_e (f ∷ es) (d ∷ cs) laid none p le lt =
     (claims_apart e f (or_left (overlap e f) (list_any (overlap e) es) none) c d in_e laid.0 p le lt)
     (places_missed e c in_e es cs laid.1 (or_right (overlap e f) (list_any (overlap e) es) none) p le lt)
 
+pub apart_by : {X : Type 0} (meets : X → X → Bool) (x : X) (xs : List X) → apart meets (x ∷ xs) ≡ true → (list_any (meets x) xs ≡ false) × (apart meets xs ≡ true)
+apart_by meets x xs h = let parts = and_parts (not (list_any (meets x) xs)) (apart meets xs) h in (not-true (list_any (meets x) xs) parts.0, parts.1)
+
 pub apart_parts : (e : Extent) (es : List Extent) → apart overlap (e ∷ es) ≡ true → (list_any (overlap e) es ≡ false) × (apart overlap es ≡ true)
-apart_parts e es h = let parts = and_parts (not (list_any (overlap e) es)) (apart overlap es) h in (not-true (list_any (overlap e) es) parts.0, parts.1)
+apart_parts e es h = apart_by overlap e es h
 
 -- claims in some of them have no position of claims in the others
 pub laid_missed : (es fs : List Extent) (cs ds : List Claim) → AreLaid es cs → AreLaid fs ds → apart overlap (es ++ fs) ≡ true → Each (IsUntouched (places ds)) cs

@@ -8,6 +8,7 @@ pub mod OpeningLemmas
 pub mod PlacingLemmas
 pub mod PlanLemmas
 pub mod RelistLemmas
+pub mod ReplacedLemmas
 pub mod SizeLemmas
 pub mod StoreSteps
 pub mod WriteLemmas

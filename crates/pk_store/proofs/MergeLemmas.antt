@@ -10,7 +10,7 @@ use Rattle.pk_model.specs.declared.commands.Refusal.TheVariants.{Reopen, TextToo
 use Rattle.pk_search.specs.declared.opened.OpenSegment.{OpenSegment}
 use Rattle.pk_space.specs.Places.{FullAs, PlacedAs}
 use Rattle.pk_store.specs.declared.planning.Plan.{Plan}
-use Rattle.pk_store.specs.Merging.{PlansMerged, TakesPending}
+use Rattle.pk_store.specs.Merging.{PlansMerged, TakesPending, run_of}
 use Rattle.pk_store.specs.Plan.{IsPlanOf, PlacesAs, laid_in}
 
 -- ---- the plan is made
@@ -34,29 +34,29 @@ plan_same b b' os os' es es' ws ws' p body opened extents writes is = record {
 }
 
 -- where one length finds no place
-pub not_placed : (b : Body) (opened : List OpenSegment) (bytes : Vec ℕ Global) (n : ℕ) (why : Refusal) → n ≡ length bytes.items → PlacesAs b (n ∷ []) (Err why) → PlansMerged b opened (Some bytes) (Err why)
-not_placed b opened bytes n (Full need largest) long is = subst (λ m. FullAs b.units (named b) (m ∷ []) need largest) long is
-not_placed b opened bytes n Memory long is = tt
-not_placed b opened bytes n SegmentTooLarge long is = absurd is
-not_placed b opened bytes n Reopen long is = absurd is
-not_placed b opened bytes n TextTooLong long is = absurd is
-not_placed b opened bytes n BufferFull long is = absurd is
-not_placed b opened bytes n NumbersUsedUp long is = absurd is
-not_placed b opened bytes n NoSuchDocument long is = absurd is
-not_placed b opened bytes n TooManySegments long is = absurd is
-not_placed b opened bytes n Damaged long is = absurd is
-not_placed b opened bytes n Disk long is = absurd is
+pub not_placed : (b : Body) (opened : List OpenSegment) (from count : ℕ) (bytes : Vec ℕ Global) (n : ℕ) (why : Refusal) → n ≡ length bytes.items → PlacesAs b (n ∷ []) (Err why) → PlansMerged b opened from count (Some bytes) (Err why)
+not_placed b opened from count bytes n (Full need largest) long is = subst (λ m. FullAs b.units (named b) (m ∷ []) need largest) long is
+not_placed b opened from count bytes n Memory long is = tt
+not_placed b opened from count bytes n SegmentTooLarge long is = absurd is
+not_placed b opened from count bytes n Reopen long is = absurd is
+not_placed b opened from count bytes n TextTooLong long is = absurd is
+not_placed b opened from count bytes n BufferFull long is = absurd is
+not_placed b opened from count bytes n NumbersUsedUp long is = absurd is
+not_placed b opened from count bytes n NoSuchDocument long is = absurd is
+not_placed b opened from count bytes n TooManySegments long is = absurd is
+not_placed b opened from count bytes n Damaged long is = absurd is
+not_placed b opened from count bytes n Disk long is = absurd is
 
 -- or the pending numbers are none
-pub not_pending : (b : Body) (opened : List OpenSegment) (bytes : Vec ℕ Global) (why : Refusal) → TakesPending opened (Err why) → PlansMerged b opened (Some bytes) (Err why)
-not_pending b opened bytes Memory is = tt
-not_pending b opened bytes Damaged is = is
-not_pending b opened bytes (Full need largest) is = absurd is
-not_pending b opened bytes SegmentTooLarge is = absurd is
-not_pending b opened bytes Reopen is = absurd is
-not_pending b opened bytes TextTooLong is = absurd is
-not_pending b opened bytes BufferFull is = absurd is
-not_pending b opened bytes NumbersUsedUp is = absurd is
-not_pending b opened bytes NoSuchDocument is = absurd is
-not_pending b opened bytes TooManySegments is = absurd is
-not_pending b opened bytes Disk is = absurd is
+pub not_pending : (b : Body) (opened : List OpenSegment) (from count : ℕ) (bytes : Vec ℕ Global) (why : Refusal) → TakesPending (run_of from count opened) (Err why) → PlansMerged b opened from count (Some bytes) (Err why)
+not_pending b opened from count bytes Memory is = tt
+not_pending b opened from count bytes Damaged is = is
+not_pending b opened from count bytes (Full need largest) is = absurd is
+not_pending b opened from count bytes SegmentTooLarge is = absurd is
+not_pending b opened from count bytes Reopen is = absurd is
+not_pending b opened from count bytes TextTooLong is = absurd is
+not_pending b opened from count bytes BufferFull is = absurd is
+not_pending b opened from count bytes NumbersUsedUp is = absurd is
+not_pending b opened from count bytes NoSuchDocument is = absurd is
+not_pending b opened from count bytes TooManySegments is = absurd is
+not_pending b opened from count bytes Disk is = absurd is

@@ -1,9 +1,9 @@
 -- What opening rests on: which segments the entries of a body open as, with which deletion lists, and what that makes of the store.
-use Rattle.std.proofs.Common.{◌≡◌, ℕ, suc, ◌+◌, ◌-◌, ◌*◌, ◌/◌, ◌<◌, ◌≤◌, ◌^◌, ◌&&◌, leb, eqb, true, false, List, [], ◌∷◌, ◌++◌, length, drop, refl, sym, ap, ◌∙◌, subst, arith, append_assoc, append-nil, add-one, drop-cons, length-append, length-drop, Result, Ok, Err, Option, Some, None}
+use Rattle.std.proofs.Common.{◌≡◌, ℕ, suc, ◌+◌, ◌-◌, ◌*◌, ◌/◌, ◌<◌, ◌≤◌, ◌^◌, ◌&&◌, leb, eqb, Bool, true, false, List, [], ◌∷◌, ◌++◌, length, drop, refl, sym, ap, ◌∙◌, subst, arith, append_assoc, append-nil, add-one, drop-cons, length-append, length-drop, Result, Ok, Err, Option, Some, None}
 use Rattle.std.specs.Prelude.{All, slice_index, slice_index_or}
 use Rattle.std.specs.List.{AllByRecursion, list_all}
 use Rattle.std.specs.List.Sorted.{IsStrictlyIncreasing}
-use Rattle.std.proofs.lemmas.Bool.{and_parts, leb-true}
+use Rattle.std.proofs.lemmas.Bool.{and_parts, eq-eqb, eqb-true, leb-true}
 use Rattle.std.proofs.lemmas.List.{drop_all, get_or-drop, length-map, length-take-le}
 use Rattle.std.proofs.lemmas.List.Elements.{All-append, All-cons, All-head, All-nil, All-tail}
 use Rattle.pk_disk.specs.declared.disk.Disk.{Ghosts}
@@ -25,7 +25,8 @@ use Rattle.pk_segment.specs.declared.header.Header.{Header}
 use Rattle.pk_segment.specs.declared.segment.Segment.{Segment}
 use Rattle.pk_segment.specs.Fields.{IsHeader, entry_field, header_field, number_at}
 use Rattle.pk_segment.specs.Opened.{IsOpened, IsSegmentOf, count_of, first_of, last_of}
-use Rattle.pk_segment.specs.Spelling.{SegmentSpells, texts}
+use Rattle.pk_segment.specs.Spelling.{DirectorySpells, SegmentSpells, texts}
+use Rattle.pk_segment.proofs.DirectoryLemmas.{directory_of, number_in, header_in as header_known}
 use Rattle.pk_segment.proofs.OpeningLemmas.{counted, in_order, long_enough, number_there, texts_counted, whole}
 use Rattle.pk_segment.proofs.SegmentLemmas.{parts_of}
 use Rattle.pk_store.specs.declared.opening.Found.{Found}
@@ -33,10 +34,11 @@ use Rattle.pk_store.specs.declared.refused.OpenFault.{OpenFault}
 use Rattle.pk_store.specs.declared.refused.OpenFault.TheVariants.{TooSmall, NotAStore, Damaged, Disk, Memory}
 use Rattle.pk_store.specs.Judging.{JudgesFound, IsLarge, IsOpenSoFar, OpensNext, SegmentAs, SegmentsAs, body_fault}
 use Rattle.pk_store.specs.Opening.{ExtentOpensAs, IsFresh, IsNoStoreFault, IsStoreOf, IsUncalled, OnSynced, OpenAsSegments, OpensAsList, OpensAsStore, OpensAsSegment, RefusesOpening, SpellsFew}
-use Rattle.pk_store.specs.View.{IsBuffered, IsGrown, IsReady, StoreView, committed_by, state_with, volume_of}
+use Rattle.pk_store.specs.View.{FindsIn, IsBuffered, IsGrown, IsReady, StoreView, committed_by, state_with, volume_of}
 use Rattle.pk_store.proofs.StoreSteps.{clear_flag}
 use Rattle.pk_state.specs.Committed.{Names, Stored, all_in, collection_of, lists, live_in, whole_of}
-use Rattle.pk_state.specs.Holds.{Holds, ListSpells, SpellsEntries, SpellsEntry}
+use Rattle.pk_state.specs.Holds.{Holds, Indexes, IndexesEntries, IndexesEntry, ListSpells, SpellsEntries}
+use Rattle.pk_state.proofs.IndexedLemmas.{entries_indexed}
 use Rattle.pk_state.specs.Kept.{EndsInside, LieInside, ListEndsInside}
 use Rattle.pk_state.proofs.HoldsLemmas.{kept_closed, lie_inside, units_room}
 use Rattle.pk_state.proofs.MemberLemmas.{listed}
@@ -304,25 +306,37 @@ opens bytes docs kind size is long =
       },
     )
 
-pub segment_of : (bytes : List ℕ) (docs : List Doc) (kind size : ℕ) (s : Segment) → IsOpened bytes size kind s → SegmentSpells bytes docs kind → IsSegmentOf s docs
-segment_of bytes docs kind size s opened is =
-    let some = is.are.some in
-    let count = counted bytes docs kind opened.header is opened.read in
+-- the header and the directory say all that an open segment does, whatever stands behind them
+pub segment_in : (bytes : List ℕ) (docs : List Doc) (kind size : ℕ) (s : Segment) → IsOpened bytes size kind s → DirectorySpells bytes docs kind → IsSegmentOf s docs
+segment_in bytes docs kind size s opened is =
+    let own = is.segment in
+    let some = is.spelled.are.some in
+    let header = header_known bytes docs kind opened.header is opened.read in
+    let count = counted own docs kind opened.header is.spelled header in
     record {
       count_is = opened.count_is ∙ count;
-      texts_is = opened.texts_is ∙ texts_counted bytes docs kind opened.header is opened.read;
-      first_is = number_there bytes docs kind 0 (first_of s) is some opened.first_is;
-      last_is = number_there bytes docs kind (length docs - 1) (last_of s) is (omega arith) (opened.last_is ∙ ap (λ (n : ℕ). number_at 0 (entry_field bytes (n - 1))) count);
+      texts_is = opened.texts_is ∙ texts_counted own docs kind opened.header is.spelled header;
+      first_is = number_there own docs kind 0 (first_of s) is.spelled some (number_in bytes docs kind 0 (first_of s) is some opened.first_is);
+      last_is = number_there own docs kind (length docs - 1) (last_of s) is.spelled (omega arith)
+          (number_in bytes docs kind (length docs - 1) (last_of s) is (omega arith) (opened.last_is ∙ ap (λ (n : ℕ). number_at 0 (entry_field bytes (n - 1))) count));
     }
 
+-- an entry that is indexed has header and directory
+entry_front : (bytes : List ℕ) (e : Entry) (s : Stored) → IndexesEntry bytes e s → DirectorySpells (extent_bytes bytes e.extent) s.documents e.kind
+entry_front bytes e s indexed = by_kind (eqb e.kind 2) refl
+  where
+    by_kind : (b : Bool) → eqb e.kind 2 ≡ b → DirectorySpells (extent_bytes bytes e.extent) s.documents e.kind
+    by_kind true h = subst (λ (k : ℕ). DirectorySpells (extent_bytes bytes e.extent) s.documents k) (sym (eqb-true e.kind 2 h)) (indexed.indexed (eqb-true e.kind 2 h)).front
+    by_kind false h = directory_of (extent_bytes bytes e.extent) s.documents e.kind (indexed.plain (λ two. absurd (let no : true ≡ false = sym (eq-eqb e.kind 2 two) ∙ h in cc)))
+
 -- an open segment is that of the entry's documents, with its dead numbers
-is_open : (bytes : List ℕ) (e : Entry) (o : OpenSegment) (s : Stored) → OpensAsSegment bytes e o → SpellsEntry bytes e s → IsOpenOf o s
+is_open : (bytes : List ℕ) (e : Entry) (o : OpenSegment) (s : Stored) → OpensAsSegment bytes e o → IndexesEntry bytes e s → IsOpenOf o s
 is_open bytes e o s opened spells =
     let was : o.dead ≡ s.dead = list_one bytes e.dead (count_of o.segment) o.dead s opened.list spells.list in
     let all : o.deleted ≡ s.dead = opened.deleted ∙ was in
     let posting = list_posting bytes e.dead s spells.list in
     record {
-      segment = segment_of (extent_bytes bytes e.extent) s.documents e.kind e.extent.bytes o.segment opened.opened spells.segment;
+      segment = segment_in (extent_bytes bytes e.extent) s.documents e.kind e.extent.bytes o.segment opened.opened (entry_front bytes e s spells);
       dead = was;
       kept = λ n is. ap (lists n) all ∙ is;
       names = subst (λ (ns : List ℕ). Names ns s.documents) (sym all) (list_names bytes e.dead s spells.list);
@@ -330,8 +344,8 @@ is_open bytes e o s opened spells =
       was = subst IsPosting (sym was) posting;
     }
 
--- the open segments are those of what their entries spell
-pub are_open : (bytes : List ℕ) (low next : ℕ) (es : List Entry) (os : List OpenSegment) (stored : List Stored) → OpenAsSegments bytes low next es os → SpellsEntries bytes es stored → AreOpenOf os stored
+-- the open segments are those of what their entries index
+pub are_open : (bytes : List ℕ) (low next : ℕ) (es : List Entry) (os : List OpenSegment) (stored : List Stored) → OpenAsSegments bytes low next es os → IndexesEntries bytes es stored → AreOpenOf os stored
 are_open bytes low next [] [] [] opened spells = tt
 are_open bytes low next [] [] (x ∷ stored) opened spells = absurd spells
 are_open bytes low next [] (o ∷ os) stored opened spells = absurd opened
@@ -341,7 +355,7 @@ are_open bytes low next (e ∷ es) (o ∷ os) (x ∷ stored) opened spells =
     (is_open bytes e o x opened.0 spells.0, are_open bytes (last_of o.segment) next es os stored opened.3 spells.1)
 
 -- no deletion is pending in them: what is present is what is committed
-pub all_present : (bytes : List ℕ) (low next : ℕ) (es : List Entry) (os : List OpenSegment) (stored : List Stored) → OpenAsSegments bytes low next es os → SpellsEntries bytes es stored → present os stored ≡ stored
+pub all_present : (bytes : List ℕ) (low next : ℕ) (es : List Entry) (os : List OpenSegment) (stored : List Stored) → OpenAsSegments bytes low next es os → IndexesEntries bytes es stored → present os stored ≡ stored
 all_present bytes low next [] [] [] opened spells = refl
 all_present bytes low next [] [] (x ∷ stored) opened spells = absurd spells
 all_present bytes low next [] (o ∷ os) stored opened spells = absurd opened
@@ -425,7 +439,7 @@ entries_open bytes low next (e ∷ es) (x ∷ stored) inside spells rise =
     let segment = spells.0.segment in
     let long = length_extent bytes e.extent room.0 in
     let one = opens (extent_bytes bytes e.extent) docs e.kind e.extent.bytes segment (sym long) in
-    let of = segment_of (extent_bytes bytes e.extent) docs e.kind e.extent.bytes one.0 one.1 segment in
+    let of = segment_in (extent_bytes bytes e.extent) docs e.kind e.extent.bytes one.0 one.1 (directory_of (extent_bytes bytes e.extent) docs e.kind segment) in
     let more = entries_open bytes (last_of one.0) next es stored (All-tail (InsideEntry (length bytes)) e es inside) spells.1 (subst (λ (n : ℕ). RiseThrough n next stored) (sym of.last_is) rise.2) in (
       record { segment = one.0; dead = x.dead; deleted = x.dead } ∷ more.0,
       (
@@ -471,7 +485,8 @@ means_held d bytes c s holds opened same closed fresh =
     let bodies : holds.committed.body ≡ v.body = (one_body_in_force bytes holds.half (other v.spare) holds.committed.body v.body holds.current opened.current).1 in
     let spelled : SpellsEntries bytes v.body.entries stored = subst (λ (b : Body). SpellsEntries bytes b.entries stored) bodies holds.spelled in
     let stands : collection_of (committed_by v stored) ≡ c = subst (λ (b : Body). collection_of (record { body = b; stored = stored }) ≡ c) bodies holds.stands_for in
-    let here : present v.opened stored ≡ stored = all_present bytes 0 v.body.next_number v.body.entries v.opened stored opened.segments spelled in
+    let indexed = entries_indexed bytes v.body.entries stored spelled in
+    let here : present v.opened stored ≡ stored = all_present bytes 0 v.body.next_number v.body.entries v.opened stored opened.segments indexed in
     let more : live_in (present v.opened stored) ++ s.buffer ≡ live_in stored =
     ap (λ (buffer : List Doc). live_in (present v.opened stored) ++ buffer) fresh.buffer ∙ append-nil (live_in (present v.opened stored)) ∙ ap live_in here in
     let now : (state_with s stored).now ≡ c =
@@ -485,7 +500,7 @@ means_held d bytes c s holds opened same closed fresh =
         numbers = subst IsCollection (sym now) (subst IsCollection holds.stands_for (live_is holds.committed holds.numbers));
         committed = numbers;
         stand = record {
-          opened = are_open bytes 0 v.body.next_number v.body.entries v.opened stored opened.segments spelled;
+          opened = are_open bytes 0 v.body.next_number v.body.entries v.opened stored opened.segments indexed;
           kept = λ flag. kept_closed (d.content v.disk) (d.is_open v.disk) v.spare (committed_by v stored)
               (subst (λ (b : List ℕ). HasBody b (other v.spare) v.body) (sym same) opened.current)
               (subst (λ (b : List ℕ). SpellsEntries b v.body.entries stored) (sym same) spelled) closed;
@@ -495,6 +510,25 @@ means_held d bytes c s holds opened same closed fresh =
       marked_is = stands;
       now_is = now;
       clear = fresh.clear;
+    }
+
+-- what was opened on bytes that index a collection finds in it
+pub finds_opened : {D : Type 0} (d : Ghosts D) (bytes : List ℕ) (c : Collection) (s : StoreView D) → Indexes bytes c → OpensAsStore bytes (other s.volume.spare) s.volume.body s.volume.opened
+    → d.content s.volume.disk ≡ bytes → IsFresh s → FindsIn d s c
+finds_opened d bytes c s indexes opened same fresh =
+    let v = s.volume in
+    let stored = indexes.committed.stored in
+    let bodies : indexes.committed.body ≡ v.body = (one_body_in_force bytes indexes.half (other v.spare) indexes.committed.body v.body indexes.current opened.current).1 in
+    let indexed : IndexesEntries bytes v.body.entries stored = subst (λ (b : Body). IndexesEntries bytes b.entries stored) bodies indexes.indexed in
+    let stands : collection_of (committed_by v stored) ≡ c = subst (λ (b : Body). collection_of (record { body = b; stored = stored }) ≡ c) bodies indexes.stands_for in
+    let here : present v.opened stored ≡ stored = all_present bytes 0 v.body.next_number v.body.entries v.opened stored opened.segments indexed in
+    record {
+      clear = fresh.clear;
+      stored = stored;
+      indexed = subst (λ (b : List ℕ). IndexesEntries b v.body.entries stored) (sym same) indexed;
+      opened = are_open bytes 0 v.body.next_number v.body.entries v.opened stored opened.segments indexed;
+      documents = ap (λ (buffer : List Doc). live_in (present v.opened stored) ++ buffer) fresh.buffer ∙ append-nil (live_in (present v.opened stored)) ∙ ap live_in here ∙ ap (λ (x : Collection). x.documents) stands;
+      next = fresh.next ∙ ap (λ (x : Collection). x.next) stands;
     }
 
 -- ---- the store's invariant

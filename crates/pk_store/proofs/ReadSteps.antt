@@ -9,7 +9,8 @@ use Rattle.pk_disk.proofs.FrameLemmas.{keeps_disk_none}
 use Rattle.pk_disk.proofs.Moments.{none_only}
 use Rattle.pk_model.specs.declared.commands.Refusal.{Refusal}
 use Rattle.pk_model.specs.declared.commands.Refusal.TheVariants.{NoSuchDocument, Memory, Disk}
-use Rattle.pk_model.specs.Collection.{Doc, IsCollection, answer, is_hit, is_live, numbers_of}
+use Rattle.pk_manifest.specs.Spelling.{Body}
+use Rattle.pk_model.specs.Collection.{Collection, Doc, IsCollection, answer, is_hit, is_live, numbers_of}
 use Rattle.pk_model.specs.Steps.{Request, Answer, find, show, count, found, text_is, text_of, counted}
 use Rattle.pk_model.specs.Tree.{Tree}
 use Rattle.pk_search.proofs.LookUpLemmas.{live-found, live-second}
@@ -20,11 +21,13 @@ use Rattle.pk_state.specs.Committed.{Stored, live_in, whole_of}
 use Rattle.pk_state.specs.Legal.{State, LegalStep, RefusesDue, due, marked}
 use Rattle.pk_state.specs.Kept.{IsKept}
 use Rattle.pk_search.specs.Opened.{AreOpenOf, present}
-use Rattle.pk_state.specs.Holds.{Holds}
+use Rattle.pk_search.specs.declared.opened.OpenSegment.{OpenSegment}
+use Rattle.pk_state.specs.Holds.{Holds, IndexesEntries}
+use Rattle.pk_state.proofs.IndexedLemmas.{entries_indexed}
 use Rattle.pk_state.proofs.HoldsLemmas.{kept_holds, kept_read, kept_spelled, one_stored}
 use Rattle.pk_store.specs.Refusing.{refusal_for}
 use Rattle.pk_store.specs.Steps.{HoldsIn, IsCauseOf, IsIdle, IsRightly, IsUndamaged, Steps, StepsTo, may_refuse}
-use Rattle.pk_store.specs.View.{KeepsVolume, Means, StandFor, StoreView, VolumeView, committed_by, state_with}
+use Rattle.pk_store.specs.View.{FindsAs, FindsIn, IsLookedAt, KeepsVolume, Means, StandFor, StoreView, VolumeView, committed_by, state_with}
 use Rattle.pk_store.proofs.StoreSteps.{IsNoWriter, clear_flag, clear_refusal, not_idle, whole_with}
 
 -- the store with another volume
@@ -173,6 +176,36 @@ finds s stored query numbers clear e = record {
   mark = refl;
   goes_on = refl;
 }
+
+-- a disk that keeps what is committed indexes it
+pub stand_indexed : {D : Type 0} (d : Ghosts D) (v : VolumeView D) (stored : List Stored) → StandFor d v stored → v.reopen ≡ false → IndexesEntries (d.content v.disk) v.body.entries stored
+stand_indexed d v stored stand clear = entries_indexed (d.content v.disk) v.body.entries stored (kept_spelled (d.content v.disk) (d.is_open v.disk) v.spare (committed_by v stored) (stand.kept clear))
+
+-- where the store finds in a collection, what is found is the collection's answer
+pub finds_in : {D : Type 0} (d : Ghosts D) (s : StoreView D) (c : Collection) (is : FindsIn d s c) (query : Tree) (numbers : List ℕ)
+    → numbers ≡ answer query (live_in (present s.volume.opened is.stored)) ++ answer query s.buffer → numbers ≡ answer query c.documents
+finds_in d s c is query numbers e = e ∙ sym (answer-append query (live_in (present s.volume.opened is.stored)) s.buffer) ∙ ap (answer query) is.documents
+
+-- and what stops a find is memory or the device
+pub finds_none : (numbers : List ℕ) (why : ReadFault) → IsNoDamage why → FindsAs numbers (Err (refusal_for why))
+finds_none numbers fault.Damaged cause = absurd cause
+finds_none numbers fault.Disk cause = tt
+finds_none numbers fault.Memory cause = tt
+
+-- a store that was looked at finds as before
+pub finds_on : {D : Type 0} (d : Ghosts D) → d.honest → (old new : StoreView D) (c : Collection) → FindsIn d old c → IsLookedAt d old new → FindsIn d new c
+finds_on d h old new c is looked =
+    let v = looked.volume in
+    record {
+      clear = v.reopen ∙ is.clear;
+      stored = is.stored;
+      indexed = subst (λ (bytes : List ℕ). IndexesEntries bytes new.volume.body.entries is.stored) (sym (v.disk.read h).bytes)
+          (subst (λ (b : Body). IndexesEntries (d.content old.volume.disk) b.entries is.stored) (sym v.body) is.indexed);
+      opened = subst (λ (os : List OpenSegment). AreOpenOf os is.stored) (sym v.opened) is.opened;
+      documents = ap (λ (os : List OpenSegment). live_in (present os is.stored) ++ new.buffer) v.opened
+          ∙ ap (λ (docs : List Doc). live_in (present old.volume.opened is.stored) ++ docs) looked.buffer ∙ is.documents;
+      next = looked.next ∙ is.next;
+    }
 
 -- SHOW. A look-up may fail before it knows whether the document lives.
 pub show_fails : (state : State) (n : ℕ) (why : ReadFault) → state.reopen ≡ false → IsNoDamage why → LegalStep false state (show n) (Err (refusal_for why)) state

@@ -256,15 +256,15 @@ either_weaker : (olds old_more news new_more : List Claim) → ((c : Claim) → 
 either_weaker olds old_more news new_more f g [] each = tt
 either_weaker olds old_more news new_more f g (c ∷ cs) each = (⊎_elim (λ old. inl (f c old)) (λ new. inr (g c new)) each.0, either_weaker olds old_more news new_more f g cs each.1)
 
-each_old : (cs more news : List Claim) → ((c : Claim) → IsAmong c cs → IsAmong c more) → Each (λ c. IsAmong c more ⊎ IsAmong c news) cs
+pub each_old : (cs more news : List Claim) → ((c : Claim) → IsAmong c cs → IsAmong c more) → Each (λ c. IsAmong c more ⊎ IsAmong c news) cs
 each_old [] more news f = tt
 each_old (c ∷ cs) more news f = (inl (f c (inl refl)), each_old cs more news (λ k is. f k (inr is)))
 
-among_front : (c : Claim) (cs ds : List Claim) → IsAmong c cs → IsAmong c (cs ++ ds)
+pub among_front : (c : Claim) (cs ds : List Claim) → IsAmong c cs → IsAmong c (cs ++ ds)
 among_front c [] ds is = absurd is
 among_front c (d ∷ cs) ds is = elim is [ inl here ↦ inl here | inr later ↦ inr (among_front c cs ds later) ]
 
-among_back : (c : Claim) (cs ds : List Claim) → IsAmong c ds → IsAmong c (cs ++ ds)
+pub among_back : (c : Claim) (cs ds : List Claim) → IsAmong c ds → IsAmong c (cs ++ ds)
 among_back c [] ds is = is
 among_back c (d ∷ cs) ds is = inr (among_back c cs ds is)
 

@@ -248,7 +248,7 @@ module _ {D : Type 0} (d : Ghosts D) (s : StoreView D) (clear : s.volume.reopen 
 pub no_new : {D : Type 0} (d : Ghosts D) (P : List ℕ → Type 0) (old new : D) → new ≡ old → OnlyNew d.moment d.images_since old new P
 no_new d P old new same = subst (λ x. OnlyNew d.moment d.images_since old x P) (sym same) (record { later = omega arith; each = λ t image le is. inl is })
 
--- only a commit and a merge may have nothing to do
+-- only a commit, a merge and a tidy may have nothing to do
 abbrev pub IsNoWriter : Request → Type 0
 IsNoWriter commit = ⊥
 IsNoWriter (add text) = Unit {0}
@@ -256,7 +256,7 @@ IsNoWriter (delete n) = Unit {0}
 IsNoWriter (find query) = Unit {0}
 IsNoWriter (show n) = Unit {0}
 IsNoWriter merge = ⊥
-IsNoWriter tidy = Unit {0}
+IsNoWriter tidy = ⊥
 IsNoWriter count = Unit {0}
 
 pub not_idle : {D : Type 0} (s : StoreView D) (request : Request) → IsNoWriter request → IsIdle s request → ⊥
@@ -266,7 +266,7 @@ not_idle s (delete n) none idle = idle
 not_idle s (find query) none idle = idle
 not_idle s (show n) none idle = idle
 not_idle s merge none idle = none
-not_idle s tidy none idle = idle
+not_idle s tidy none idle = none
 not_idle s count none idle = idle
 
 -- WITHOUT A CALL OF THE DEVICE a legal step is all that a command owes.

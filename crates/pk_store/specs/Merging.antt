@@ -1,5 +1,6 @@
 -- What planning a merge answers.
 use Rattle.std.specs.Prelude.{◌≡◌, ◌≤◌, ◌&&◌, ◌||◌, ℕ, Bool, true, false, not, List, [], ◌∷◌, length, map}
+use Rattle.std.specs.Prelude.{take, drop}
 use Rattle.std.specs.Prelude.{Option, Some, None, Result, Ok, Err}
 use Rattle.std.specs.List.{list_any}
 use Rattle.std.specs.Global.{Vec}
@@ -19,10 +20,10 @@ use Rattle.pk_segment.specs.Opened.{IsSegmentOf}
 use Rattle.pk_segment.specs.Spelling.{SegmentSpells}
 use Rattle.pk_space.specs.Places.{FullAs, PlacedAs}
 use Rattle.pk_state.specs.Committed.{Stored, lists, live_in, whole_of}
-use Rattle.pk_state.specs.Writing.{after_merge, is_too_large, new_entry, next_body, segment_writes}
+use Rattle.pk_state.specs.Writing.{after_merge, is_too_large, next_body, replaced, segment_writes}
 use Rattle.pk_state.specs.Writing.{written_kind}
 use Rattle.pk_store.specs.declared.planning.Plan.{Plan}
-use Rattle.pk_store.specs.Plan.{GoesTo, IsPlan, IsPlanOf}
+use Rattle.pk_store.specs.Plan.{GoesTo, IsPlan, IsPlanOf, entry_in, ids_in}
 use Rattle.pk_store.specs.View.{KeepsVolume, StandFor, VolumeView, committed_by}
 
 -- the number is deleted in the segment, and no commit has taken its deletion
@@ -58,7 +59,7 @@ TakesPending opened (Err Memory) = Unit {0}
 TakesPending opened (Err Damaged) = AreTooMany opened
 TakesPending opened (Err why) = ⊥
 
--- The one open segment after a merge: that of the documents which its bytes spell, without a
+-- The open segment that a merge makes: that of the documents which its bytes spell, without a
 -- deletion list; the deletions that were pending still are.
 pub record IsMergedOpen (opened : List OpenSegment) (bytes : List ℕ) (o : OpenSegment) : Type 0 where
   pub segment : (docs : List Doc) → SegmentSpells bytes docs written_kind
@@ -77,45 +78,64 @@ abbrev pub merge_bytes : Option (Vec ℕ) → List (List ℕ)
 merge_bytes None = []
 merge_bytes (Some bytes) = bytes.items ∷ []
 
--- the body after a merge, whose segment is in the extent that there may be
-abbrev pub body_merged : Body → List Extent → Body
-body_merged b [] = next_body b b.next_number 0 []
-body_merged b (e ∷ extents) = next_body b b.next_number 1 (new_entry b e ∷ [])
+-- the items of a run, so many from a place on
+abbrev pub run_of : {X : Type 0} → ℕ → ℕ → List X → List X
+run_of from n xs = take n (drop from xs)
+
+-- the open segment that there may be, and the extent of its bytes
+abbrev pub opened_in : Option OpenSegment → List OpenSegment
+opened_in None = []
+opened_in (Some o) = o ∷ []
+
+abbrev pub extent_in : List Extent → Option Extent
+extent_in [] = None
+extent_in (e ∷ extents) = Some e
+
+-- the body after a merge of n entries from a place on, whose segment is in the extent that there
+-- may be
+abbrev pub body_merged : Body → ℕ → ℕ → Option Extent → Body
+body_merged b from n segment = next_body b b.next_number (ids_in segment)
+    (replaced from n (entry_in b segment) b.entries)
 
 -- a plan with the bytes of the one segment, or why there is none
-abbrev pub PlansMerged : Body → List OpenSegment → Option (Vec ℕ) → Result Plan Refusal → Type 0
-PlansMerged b opened bytes (Ok p) =
-    (merged : List OpenSegment) × AreMerged opened bytes merged
+abbrev pub PlansMerged : Body → List OpenSegment → ℕ → ℕ → Option (Vec ℕ) → Result Plan Refusal
+    → Type 0
+PlansMerged b opened from n bytes (Ok p) =
+    (merged : List OpenSegment) × AreMerged (run_of from n opened) bytes merged
     × (extents : List Extent) × PlacedAs b.units (named b) (map length (merge_bytes bytes)) extents
-    × IsPlanOf (body_merged b extents) merged extents (merge_bytes bytes) p
-PlansMerged b opened bytes (Err (Full need largest)) =
+    × IsPlanOf (body_merged b from n (extent_in extents)) (replaced from n merged opened) extents
+    (merge_bytes bytes) p
+PlansMerged b opened from n bytes (Err (Full need largest)) =
     FullAs b.units (named b) (map length (merge_bytes bytes)) need largest
-PlansMerged b opened bytes (Err Damaged) = AreTooMany opened
-PlansMerged b opened bytes (Err Memory) = Unit {0}
-PlansMerged b opened bytes (Err why) = ⊥
+PlansMerged b opened from n bytes (Err Damaged) = AreTooMany (run_of from n opened)
+PlansMerged b opened from n bytes (Err Memory) = Unit {0}
+PlansMerged b opened from n bytes (Err why) = ⊥
 
--- THE PLAN OF A MERGE of all segments, which stand for these: their live documents in one segment,
--- placed at the first fit; what is there now stays.
-pub record PlansMerge (b : Body) (opened : List OpenSegment) (stored : List Stored) (p : Plan)
-    : Type 0 where
+-- THE PLAN OF A MERGE of n segments from a place on, where all stand for these: their live documents
+-- in one segment, placed at the first fit; what is there now stays.
+pub record PlansMerge (b : Body) (opened : List OpenSegment) (stored : List Stored) (from n : ℕ)
+    (p : Plan) : Type 0 where
   pub extents : List Extent
-  pub placed : PlacedAs b.units (named b) (segment_writes (live_in stored)) extents
-  pub fits : is_too_large (live_in stored) ≡ false
+  pub placed : PlacedAs b.units (named b) (segment_writes (live_in (run_of from n stored))) extents
+  pub fits : is_too_large (live_in (run_of from n stored)) ≡ false
   pub goes : GoesTo p (record { body = b; stored = stored })
-      (after_merge (record { body = b; stored = stored }) 0 (length b.entries) extents)
+      (after_merge (record { body = b; stored = stored }) from n extents)
   pub now : live_in (present p.opened.items
-      (after_merge (record { body = b; stored = stored }) 0 (length b.entries) extents).stored)
+      (after_merge (record { body = b; stored = stored }) from n extents).stored)
       ≡ live_in (present opened stored)
 
 -- what is planned, by what the segments stand for
-abbrev pub PlansMergeAs : Body → List OpenSegment → List Stored → Result Plan Refusal → Type 0
-PlansMergeAs b opened stored (Ok p) = PlansMerge b opened stored p
-PlansMergeAs b opened stored (Err SegmentTooLarge) = is_too_large (live_in stored) ≡ true
-PlansMergeAs b opened stored (Err (Full need largest)) = (is_too_large (live_in stored) ≡ false)
-    × FullAs b.units (named b) (segment_writes (live_in stored)) need largest
-PlansMergeAs b opened stored (Err Memory) = Unit {0}
-PlansMergeAs b opened stored (Err Disk) = Unit {0}
-PlansMergeAs b opened stored (Err why) = ⊥
+abbrev pub PlansMergeAs : Body → List OpenSegment → List Stored → ℕ → ℕ → Result Plan Refusal
+    → Type 0
+PlansMergeAs b opened stored from n (Ok p) = PlansMerge b opened stored from n p
+PlansMergeAs b opened stored from n (Err SegmentTooLarge) =
+    is_too_large (live_in (run_of from n stored)) ≡ true
+PlansMergeAs b opened stored from n (Err (Full need largest)) =
+    (is_too_large (live_in (run_of from n stored)) ≡ false)
+    × FullAs b.units (named b) (segment_writes (live_in (run_of from n stored))) need largest
+PlansMergeAs b opened stored from n (Err Memory) = Unit {0}
+PlansMergeAs b opened stored from n (Err Disk) = Unit {0}
+PlansMergeAs b opened stored from n (Err why) = ⊥
 
 -- and whatever they are
 abbrev pub PlansMergeRightly : ℕ → Body → Result Plan Refusal → Type 0
@@ -134,12 +154,13 @@ MergeCause d old new (Err Damaged) = NoneFailed d old new
 MergeCause d old new (Err Disk) = ReadFailed d old new
 MergeCause d old new (Err why) = ⊥
 
--- WHAT PLANNING A MERGE DOES. The volume is as it was, and its disk was only read.
-pub record PlansAll {D : Type 0} (d : Ghosts D) (old : VolumeView D) (size : ℕ)
+-- WHAT PLANNING A MERGE of n segments from a place on DOES. The volume is as it was, and its disk was
+-- only read.
+pub record PlansRun {D : Type 0} (d : Ghosts D) (old : VolumeView D) (from n size : ℕ)
     (result : Result Plan Refusal) (new : VolumeView D) : Type 0 where
   pub plans : d.honest → (stored : List Stored) → StandFor d old stored → old.reopen ≡ false
       → IsCollection (whole_of (committed_by old stored))
-      → PlansMergeAs old.body old.opened stored result
+      → PlansMergeAs old.body old.opened stored from n result
   pub rightly : PlansMergeRightly size old.body result
   pub keeps : KeepsVolume d old new
   pub cause : MergeCause d old.disk new.disk result

@@ -12,7 +12,8 @@ use Rattle.pk_model.specs.declared.commands.Refusal.TheVariants.{NumbersUsedUp, 
 use Rattle.pk_model.specs.declared.commands.Refusal.TheVariants.{TooManySegments, SegmentTooLarge}
 use Rattle.pk_model.specs.declared.commands.Refusal.TheVariants.{Memory, Full, Damaged, Disk}
 use Rattle.pk_model.specs.Steps.{Request, Answer, add, delete, find, show, commit, count}
-use Rattle.pk_model.specs.Steps.{merge, tidy, committed, merged}
+use Rattle.pk_model.specs.Limits.{tidy_run}
+use Rattle.pk_model.specs.Steps.{merge, tidy, committed, merged, tidied}
 use Rattle.pk_replace.specs.Cause.{NoneFailed, ReadFailed, WriteFailed}
 use Rattle.pk_search.specs.Opened.{pends}
 use Rattle.pk_state.specs.Committed.{has_documents}
@@ -127,7 +128,7 @@ may_refuse (find query) = refuses_find
 may_refuse (show n) = refuses_show
 may_refuse commit = refuses_commit
 may_refuse merge = refuses_merge
-may_refuse tidy = λ why. false
+may_refuse tidy = refuses_merge
 may_refuse count = refuses_count
 
 -- What a refusal owes: it is one of the command's own, full only where the longest run is shorter
@@ -163,23 +164,24 @@ is_new s = not (not (has_documents s.buffer)
 abbrev pub IsIdle : {D : Type 0} → StoreView D → Request → Type 0
 IsIdle s commit = (s.volume.reopen ≡ false) × (is_new s ≡ false)
 IsIdle s merge = (s.volume.reopen ≡ false) × (is_merged s.volume.body.entries ≡ true)
+IsIdle s tidy = (s.volume.reopen ≡ false) × (length s.volume.body.entries < tidy_run)
 IsIdle s (add text) = ⊥
 IsIdle s (delete n) = ⊥
 IsIdle s (find query) = ⊥
 IsIdle s (show n) = ⊥
-IsIdle s tidy = ⊥
 IsIdle s count = ⊥
 
 -- what it answers then
 abbrev pub idle_answer : Request → Answer
 idle_answer merge = merged
+idle_answer tidy = tidied
 idle_answer request = committed
 
 -- WHAT A COMMAND DOES. On an honest disk it is a legal step of each state that the store means, no
 -- damage is met, and each image since the call's start holds what it may. On every disk Disk is
 -- answered exactly where a call of the device failed, the flag is set exactly where a write or a
--- sync did, a refusal is rightly one of the command's and changes nothing else, and a commit or
--- a merge with nothing to do is accepted and touches nothing.
+-- sync did, a refusal is rightly one of the command's and changes nothing else, and a commit, a
+-- merge or a tidy with nothing to do is accepted and touches nothing.
 pub record Steps {D : Type 0} (d : Ghosts D) (old : StoreView D) (request : Request)
     (reply : Result Answer Refusal) (new : StoreView D) : Type 0 where
   pub failed : Bool

@@ -1,5 +1,7 @@
 -- A store as callers see it, and which states it means.
 use Rattle.std.specs.Prelude.{◌≡◌, ◌≤◌, ◌<◌, ℕ, Bool, true, false, List, ◌++◌, length, All, sum_by}
+use Rattle.std.specs.Prelude.{Result, Ok, Err}
+use Rattle.std.specs.Global.{Vec}
 use Rattle.pk_disk.specs.declared.disk.Disk.{Ghosts}
 use Rattle.pk_disk.specs.Disk.{IsImage}
 use Rattle.pk_disk.specs.Frames.{KeepsDisk}
@@ -9,12 +11,16 @@ use Rattle.pk_manifest.specs.Current.{units_of_disk}
 use Rattle.pk_manifest.specs.Firm.{IsFirm}
 use Rattle.pk_manifest.specs.Sound.{IsBody}
 use Rattle.pk_manifest.specs.Spelling.{Body, spelling}
-use Rattle.pk_model.specs.Collection.{Doc, IsCollection}
+use Rattle.pk_model.specs.Collection.{Collection, Doc, IsCollection}
+use Rattle.pk_model.specs.declared.commands.Refusal.{Refusal}
+use Rattle.pk_model.specs.declared.commands.Refusal.TheVariants.{Disk, Memory}
+use Rattle.pk_model.specs.declared.documents.DocNo.{DocNo}
+use Rattle.pk_model.specs.Views.{numbers_in}
 use Rattle.pk_model.specs.Limits.{end_of_numbers, max_buffered_bytes, max_buffered_documents}
 use Rattle.pk_search.specs.declared.opened.OpenSegment.{OpenSegment}
 use Rattle.pk_search.specs.Opened.{AreOpenOf, present}
 use Rattle.pk_state.specs.Committed.{Stored, Committed, live_in, whole_of}
-use Rattle.pk_state.specs.Holds.{HoldsOne}
+use Rattle.pk_state.specs.Holds.{HoldsOne, IndexesEntries}
 use Rattle.pk_state.specs.Kept.{IsKept}
 use Rattle.pk_state.specs.Legal.{State, marked}
 
@@ -107,3 +113,20 @@ pub record IsLookedAt {D : Type 0} (d : Ghosts D) (old new : StoreView D) : Type
   pub volume : KeepsVolume d old.volume new.volume
   pub buffer : new.buffer ≡ old.buffer
   pub next : new.next ≡ old.next
+
+-- The store finds in the collection: needn't be opened again, and its disk indexes what its entries
+-- stand for, whatever the texts of segments of kind 2 are.
+pub record FindsIn {D : Type 0} (d : Ghosts D) (s : StoreView D) (c : Collection) : Type 0 where
+  pub clear : s.volume.reopen ≡ false
+  pub stored : List Stored
+  pub indexed : IndexesEntries (d.content s.volume.disk) s.volume.body.entries stored
+  pub opened : AreOpenOf s.volume.opened stored
+  pub documents : live_in (present s.volume.opened stored) ++ s.buffer ≡ c.documents
+  pub next : s.next ≡ c.next
+
+-- the numbers were found, or memory was refused, or the device failed
+abbrev pub FindsAs : List ℕ → Result (Vec DocNo) Refusal → Type 0
+FindsAs numbers (Ok v) = numbers_in v.items ≡ numbers
+FindsAs numbers (Err Memory) = Unit {0}
+FindsAs numbers (Err Disk) = Unit {0}
+FindsAs numbers (Err why) = ⊥

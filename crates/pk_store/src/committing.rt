@@ -7,6 +7,7 @@ ghost use Rattle.std.specs.Prelude.{◌≡◌, ◌==◌, ◌&&◌, ◌≤◌, �
 ghost use Rattle.std.specs.Prelude.{All, None, OnOk, map};
 ghost use Rattle.std.specs.List.Sorted.{IsStrictlyIncreasing};
 ghost use Rattle.pk_disk.specs.Units.{units_in};
+ghost use Rattle.pk_index.specs.Index.{Keeps};
 ghost use Rattle.pk_manifest.specs.Sound.{IsBody, entry_limit};
 ghost use Rattle.pk_manifest.specs.Spelling.{view};
 ghost use Rattle.pk_model.specs.Collection.{Doc, numbers_of};
@@ -23,24 +24,31 @@ ghost use Rattle.pk_store.specs.View.{IsGrown};
 
 use crate::planning::{
     Plan, lengths_of, next_manifest, one_write, open_built, place_all, plan_for, put_entries,
-    put_lists, put_settled, settled_with, written_kind,
+    put_lists, put_settled, settled_with,
 };
 use crate::store::Store;
 use pk_disk::Disk;
+use pk_index::Index;
 use pk_manifest::Manifest;
 use pk_model::{Document, Refusal};
 use pk_search::OpenSegment;
-use pk_segment::{BuildFault, Segment, build};
+use pk_segment::{BuildFault, Segment, build_indexed};
 use std::alloc::Global;
 
-// The segment of the documents, and it open.
-fn new_segment(alloc: Global, documents: &[Document]) -> Result<(Vec<u8>, Segment), Refusal>
+// The segment of the documents, by their index, and it open. No text is cut into words again.
+#[tactic(auto, unfolding(pk_state::specs::Writing::written_kind))]
+fn new_segment(
+    alloc: Global,
+    documents: &[Document],
+    index: &Index,
+) -> Result<(Vec<u8>, Segment), Refusal>
     requires some { 0 < length documents.now }
     requires rising { IsStrictlyIncreasing (numbers_of (docs_of documents.now)) }
     requires least { All (λ d. 1 ≤ d.number.0) documents.now }
+    requires index { Keeps index.now (docs_of documents.now) }
     ensures { BuildsAs (docs_of documents.now) result }
 {
-    let bytes = match build(alloc, documents, written_kind()) {
+    let bytes = match build_indexed(alloc, documents, index) {
         Ok(bytes) => bytes,
         Err(BuildFault::TooLarge) => return Err(Refusal::SegmentTooLarge),
         Err(BuildFault::Memory) => return Err(Refusal::Memory),
@@ -71,7 +79,7 @@ fn plan_lists(
     let extents = place_all(alloc, manifest, &lengths)?;
     let mut entries = Vec::new(alloc);
     put_entries(&mut entries, &manifest.entries, opened, &extents)?;
-    let manifest = next_manifest(manifest, next_number, entries, None)?;
+    let manifest = next_manifest(manifest, next_number, entries, None, &[])?;
     let mut kept = Vec::new(alloc);
     put_settled(alloc, &mut kept, opened)?;
     Ok(plan_for(alloc, manifest, kept, writes, &extents)?)
@@ -107,13 +115,13 @@ fn plan_segment(
     };
     let mut entries = Vec::new(alloc);
     put_entries(&mut entries, &manifest.entries, opened, lists)?;
-    let manifest = next_manifest(manifest, next_number, entries, Some(*first))?;
+    let manifest = next_manifest(manifest, next_number, entries, Some(*first), &[])?;
     let kept = settled_with(alloc, opened, segment)?;
     Ok(plan_for(alloc, manifest, kept, writes, &extents)?)
 }
 
-/// The plan of a commit of these documents and this next number, over a body and its open segments:
-/// the segment first, then the new lists in the order of the segments.
+/// The plan of a commit of these documents, which are indexed, and this next number, over a body
+/// and its open segments: the segment first, then the new lists in the order of the segments.
 ///
 /// Refused as segment too large, as full, or as memory.
 pub(crate) fn plan_commit(
@@ -121,11 +129,13 @@ pub(crate) fn plan_commit(
     manifest: &Manifest,
     opened: &[OpenSegment],
     documents: &[Document],
+    index: &Index,
     next_number: u32,
 ) -> Result<Plan, Refusal>
     requires sound { IsBody manifest.now.units (view manifest.now) }
     requires opened { length opened.now ≡ length manifest.now.entries.items }
     requires grown { All IsGrown opened.now }
+    requires index { Keeps index.now (docs_of documents.now) }
     requires due { DueAs (view manifest.now) (length documents.now) None }
     requires next { AreNext (view manifest.now) (docs_of documents.now) next_number }
     ensures { (size : ℕ) → IsBody (units_in size) (view manifest.now)
@@ -134,7 +144,7 @@ pub(crate) fn plan_commit(
     if documents.is_empty() {
         return plan_lists(alloc, manifest, opened, next_number);
     }
-    let (bytes, segment) = new_segment(alloc, documents)?;
+    let (bytes, segment) = new_segment(alloc, documents, index)?;
     plan_segment(alloc, manifest, opened, next_number, bytes, segment)
 }
 
@@ -171,7 +181,8 @@ impl<D: Disk> Store<D> {
             return Err(why);
         }
         let documents = self.buffer.documents();
-        let plan = self.volume.plan_commit(alloc, documents, self.next)?;
+        let index = self.buffer.index();
+        let plan = self.volume.plan_commit(alloc, documents, index, self.next)?;
         self.volume.carry_out(plan)?;
         self.buffer.clear();
         Ok(())

@@ -15,6 +15,7 @@
 //! | `find` | the numbers of the documents found, rising | reopen, memory, damaged, disk |
 //! | `show` | the text of a document | reopen, no such document, memory, damaged, disk |
 //! | `commit` | nothing | reopen, memory, disk; for want of numbers, segments or room (below) |
+//! | `merge`, `tidy` | nothing | as `commit`, and damaged; never for want of segments |
 //! | `counts` | how many documents live, and the next number | reopen |
 //! | `run` | a reply for each command | memory, before the first |
 //! | `close` | the disk | never |
@@ -22,6 +23,9 @@
 //!
 //! A commit is refused as numbers used up, too many segments, segment too large, or full with the
 //! units that it needs in a row and those that are free.
+//!
+//! `merge` makes one segment of all, `tidy` of eight neighbours with the least bytes, so that further
+//! commits have room. With fewer than eight segments a `tidy` does nothing.
 //!
 //! Documents that no commit has written stand in a buffer in memory. A commit writes them as one
 //! segment to free units of the disk and puts a body in force that names it; the crate pk_manifest
@@ -38,7 +42,8 @@
 //!
 //! In specs/: `View` says what a store shows and which states it means, `Steps` what a command
 //! does, `Opening` what opening and creating promise, `Plan` what a commit writes and how a plan is
-//! carried out, `Placed` where. `Calls` says what calls in turn leave on the disk, `Eras` what
+//! carried out, `Placed` where. `Merging` says what planning a merge answers, `Ways` of which segments
+//! a merge and a tidy are. `Calls` says what calls in turn leave on the disk, `Eras` what
 //! survives of sessions one after another. The states, the legal step and what a disk holds are of
 //! pk_state, a body put in force of pk_replace. The module `laws` has what holds of any store.
 #![tactic(auto)]

@@ -46,7 +46,7 @@ pub(crate) fn written_kind() -> u32
     ensures is { result ≡ written_kind }
     ensures kind { IsKind result }
 {
-    1
+    2
 }
 
 /// The segment that these bytes spell, open.
@@ -188,6 +188,25 @@ pub(crate) fn put_settled(
     put_settled(alloc, out, others)
 }
 
+/// Puts the open segments behind the others, as they are.
+pub(crate) fn put_copies(
+    alloc: Global,
+    out: &mut Vec<OpenSegment>,
+    opened: &[OpenSegment],
+) -> Result<(), AllocError>
+    ensures { OnOk result (out.new.items ≡ out.old.items ++ opened.now) }
+{
+    let Some((segment, others)) = opened.split_first() else {
+        return Ok(());
+    };
+    out.push(OpenSegment {
+        segment: segment.segment,
+        dead: segment.dead.copy(alloc)?,
+        deleted: segment.deleted.copy(alloc)?,
+    })?;
+    put_copies(alloc, out, others)
+}
+
 // Puts the bytes behind the other pieces, each at the start of its extent.
 fn put_pieces(
     pieces: &mut Vec<Piece>,
@@ -265,18 +284,19 @@ pub(crate) fn settled_with(
     Ok(kept)
 }
 
-/// The body that follows: these entries, and behind them that of a new segment in this extent, if
-/// there is one.
+/// The body that follows: these entries, behind them that of a new segment in this extent, if there
+/// is one, and behind it these.
 pub(crate) fn next_manifest(
     manifest: &Manifest,
     next_number: u32,
     mut entries: Vec<Part>,
     segment: Option<Extent>,
+    behind: &[Part],
 ) -> Result<Manifest, AllocError>
     requires generation { manifest.now.generation < end_of_ids }
     requires id { manifest.now.next_segment < end_of_ids }
     ensures { IfOk result (λ m. view m ≡ next_body (view manifest.now) next_number (ids_in segment)
-        (entries.items ++ entry_in (view manifest.now) segment)) }
+        (entries.items ++ (entry_in (view manifest.now) segment ++ behind.now))) }
 {
     let mut next_segment = manifest.next_segment;
     if let Some(extent) = segment {
@@ -288,6 +308,7 @@ pub(crate) fn next_manifest(
         })?;
         next_segment += 1;
     }
+    entries.extend_from_slice(behind)?;
     Ok(Manifest {
         generation: manifest.generation + 1,
         units: manifest.units,

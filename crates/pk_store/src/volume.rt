@@ -1,19 +1,22 @@
 //! What is committed, on its disk, and what of it is deleted: the body in force with its open
 //! segments, and the one way in which another body takes its place.
-ghost use Rattle.std.specs.Prelude.{◌≡◌, ◌≤◌, ◌<◌, ◌^◌, ℕ, List, false, length};
+ghost use Rattle.std.specs.Prelude.{◌≡◌, ◌≤◌, ◌<◌, ◌+◌, ◌^◌, ℕ, List, false, length};
 ghost use Rattle.std.specs.List.{list_any};
 ghost use Rattle.pk_disk.specs.Frames.{KeepsDisk};
+ghost use Rattle.pk_index.specs.Index.{Keeps};
 ghost use Rattle.pk_manifest.specs.Spelling.{view};
 ghost use Rattle.pk_model.specs.Collection.{IsCollection};
 ghost use Rattle.pk_model.specs.Tree.{tree_of};
 ghost use Rattle.pk_search.specs.Finding.{FoundAs, LooksUpAs};
-ghost use Rattle.pk_search.specs.Opened.{pends, present};
+ghost use Rattle.pk_search.specs.Opened.{AreOpenOf, pends, present};
 ghost use Rattle.pk_segment.specs.Spelling.{docs_of};
 ghost use Rattle.pk_segment.specs.Reading.{CountsReads};
 ghost use Rattle.pk_state.specs.Committed.{Stored, live_in, whole_of};
+ghost use Rattle.pk_state.specs.Holds.{IndexesEntries};
 ghost use Rattle.pk_store.specs.Deleting.{DeletesAt, DeletesIn};
-ghost use Rattle.pk_state.specs.Writing.{is_merged};
-ghost use Rattle.pk_store.specs.Merging.{PlansAll};
+ghost use Rattle.pk_merge.specs.Choosing.{ChoosesAs};
+ghost use Rattle.pk_state.specs.Writing.{is_merged, sizes_of};
+ghost use Rattle.pk_store.specs.Merging.{PlansRun};
 ghost use Rattle.pk_store.specs.Plan.{AreNext, Carries, DueAs, IsPlan, PlansAs};
 ghost use Rattle.pk_store.specs.View.{IsReady, KeepsVolume, StandFor, committed_by, volume_of};
 
@@ -21,8 +24,9 @@ use crate::committing::plan_commit;
 use crate::merging::{MAX_DELETED, inputs_of, plan_merged, refusal_of};
 use crate::planning::{Plan, written_kind};
 use pk_disk::Disk;
+use pk_index::Index;
 use pk_manifest::{Half, Manifest};
-use pk_merge::merged;
+use pk_merge::{choose, merged};
 use pk_model::limits::{END_OF_IDS, MAX_SEGMENTS};
 use pk_model::{DocNo, Document, Query, Refusal};
 use pk_posting::SourceFault;
@@ -112,8 +116,9 @@ impl<D: Disk> Volume<D> {
         query: &Query,
         found: &mut Vec<DocNo>,
     ) -> Result<(), ReadFault>
-        ensures found { D.honest → (stored : List Stored) → StandFor D.Disk self.old stored
-            → self.old.reopen ≡ false
+        ensures found { D.honest → (stored : List Stored)
+            → IndexesEntries (D.content self.old.disk) self.old.body.entries stored
+            → AreOpenOf self.old.opened stored
             → FoundAs (tree_of query.now) (live_in (present self.old.opened stored)) found.old.items
             found.new.items result }
         ensures keeps { KeepsVolume D.Disk self.old self.new }
@@ -212,21 +217,30 @@ impl<D: Disk> Volume<D> {
         None
     }
 
-    /// The plan of a commit of these documents and this next number.
+    /// The plan of a commit of these documents, which are indexed, and this next number.
     ///
     /// Refused as segment too large, as full, or as memory.
     pub(crate) fn plan_commit(
         &self,
         alloc: Global,
         documents: &[Document],
+        index: &Index,
         next_number: u32,
     ) -> Result<Plan, Refusal>
+        requires index { Keeps index.now (docs_of documents.now) }
         requires due { DueAs self.now.body (length documents.now) None }
         requires next { AreNext self.now.body (docs_of documents.now) next_number }
         ensures { PlansAs (length (D.content self.now.disk)) self.now.body self.now.opened
             (docs_of documents.now) next_number result }
     {
-        plan_commit(alloc, &self.manifest, &self.opened, documents, next_number)
+        plan_commit(
+            alloc,
+            &self.manifest,
+            &self.opened,
+            documents,
+            index,
+            next_number,
+        )
     }
 
     /// Whether nothing is left to merge: there is no segment, or just one, of the kind that is
@@ -241,17 +255,46 @@ impl<D: Disk> Volume<D> {
         }
     }
 
-    /// The plan of a merge of all segments; the disk is only read.
+    /// How many segments the body in force names.
+    pub(crate) fn segments(&self) -> usize
+        ensures { result ≡ length self.now.body.entries }
+    {
+        self.manifest.entries.len()
+    }
+
+    /// The first place of the run that a tidy merges; none where there are fewer than eight
+    /// segments. It takes no memory.
+    pub(crate) fn place_to_tidy(&self) -> Option<usize>
+        ensures { ChoosesAs (sizes_of self.now.body.entries) result }
+    {
+        let entries = self.manifest.entries.as_slice();
+        let mut sizes = [0; MAX_SEGMENTS];
+        for i in 0..entries.len() {
+            sizes[i] = entries[i].extent.bytes;
+        }
+        choose(&sizes[..entries.len()])
+    }
+
+    /// The plan of a merge of so many segments from a place on; the disk is only read.
     ///
     /// Refused as segment too large, as full, as damaged where a segment is none, as disk where a
     /// read failed, or as memory.
-    pub(crate) fn plan_merge(&mut self, alloc: Global) -> Result<Plan, Refusal>
+    pub(crate) fn plan_merge(
+        &mut self,
+        alloc: Global,
+        from: usize,
+        count: usize,
+    ) -> Result<Plan, Refusal>
         requires due { DueAs self.old.body 0 None }
-        ensures { PlansAll D.Disk self.old (length (D.content self.old.disk)) result self.new }
+        requires some { 1 ≤ count }
+        requires within { from + count ≤ length self.old.body.entries }
+        ensures { PlansRun D.Disk self.old from count (length (D.content self.old.disk)) result
+            self.new }
     {
-        let inputs = inputs_of(alloc, &self.manifest.entries, &self.opened)?;
+        let entries = &self.manifest.entries[from..from + count];
+        let inputs = inputs_of(alloc, entries, &self.opened[from..from + count])?;
         match merged(alloc, &mut self.disk, &inputs, written_kind()) {
-            Ok(bytes) => plan_merged(alloc, &self.manifest, &self.opened, bytes),
+            Ok(bytes) => plan_merged(alloc, &self.manifest, &self.opened, from, count, bytes),
             Err(fault) => Err(refusal_of(fault)),
         }
     }

@@ -3,12 +3,12 @@
 ghost use Rattle.std.specs.Prelude.{◌≡◌, ◌≤◌, ◌<◌, length, All, IfOk};
 ghost use Rattle.std.specs.List.Sorted.{IsStrictlyIncreasing};
 ghost use Rattle.pk_model.specs.Collection.{numbers_of};
-ghost use Rattle.pk_segment.specs.Spelling.{docs_of};
+ghost use Rattle.pk_segment.specs.Spelling.{IsKind, docs_of};
 
 use crate::segment::{ROW, document};
 use pk_dead::Dead;
 use pk_disk::{Disk, Extent, FaultDisk, MemoryDisk};
-use pk_merge::{MergeFault, MergeInput, merged};
+use pk_merge::{MergeFault, MergeInput, choose, merged};
 use pk_model::Document;
 use pk_segment::build;
 use std::alloc::{AllocError, Global};
@@ -22,12 +22,23 @@ const THIRD: [u8; 37] = [
     0x63, // text
 ];
 
-// The segment of documents 2 `a` and 3 `c`.
+// The segment of documents 2 `a` and 3 `c`, in kind 1,
 const LEFT: [u8; 50] = [
     1, 0, 0, 0, 2, 0, 0, 0, 2, 0, 0, 0, 0, 0, 0, 0, 0, 0, 0, 0, 0, 0, 0, 0, // header
     2, 0, 0, 0, 0, 0, 0, 0, 1, 0, 0, 0, // directory
     3, 0, 0, 0, 1, 0, 0, 0, 1, 0, 0, 0, // its second entry
     0x61, 0x63, // texts
+];
+
+// and in kind 2.
+const LEFT_INDEXED: [u8; 75] = [
+    2, 0, 0, 0, 2, 0, 0, 0, 2, 0, 0, 0, 10, 0, 0, 0, 15, 0, 0, 0, 2, 0, 0, 0, // header
+    2, 0, 0, 0, 0, 0, 0, 0, 1, 0, 0, 0, // directory
+    3, 0, 0, 0, 1, 0, 0, 0, 1, 0, 0, 0, // its second entry
+    0x61, 0x63, // texts
+    1, 0, 0, 0, 0x82, 1, 0, 0, 0, 0x83, // lists
+    0, 0, 0, 0, 0x81, 0x61, 0x81, 0x80, 0x85, // dictionary
+    0x80, 0x81, 0x63, 0x81, 0x85, 0x85, // its second word
 ];
 
 // Where the segment of documents 1 and 2 lies, and that of document 3.
@@ -57,14 +68,17 @@ fn dead(alloc: Global, number: u32) -> Result<Dead, AllocError>
     Ok(dead)
 }
 
-// What is left of the segment in unit 1 by the one list, and of that in unit 2 by the other.
+// What is left of the segment in unit 1 by the one list, and of that in unit 2 by the other, in
+// that kind.
 fn merge<D: Disk>(
     alloc: Global,
     disk: &mut D,
     first: &Dead,
     third: &Dead,
+    kind: u32,
 ) -> Result<Option<Vec<u8>>, MergeFault>
-    requires { length (D.content disk.old) ≡ 1536 }
+    requires kind { IsKind kind }
+    requires size { length (D.content disk.old) ≡ 1536 }
     ensures { length (D.content disk.new) ≡ length (D.content disk.old) }
 {
     let inputs = [
@@ -79,7 +93,7 @@ fn merge<D: Disk>(
             dead: third,
         },
     ];
-    merged(alloc, disk, &inputs, 1)
+    merged(alloc, disk, &inputs, kind)
 }
 
 // Documents 2 and 3.
@@ -99,10 +113,14 @@ fn left(alloc: Global) -> Result<Vec<Document>, AllocError>
 fn what_is_left_is_one_segment(rt: HostRuntime) -> Result<(), Fail> {
     let mut disk = disk(rt.alloc(), 0, 0)?;
     let first = dead(rt.alloc(), 1)?;
-    let bytes = merge(rt.alloc(), &mut disk, &first, &Dead::new(rt.alloc()))?;
-    assert_eq!(rt; bytes.as_deref(), Some(LEFT.as_slice()));
-    let built = build(rt.alloc(), &left(rt.alloc())?, 1)?;
-    assert_eq!(rt; bytes.as_deref(), Some(built.as_slice()));
+    let none = Dead::new(rt.alloc());
+    let plain = merge(rt.alloc(), &mut disk, &first, &none, 1)?;
+    assert_eq!(rt; plain.as_deref(), Some(LEFT.as_slice()));
+    let indexed = merge(rt.alloc(), &mut disk, &first, &none, 2)?;
+    assert_eq!(rt; indexed.as_deref(), Some(LEFT_INDEXED.as_slice()));
+    let left = left(rt.alloc())?;
+    assert!(rt; plain == Some(build(rt.alloc(), &left, 1)?));
+    assert!(rt; indexed == Some(build(rt.alloc(), &left, 2)?));
     Ok(())
 }
 
@@ -115,10 +133,10 @@ fn nothing_is_left(rt: HostRuntime) -> Result<(), Fail> {
     both.add(2)?;
     let third = dead(rt.alloc(), 3)?;
     assert_eq!(rt;
-        merge(rt.alloc(), &mut disk, &both, &third)?.as_deref(),
+        merge(rt.alloc(), &mut disk, &both, &third, 2)?.as_deref(),
         None
     );
-    let none = merged(rt.alloc(), &mut disk, &[], 1)?;
+    let none = merged(rt.alloc(), &mut disk, &[], 2)?;
     assert_eq!(rt; none.as_deref(), None);
     Ok(())
 }
@@ -136,12 +154,12 @@ fn damage_is_told(rt: HostRuntime) -> Result<(), Fail> {
         (FIRST_PLACE + 51, 0xFF),
     ] {
         let mut disk = disk(rt.alloc(), at, byte)?;
-        let refused = merge(rt.alloc(), &mut disk, &first, &none).err();
+        let refused = merge(rt.alloc(), &mut disk, &first, &none, 2).err();
         assert_eq!(rt; refused, Some(MergeFault::Damaged));
     }
     let mut disk = disk(rt.alloc(), FIRST_PLACE + 48, 0xFF)?;
-    let bytes = merge(rt.alloc(), &mut disk, &first, &none)?;
-    assert_eq!(rt; bytes.as_deref(), Some(LEFT.as_slice()));
+    let bytes = merge(rt.alloc(), &mut disk, &first, &none, 2)?;
+    assert_eq!(rt; bytes.as_deref(), Some(LEFT_INDEXED.as_slice()));
     Ok(())
 }
 
@@ -154,11 +172,11 @@ fn each_failing_read_of_a_merge_is_told(rt: HostRuntime) -> Result<(), Fail> {
     for k in 1..12u64 {
         let mut disk = FaultDisk::once(disk(rt.alloc(), 0, 0)?, k);
         if k < 11 {
-            let refused = merge(rt.alloc(), &mut disk, &first, &none).err();
+            let refused = merge(rt.alloc(), &mut disk, &first, &none, 2).err();
             assert_eq!(rt; refused, Some(MergeFault::Disk));
         }
-        let bytes = merge(rt.alloc(), &mut disk, &first, &none)?;
-        assert_eq!(rt; bytes.as_deref(), Some(LEFT.as_slice()));
+        let bytes = merge(rt.alloc(), &mut disk, &first, &none, 2)?;
+        assert_eq!(rt; bytes.as_deref(), Some(LEFT_INDEXED.as_slice()));
     }
     Ok(())
 }
@@ -168,9 +186,9 @@ fn is_merged(rt: &impl Abort, alloc: Global) -> bool {
     let (Ok(mut disk), Ok(first)) = (disk(alloc, 0, 0), dead(alloc, 1)) else {
         return false;
     };
-    match merge(alloc, &mut disk, &first, &Dead::new(alloc)) {
+    match merge(alloc, &mut disk, &first, &Dead::new(alloc), 2) {
         Ok(bytes) => {
-            assert_eq!(rt; bytes.as_deref(), Some(LEFT.as_slice()));
+            assert_eq!(rt; bytes.as_deref(), Some(LEFT_INDEXED.as_slice()));
             true
         }
         Err(fault) => {
@@ -187,4 +205,34 @@ fn merge_short_of_memory(rt: HostRuntime) {
     let first = is_merged(&rt, rt.alloc());
     let second = is_merged(&rt, rt.alloc());
     assert!(rt; first || second);
+}
+
+// Sizes, and where the eight with the least sum begin.
+const RUNS: [(&[u32], Option<usize>); 5] = [
+    (&[1, 1, 1, 1, 1, 1, 1], None),
+    (&[9, 1, 1, 1, 1, 1, 1, 1, 1], Some(1)),
+    (&[5, 5, 5, 5, 5, 5, 5, 5, 5], Some(0)),
+    (&[2, 1, 1, 1, 1, 1, 1, 1, 2, 3, 1], Some(0)),
+    (
+        &[
+            4_294_967_295,
+            4_294_967_295,
+            0,
+            0,
+            0,
+            0,
+            0,
+            0,
+            0,
+            4_294_967_295,
+        ],
+        Some(1),
+    ),
+];
+
+#[test]
+fn the_least_run_is_chosen(rt: HostRuntime) {
+    for (sizes, place) in RUNS {
+        assert_eq!(rt; choose(sizes), place);
+    }
 }

@@ -29,6 +29,7 @@ fn a_list_of_commands_is_answered_in_turn(rt: HostRuntime) -> Result<(), Fail> {
     commands.push(Command::Delete(DocNo(2)))?;
     commands.push(Command::Delete(DocNo(1)))?;
     commands.push(Command::Merge)?;
+    commands.push(Command::Tidy)?;
     let replies = new_store(alloc)?.run(alloc, &commands)?;
     let [
         added,
@@ -39,6 +40,7 @@ fn a_list_of_commands_is_answered_in_turn(rt: HostRuntime) -> Result<(), Fail> {
         missing,
         deleted,
         merged,
+        tidied,
     ] = replies.as_slice()
     else {
         return Err(Fail::new("as many replies as commands"));
@@ -55,6 +57,7 @@ fn a_list_of_commands_is_answered_in_turn(rt: HostRuntime) -> Result<(), Fail> {
     assert!(rt; matches!(missing, Reply::Refused(Refusal::NoSuchDocument)));
     assert!(rt; matches!(deleted, Reply::Deleted(DocNo(1))));
     assert!(rt; matches!(merged, Reply::Merged));
+    assert!(rt; matches!(tidied, Reply::Tidied));
     Ok(())
 }
 

@@ -10,7 +10,7 @@ const SMALL: &str = "
 ";
 
 /// What stores answer.
-const SESSIONS: [&str; 9] = [
+const SESSIONS: [&str; 10] = [
     // A deletion that no commit has taken is gone with a crash.
     "
     add x => added 1
@@ -66,18 +66,20 @@ const SESSIONS: [&str; 9] = [
     find NOT x => found 0:
     count => count 0 next 3
     ",
-    // A commit and a merge with nothing to write make no call of the device. Opening makes four
-    // calls, the commit of a document six: the read of gate B, the segment, the body, a sync, the
-    // gate, a sync. The eleventh call would fail.
+    // A commit, a merge and a tidy with nothing to write make no call of the device. Opening makes
+    // four calls, the commit of a document six: the read of gate B, the segment, the body, a sync,
+    // the gate, a sync. The eleventh call would fail.
     "
     !close
     !fail 11
     !open => opened
     merge => merged
+    tidy => tidied
     add x => added 1
     commit => committed
     commit => committed
     merge => merged
+    tidy => tidied
     count => count 1 next 2
     add y => added 2
     merge => merged
@@ -239,10 +241,53 @@ const SESSIONS: [&str; 9] = [
     find NOT x => found 2: 1 2
     count => count 2 next 3
     ",
+    // Of nine segments the first is long: a tidy makes one of the eight behind it, segment 10.
+    // Uncommitted deletions stay so, in the segments of both; the committed one is applied.
+    "
+    add {-*3000} => added 1
+    add red => added 2
+    commit => committed
+    add green => added 3
+    commit => committed
+    add red => added 4
+    commit => committed
+    add green => added 5
+    commit => committed
+    add red => added 6
+    commit => committed
+    add green => added 7
+    commit => committed
+    add red => added 8
+    commit => committed
+    tidy => tidied
+    add green => added 9
+    commit => committed
+    delete 3 => deleted 3
+    commit => committed
+    add red => added 10
+    commit => committed
+    delete 2 => deleted 2
+    delete 5 => deleted 5
+    add green => added 11
+    tidy => tidied
+    find red => found 4: 4 6 8 10
+    find green => found 3: 7 9 11
+    show 3 => refused no such document
+    count => count 8 next 12
+    tidy => tidied
+    !close
+    !bytes 9248 12 => 02 00 00 00 01 00 00 00 00 00 00 00
+    !bytes 9292 8 => 0A 00 00 00 00 00 00 00
+    !open => opened
+    find red => found 5: 2 4 6 8 10
+    find green => found 3: 5 7 9
+    show 3 => refused no such document
+    count => count 9 next 11
+    ",
 ];
 
 /// What is written where. The first segment lies at unit 34, which is byte 17,408.
-const PLACES: [&str; 5] = [
+const PLACES: [&str; 6] = [
     // A commit with deletions alone writes no segment, and the next segment id stays. Its list goes
     // to unit 35, the first free one; the next list to 36, beside the one in force; the next
     // segment to 35, which is free again.
@@ -257,7 +302,7 @@ const PLACES: [&str; 5] = [
     !bytes 1044 4 => 03 00 00 00
     !bytes 1048 12 => 02 00 00 00 00 00 00 00 01 00 00 00
     !bytes 1060 8 => 01 00 00 00 00 00 00 00
-    !bytes 1068 16 => 22 00 00 00 01 00 00 00 32 00 00 00 01 00 00 00
+    !bytes 1068 16 => 22 00 00 00 01 00 00 00 4B 00 00 00 02 00 00 00
     !bytes 1084 16 => 23 00 00 00 01 00 00 00 05 00 00 00 00 00 00 00
     !bytes 17920 6 => 01 00 00 00 81 00
     !open => opened
@@ -275,7 +320,7 @@ const PLACES: [&str; 5] = [
     !bytes 1048 12 => 03 00 00 00 00 00 00 00 02 00 00 00
     !bytes 1084 16 => 24 00 00 00 01 00 00 00 06 00 00 00 00 00 00 00
     !bytes 1100 8 => 02 00 00 00 00 00 00 00
-    !bytes 1108 16 => 23 00 00 00 01 00 00 00 25 00 00 00 01 00 00 00
+    !bytes 1108 16 => 23 00 00 00 01 00 00 00 33 00 00 00 02 00 00 00
     !bytes 1124 16 => {00 *15}00
     ",
     // A commit places its segment first, at unit 36, then the lists in the order of the segments,
@@ -298,7 +343,7 @@ const PLACES: [&str; 5] = [
     !bytes 9276 16 => 25 00 00 00 01 00 00 00 05 00 00 00 00 00 00 00
     !bytes 9316 16 => 26 00 00 00 01 00 00 00 05 00 00 00 00 00 00 00
     !bytes 9332 8 => 03 00 00 00 00 00 00 00
-    !bytes 9340 16 => 24 00 00 00 01 00 00 00 30 00 00 00 01 00 00 00
+    !bytes 9340 16 => 24 00 00 00 01 00 00 00 52 00 00 00 02 00 00 00
     !bytes 18944 5 => 01 00 00 00 81
     !bytes 19456 5 => 01 00 00 00 84
     !open => opened
@@ -323,14 +368,20 @@ const PLACES: [&str; 5] = [
     !bytes 1044 4 => 05 00 00 00
     !bytes 1048 12 => 04 00 00 00 00 00 00 00 01 00 00 00
     !bytes 1060 8 => 03 00 00 00 00 00 00 00
-    !bytes 1068 16 => 26 00 00 00 01 00 00 00 43 00 00 00 01 00 00 00
+    !bytes 1068 16 => 26 00 00 00 01 00 00 00 7F 00 00 00 02 00 00 00
     !bytes 1084 56 => {00 *55}00
-    !bytes 19456 12 => 01 00 00 00 02 00 00 00 13 00 00 00
-    !bytes 19468 12 => {00 *11}00
+    !bytes 19456 12 => 02 00 00 00 02 00 00 00 13 00 00 00
+    !bytes 19468 12 => 14 00 00 00 28 00 00 00 04 00 00 00
     !bytes 19480 12 => 02 00 00 00 00 00 00 00 08 00 00 00
     !bytes 19492 12 => 03 00 00 00 08 00 00 00 0B 00 00 00
     !bytes 19504 8 => 72 65 64 20 70 65 61 72
     !bytes 19512 11 => 67 72 65 65 6E 20 61 70 70 6C 65
+    !bytes 19523 20 => 01 00 00 00 83 01 00 00 00 83 01 00 00 00 82 01 00 00 00 82
+    !bytes 19543 4 => 00 00 00 00
+    !bytes 19547 9 => 85 61 70 70 6C 65 81 80 85
+    !bytes 19556 10 => 80 85 67 72 65 65 6E 81 85 85
+    !bytes 19566 9 => 80 84 70 65 61 72 81 8A 85
+    !bytes 19575 8 => 80 83 72 65 64 81 8F 85
     !open => opened
     find NOT x => found 2: 2 3
     add z => added 5
@@ -338,6 +389,45 @@ const PLACES: [&str; 5] = [
     !close
     !bytes 9248 4 => 02 00 00 00
     !bytes 9292 12 => 04 00 00 00 00 00 00 00 22 00 00 00
+    ",
+    // A segment of kind 1, of `a b` and `a`, that an earlier version wrote: a find reads its texts,
+    // until a merge writes it anew, in kind 2 at unit 35. A second merge makes no call of the
+    // device: opening makes nine, and the tenth fails. From then on no find goes by the texts.
+    "
+    !close
+    !set 1032 02
+    !set 1044 03 00 00 00 02 00 00 00 00 00 00 00 01 00 00 00
+    !set 1060 01 00 00 00 00 00 00 00 22 00 00 00 01 00 00 00 34 00 00 00 01
+    !set 17408 01 00 00 00 02 00 00 00 04 00 00 00 00 00 00 00 00 00 00 00 00 00 00 00
+    !set 17432 01 00 00 00 00 00 00 00 03 00 00 00 02 00 00 00 03 00 00 00 01 00 00 00
+    !set 17456 61 20 62 61
+    !open => opened
+    find a => found 2: 1 2
+    merge => merged
+    find a => found 2: 1 2
+    find b => found 1: 1
+    !close
+    !bytes 9224 8 => 03 00 00 00 00 00 00 00
+    !bytes 9236 12 => 03 00 00 00 03 00 00 00 00 00 00 00
+    !bytes 9248 12 => 01 00 00 00 02 00 00 00 00 00 00 00
+    !bytes 9260 16 => 23 00 00 00 01 00 00 00 4E 00 00 00 02 00 00 00
+    !bytes 17920 12 => 02 00 00 00 02 00 00 00 04 00 00 00
+    !bytes 17932 12 => 0B 00 00 00 0F 00 00 00 02 00 00 00
+    !bytes 17944 12 => 01 00 00 00 00 00 00 00 03 00 00 00
+    !bytes 17956 12 => 02 00 00 00 03 00 00 00 01 00 00 00
+    !bytes 17968 4 => 61 20 62 61
+    !bytes 17972 11 => 02 00 00 00 81 81 01 00 00 00 81
+    !bytes 17983 9 => 00 00 00 00 81 61 82 80 86
+    !bytes 17992 6 => 80 81 62 81 86 85
+    !fail 10
+    !open => opened
+    merge => merged
+    find a => refused disk
+    !close
+    !set 17968 7A
+    !open => opened
+    find a => found 2: 1 2
+    find z => found 0:
     ",
     // A merge that leaves no document leaves no segment, and the next segment id.
     "

@@ -131,7 +131,7 @@ const SECOND_CUT: &str = "
 /// | 1 to 4 | opening: a sync, the reads of two gates and a body |
 /// | 5 to 10 | the first commit: a read of gate B, segment, body, a sync, the gate, a sync |
 /// | 11 to 18 | the second: the read of gate A, its close, a sync, and the last five again |
-/// | 19 to 22 | the find: an entry and a text of each document |
+/// | 19 to 36 | the find: of each segment its directory, its header, and seven pieces of its dictionary |
 const COMMITTING: [Sweep; 11] = [
     Sweep {
         before: NEW,
@@ -251,7 +251,7 @@ const COMMITTING: [Sweep; 11] = [
     Sweep {
         before: NEW,
         first: 19,
-        last: 22,
+        last: 36,
         how: EITHER,
         session: "
             !open => opened
@@ -267,8 +267,8 @@ const COMMITTING: [Sweep; 11] = [
     },
     Sweep {
         before: NEW,
-        first: 23,
-        last: 23,
+        first: 37,
+        last: 37,
         how: EITHER,
         session: "
             !open => opened

@@ -30,6 +30,8 @@ mod reading;
 #[cfg(test)]
 mod script;
 #[cfg(test)]
+mod searching;
+#[cfg(test)]
 mod serving;
 #[cfg(test)]
 mod sessions;

@@ -277,6 +277,7 @@ const MERGE_CUT: &str = "
     delete 2 => deleted 2
     merge => refused disk
     merge => refused reopen
+    tidy => refused reopen
     commit => refused reopen
     find red => refused reopen
     count => refused reopen

@@ -87,7 +87,9 @@ const SESSIONS: [&str; 17] = [
     Merge => refused unknown
     merge{ *1} => refused unknown
     merge 1 => refused unknown
-    tidy => refused unknown
+    Tidy => refused unknown
+    tidy{ *1} => refused unknown
+    tidy 8 => refused unknown
     count => count 0 next 1
     ",
     // Numbers of no document, and one with zeros before it.
@@ -250,7 +252,7 @@ fn sessions_go_as_written(rt: HostRuntime) -> Result<(), Fail> {
 }
 
 /// The last number, lines for each number from 1 to it, and the lines behind them.
-const MANY: [(u32, &str, &str); 2] = [
+const MANY: [(u32, &str, &str); 3] = [
     // 64 segments. Without a document a commit isn't refused, and a merge makes room.
     (
         64,
@@ -278,6 +280,35 @@ const MANY: [(u32, &str, &str); 2] = [
         !open => opened
         count => count 65 next 67
         find c => found 1: 66
+        ",
+    ),
+    // A tidy makes room too: of the 64 segments there are 57 after it, and 58 after a commit, which
+    // the body in force has at byte 1,056.
+    (
+        64,
+        "
+        add a => added #
+        commit => committed
+        ",
+        "
+        add a => added 65
+        commit => refused too many segments
+        tidy => tidied
+        commit => committed
+        count => count 65 next 66
+        !close
+        !bytes 1056 4 => 3A 00 00 00
+        !open => opened
+        show 1 => text a
+        show 8 => text a
+        show 65 => text a
+        merge => merged
+        tidy => tidied
+        count => count 65 next 66
+        !close
+        !bytes 9248 4 => 01 00 00 00
+        !open => opened
+        count => count 65 next 66
         ",
     ),
     // 4,096 uncommitted documents.

@@ -11,7 +11,7 @@ use std::alloc::{AllocError, Global};
 use std::test::Fail;
 
 /// What is asked, as one list of commands.
-const LINES: [&str; 27] = [
+const LINES: [&str; 26] = [
     "add red apple",
     "add red pear",
     "commit",
@@ -37,8 +37,7 @@ const LINES: [&str; 27] = [
     "commit",
     "add a",
     "commit",
-    "add a",
-    "commit",
+    "tidy",
 ];
 
 /// What is asked of what is left.
@@ -58,6 +57,7 @@ fn command_of(alloc: Global, line: &str) -> Result<Command, Fail> {
         // The script deletes document 1 alone.
         Some(_) => Ok(Command::Delete(DocNo(1))),
         None if line == "merge" => Ok(Command::Merge),
+        None if line == "tidy" => Ok(Command::Tidy),
         None => Ok(Command::Commit),
     }
 }

@@ -1,15 +1,14 @@
 -- The one segment is as long as it may be, and placed.
-use Rattle.std.proofs.Common.{◌≡◌, ◌∙◌, ◌++◌, ap, sym, subst, refl, arith, length, List, ℕ, [], ◌∷◌}
-use Rattle.std.proofs.Common.{map}
+use Rattle.std.proofs.Common.{◌≡◌, ◌∙◌, ◌+◌, ◌-◌, ap, sym, subst, refl, arith, drop, length, take, List, ℕ, [], ◌∷◌}
+use Rattle.std.proofs.Common.{Some, map}
 use Rattle.pk_manifest.specs.Sound.{named}
 use Rattle.pk_manifest.specs.Spelling.{view}
 use Rattle.pk_search.specs.declared.opened.OpenSegment.{OpenSegment}
-use Rattle.pk_manifest.specs.declared.manifest.Part.{Part}
 use Rattle.pk_posting.specs.Posting.{IsPosting}
 use Rattle.pk_segment.specs.Spelling.{SegmentSpells}
 use Rattle.pk_space.specs.Places.{PlacedAs}
-use Rattle.pk_state.specs.Writing.{new_entry, next_body, written_kind}
-use Rattle.pk_store.specs.Merging.{body_merged}
+use Rattle.pk_state.specs.Writing.{replaced, written_kind}
+use Rattle.pk_store.specs.Merging.{ArePending, body_merged}
 use Rattle.pk_store.proofs.PlacingLemmas.{some_bytes, spelled_length}
 use Rattle.pk_store.proofs.MergeLemmas.{one_extent, one_least, plan_same}
 use Rattle.pk_store.proofs.merging.plan_one.Goals as goal
@@ -27,10 +26,11 @@ place_all-requires-clause-some c =
 pub returns : goal.returns
 returns c =
     let b = view c.args.manifest.now in
-    let e = c.index-extent.result.now in
+    let e = c.index.result.now in
     let bytes = c.args.bytes.items in
     let placed : PlacedAs b.units (named b) (length bytes ∷ []) c.in_ok-extents.extents.items = subst (λ (n : ℕ). PlacedAs b.units (named b) (n ∷ []) c.in_ok-extents.extents.items) (c.len.ensures ∙ c.args.bytes.ok.0) c.in_ok-extents.ensures in
-    let one : c.in_ok-extents.extents.items ≡ e ∷ [] = one_extent b.units (named b) (length bytes) c.in_ok-extents.extents.items e placed c.index-extent.ensures in
+    let one : c.in_ok-extents.extents.items ≡ e ∷ [] = one_extent b.units (named b) (length bytes) c.in_ok-extents.extents.items e placed c.index.ensures in
+    let same : (c.args.from + c.args.count) - c.args.from ≡ c.args.count = omega arith in
     let o : OpenSegment = record { segment = c.open_built-segment.result; dead = []; deleted = c.in_ok-deleted.deleted } in (
       o ∷ [],
       (
@@ -39,12 +39,12 @@ returns c =
         record {
           segment = λ docs spells. c.open_built-segment.ensures docs (subst (λ (bs : List ℕ). SegmentSpells bs docs written_kind) (sym c.deref.ensures.value) spells);
           no_list = refl;
-          deleted = c.in_ok-deleted.ensures;
+          deleted = subst (λ n. ArePending (take n (drop c.args.from c.args.opened.now)) c.in_ok-deleted.deleted) same c.in_ok-deleted.ensures;
           posting = subst IsPosting c.deleted.view_is c.deleted.invariant;
         },
       ),
       e ∷ [],
       subst (PlacedAs b.units (named b) (length bytes ∷ [])) one placed,
-      plan_same (view c.in_ok-next.next) (body_merged b (e ∷ [])) c.in_ok-opened.opened.items (o ∷ []) c.deref-2.result.now (e ∷ []) (map (λ w. w.items) c.in_ok-writes.writes.items) (bytes ∷ []) c.in_ok-plan_for.field-0
-          (c.in_ok-next.ensures ∙ ap (λ (es : List Part). next_body b b.next_number 1 (es ++ new_entry b e ∷ [])) c.new.ensures.items) c.in_ok-opened.ensures (c.deref-2.ensures.value ∙ one) (ap (map (λ w. w.items)) c.in_ok-writes.ensures) c.in_ok-plan_for.ensures,
+      plan_same (view c.in_ok-next.next) (body_merged b c.args.from c.args.count (Some e)) c.in_ok-kept.kept.items (replaced c.args.from c.args.count (o ∷ []) c.args.opened.now) c.deref-2.result.now (e ∷ []) (map (λ w. w.items) c.in_ok-writes.writes.items) (bytes ∷ []) c.in_ok-plan_for.field-0
+          c.in_ok-next.ensures (c.in_ok-kept.ensures ∙ ap (λ ns. replaced c.args.from c.args.count (record { segment = c.open_built-segment.result; dead = ns; deleted = c.in_ok-deleted.deleted } ∷ []) c.args.opened.now) c.new.ensures) (c.deref-2.ensures.value ∙ one) (ap (map (λ w. w.items)) c.in_ok-writes.ensures) c.in_ok-plan_for.ensures,
     )

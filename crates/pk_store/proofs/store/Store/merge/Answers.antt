@@ -1,39 +1,36 @@
 -- What each way out of it answers.
-use Rattle.std.proofs.Common.{ℕ, sym, ap, ◌∙◌, length, subst}
-use Rattle.std.proofs.lemmas.Result.{err_from_is_err_and}
-use Rattle.pk_manifest.specs.Spelling.{Body}
-use Rattle.pk_store.specs.View.{IsBuffered}
-use Rattle.pk_store.proofs.MergeSteps.{carried_steps, same_next, due_steps, flag_steps, nothing_steps, unplanned_steps}
+use Rattle.std.proofs.Common.{◌≡◌, ◌+◌, ◌≤◌, ◌∙◌, ap, arith, false, length, refl, subst, sym}
+use Rattle.std.specs.Prelude.{not}
+use Rattle.pk_store.specs.View.{StoreView}
+use Rattle.pk_store.specs.Ways.{IsRunOf, of_all}
+use Rattle.pk_store.proofs.MergeSteps.{flag_steps, nothing_steps, some_entries}
 use Rattle.pk_store.proofs.StoreSteps.{view_of}
 use Rattle.pk_store.proofs.store.Store.merge.Goals as goal
 
 pub returns-then-must_reopen : goal.returns-then-must_reopen
 returns-then-must_reopen g c =
     let shown = view_of c.self.inside.volume c.self.inside.buffer c.self.inside.next in
-    record { step = rw (sym c.self.view_is) (flag_steps g.D.Disk shown (sym c.must_reopen.ensures ∙ c.if-must_reopen.true)) }
+    record { step = rw (sym c.self.view_is) (flag_steps g.D.Disk shown of_all (sym c.must_reopen.ensures ∙ c.if-must_reopen.true)) }
 
 pub returns-then-is_merged : goal.returns-then-is_merged
 returns-then-is_merged g c =
     let shown = view_of c.self.inside.volume c.self.inside.buffer c.self.inside.next in
-    record { step = rw (sym c.self.view_is) (nothing_steps g.D.Disk shown (sym c.must_reopen.ensures ∙ c.if-must_reopen.false) (sym c.is_merged.ensures ∙ c.if-is_merged.true)) }
+    let one = sym c.is_merged.ensures ∙ c.if-is_merged.true in
+    record { step = rw (sym c.self.view_is) (nothing_steps g.D.Disk shown of_all (sym c.must_reopen.ensures ∙ c.if-must_reopen.false) (λ stored. ap not one) refl) }
 
-pub returns-in-Some : goal.returns-in-Some
-returns-in-Some g c =
-    let shown = view_of c.self.inside.volume c.self.inside.buffer c.self.inside.next in
-    record { step = rw (sym c.self.view_is) (due_steps g.D.Disk shown (sym c.must_reopen.ensures ∙ c.if-must_reopen.false) (sym c.is_merged.ensures ∙ c.if-is_merged.false) c.in-Some.why c.in-Some.ensures) }
+pub merge_run-requires-clause-clear : goal.merge_run-requires-clause-clear
+merge_run-requires-clause-clear g c = subst (λ (s : StoreView g.row.D.Denot). s.volume.reopen ≡ false) c.self.view_is (sym c.must_reopen.ensures ∙ c.if-must_reopen.false)
 
-pub returns-in_err-plan : goal.returns-in_err-plan
-returns-in_err-plan g c =
-    let shown = view_of c.self.inside.volume c.self.inside.buffer c.self.inside.next in
-    let found = err_from_is_err_and c.from_residual.result c.from_residual.ensures.1 in
-    record { step = rw found.1 (rw found.2 (rw (sym c.self.view_is) (unplanned_steps g.D.Disk shown (sym c.must_reopen.ensures ∙ c.if-must_reopen.false) (sym c.is_merged.ensures ∙ c.if-is_merged.false) c.in_default.ensures (length (g.D.Disk.content shown.volume.disk)) c.in_err-plan.field-0.0 c.plan_merge.new.self c.in_err-plan.ensures))) }
+pub merge_run-requires-clause-some : goal.merge_run-requires-clause-some
+merge_run-requires-clause-some g c =
+    let some = some_entries c.self.inside.volume.body.entries (sym c.is_merged.ensures ∙ c.if-is_merged.false) in
+    omega (arith, some, c.segments-count.ensures)
 
-pub invariant_of-self-2 : goal.invariant_of-self-2
-invariant_of-self-2 g c =
-    let next = same_next g.D.Disk c.plan_merge.new.self c.in_ok-plan.plan c.carry_out.new.self (c.in_ok-plan.ensures.rightly.1 ∙ sym (ap (λ (b : Body). b.next_number) c.in_ok-plan.ensures.keeps.body)) c.carry_out.result c.carry_out.ensures.failed c.carry_out.ensures.ends in
-    subst (λ (n : ℕ). IsBuffered n c.self.inside.next c.self.inside.buffer) (sym (next ∙ ap (λ (b : Body). b.next_number) c.in_ok-plan.ensures.keeps.body)) c.self.invariant
+pub merge_run-requires-clause-within : goal.merge_run-requires-clause-within
+merge_run-requires-clause-within g c =
+    subst (λ (s : StoreView g.row.D.Denot). 0 + c.segments-count.result ≤ length s.volume.body.entries) c.self.view_is (omega (arith, c.segments-count.ensures))
 
 pub returns : goal.returns
 returns g c =
-    let shown = view_of c.self.inside.volume c.self.inside.buffer c.self.inside.next in
-    record { step = rw (sym c.self.view_is) (carried_steps g.D.Disk shown (sym c.must_reopen.ensures ∙ c.if-must_reopen.false) (sym c.is_merged.ensures ∙ c.if-is_merged.false) c.in_default.ensures (length (g.D.Disk.content shown.volume.disk)) c.in_ok-plan.plan c.plan_merge.new.self c.carry_out.new.self c.in_ok-plan.ensures c.carry_out.result c.carry_out.ensures) }
+    let busy = sym c.is_merged.ensures ∙ c.if-is_merged.false in
+    record { step = c.merge_run.ensures of_all (subst (λ (s : StoreView g.row.D.Denot). IsRunOf of_all s.volume.body.entries 0 c.segments-count.result) c.self.view_is (busy, refl, c.segments-count.ensures)) }

@@ -1,0 +1,132 @@
+//! Finds over a segment of kind 1, two of kind 2 and the buffer. Each answer is told from the texts.
+
+ghost use Rattle.std.specs.Prelude.{◌<◌};
+
+use crate::script::play;
+use std::alloc::{AllocError, Global};
+use std::test::Fail;
+
+/// A store with one segment of kind 1, of documents 1 `a b` and 3 `a`. The next number is 7.
+const STORE: &str = "!disk 65536
+!set 0 A7
+!set 1024 50 4B 53 52 43 48 30 31 01 00 00 00 00 00 00 00 80 00 00 00 07 00 00 00
+!set 1048 02 00 00 00 00 00 00 00 01 00 00 00
+!set 1060 01 00 00 00 00 00 00 00 22 00 00 00 01 00 00 00 34 00 00 00 01
+!set 17408 01 00 00 00 02 00 00 00 04 00 00 00 00 00 00 00 00 00 00 00 00 00 00 00
+!set 17432 01 00 00 00 00 00 00 00 03 00 00 00 03 00 00 00 03 00 00 00 01 00 00 00
+!set 17456 61 20 62 61
+!open => opened
+";
+
+/// The last number that is added.
+const LAST: u32 = 405;
+
+/// Rare and frequent words, so that numbers are sought; words that no document has; chains, `NOT`
+/// and brackets.
+const QUERIES: [&str; 12] = [
+    "r AND f",
+    "f AND NOT o AND r",
+    "r AND m AND f",
+    "z",
+    "z OR r",
+    "r AND z AND f",
+    "f AND NOT z AND NOT m",
+    "a OR NOT f",
+    "(a OR m) AND (o OR r)",
+    "NOT (a OR m OR o)",
+    "r AND (m OR NOT f)",
+    "b AND NOT r",
+];
+
+/// Whether the document has the word.
+fn has(n: u32, word: char) -> bool {
+    match word {
+        'a' => n == 1 || n == 3 || n % 5 == 0,
+        'b' => n == 1,
+        'f' => n >= 7,
+        'r' => n % 190 == 0,
+        'm' => n >= 7 && n % 3 == 0,
+        'o' => n >= 7 && n % 2 == 1,
+        _ => false,
+    }
+}
+
+/// Whether the document satisfies the query at a place.
+fn satisfies(place: usize, n: u32) -> bool {
+    let (a, f, r, m, o) = (
+        has(n, 'a'),
+        has(n, 'f'),
+        has(n, 'r'),
+        has(n, 'm'),
+        has(n, 'o'),
+    );
+    match place {
+        0 => r && f,
+        1 => f && !o && r,
+        2 => r && m && f,
+        3 => false,
+        4 => r,
+        5 => false,
+        6 => f && !m,
+        7 => a || !f,
+        8 => (a || m) && (o || r),
+        9 => !(a || m || o),
+        10 => r && (m || !f),
+        _ => has(n, 'b') && !r,
+    }
+}
+
+/// Whether there is a document of this number.
+fn is_there(n: u32) -> bool {
+    (n == 1 || n == 3 || n >= 7) && n != 380
+}
+
+/// Adds a document with its words.
+fn add(script: &mut String, n: u32) -> Result<(), AllocError> {
+    script.push_str("add")?;
+    for word in ['a', 'f', 'r', 'm', 'o'] {
+        if has(n, word) {
+            write!(script, " {word}")?;
+        }
+    }
+    writeln!(script, " => added {n}")?;
+    Ok(())
+}
+
+/// Asks a query.
+fn ask(alloc: Global, script: &mut String, place: usize) -> Result<(), AllocError>
+    requires { place < 12 }
+{
+    let mut count = 0u32;
+    let mut numbers = String::new(alloc);
+    for n in 1..=LAST {
+        if is_there(n) && satisfies(place, n) {
+            count = count.saturating_add(1);
+            write!(numbers, " {n}")?;
+        }
+    }
+    writeln!(script, "find {} => found {count}:{numbers}", QUERIES[place])?;
+    Ok(())
+}
+
+#[test]
+fn each_query_finds_its_documents(rt: HostRuntime) -> Result<(), Fail> {
+    let alloc = rt.alloc();
+    let mut script = String::from_str(alloc, STORE)?;
+    for n in 7..=LAST {
+        add(&mut script, n)?;
+        if n == 310 || n == 400 {
+            script.push_str("commit => committed\n")?;
+        }
+    }
+    script.push_str("delete 380 => deleted 380\n")?;
+    for place in 0..12 {
+        ask(alloc, &mut script, place)?;
+    }
+    script.push_str("merge => merged\n")?;
+    for place in 0..12 {
+        ask(alloc, &mut script, place)?;
+    }
+    play(alloc, script.as_str())?;
+    Ok(())
+}
