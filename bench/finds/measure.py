@@ -1,0 +1,223 @@
+"""Measures finds in committed documents beside SQLite FTS5, Xapian and loops in C.
+
+    measure.py PROGRAM LINES FOLDER
+
+LINES has a text a line; FOLDER has the peers fts5, limit and, where it could be built, xapian. The
+texts go into a store of the program, a base of FTS5 and a database of Xapian, each 4,096 made
+lasting at once. Every query is asked over a pipe on both sides, one after the other; first as the
+stores were filled, then merged, optimized and compacted.
+"""
+
+import collections
+import os
+import pathlib
+import platform
+import re
+import shutil
+import statistics
+import subprocess
+import sys
+import time
+import unicodedata
+
+sys.path.insert(0, str(pathlib.Path(__file__).parent.parent / "store"))
+from peers import BATCH, Fts5, Program  # noqa: E402
+
+TIMES = 51
+WARM = 5
+
+
+class Peer:
+    """A process that answers a line each."""
+
+    def __init__(self, *command):
+        self.process = subprocess.Popen(command, stdin=subprocess.PIPE, stdout=subprocess.PIPE)
+
+    def ask(self, line):
+        self.process.stdin.write(line)
+        self.process.stdin.flush()
+        return self.process.stdout.readline()
+
+    def close(self):
+        self.process.stdin.close()
+        self.process.wait()
+
+
+def cut(text):
+    """The words of a text, about as the program, FTS5 and Xapian cut them."""
+    text = text.lower()
+    apart = unicodedata.normalize("NFD", text)
+    plain = "".join(letter for letter in apart if not unicodedata.combining(letter))
+    return (
+        set(re.findall(r"\w+(?:['’.:·]\w+)*", text)),
+        set(re.findall(r"[^\W_]+", plain)),
+        set(re.findall(r"[a-z0-9\u0080-\U0010ffff]+", text)),
+    )
+
+
+def pick_words(texts):
+    """A word of about 20 texts, two of about a tenth of them, and two of about a half: words of
+    small letters that all peers find in the same texts."""
+    counts = [collections.Counter() for _ in range(3)]
+    for text in texts:
+        for count, words in zip(counts, cut(text)):
+            count.update(words)
+    loose = counts[0]
+    same = [w for w in loose if re.fullmatch("[a-z]{2,}", w) and len({c[w] for c in counts}) == 1]
+
+    def nearest(wanted, *others):
+        able = [word for word in same if word not in others]
+        return min(able, key=lambda word: (abs(loose[word] - wanted), word))
+
+    rare = nearest(20)
+    tenth = nearest(len(texts) / 10)
+    other = nearest(len(texts) / 10, tenth)
+    half = nearest(len(texts) / 2)
+    most = nearest(len(texts) / 2, half)
+    return rare, tenth, other, half, most
+
+
+def classes(rare, tenth, other, half, most):
+    """Name, the program's query, FTS5's, and words with their joins behind them."""
+    return [
+        ("rare", rare, f'"{rare}"', f"{rare}"),
+        ("a tenth", tenth, f'"{tenth}"', f"{tenth}"),
+        ("half", half, f'"{half}"', f"{half}"),
+        ("two of half, AND", f"{half} AND {most}", f'"{half}" AND "{most}"', f"{half} {most} AND"),
+        ("rare AND half", f"{rare} AND {half}", f'"{rare}" AND "{half}"', f"{rare} {half} AND"),
+        ("two of half, OR", f"{half} OR {most}", f'"{half}" OR "{most}"', f"{half} {most} OR"),
+        ("half AND NOT half", f"{half} AND NOT {most}", f'"{half}" NOT "{most}"', f"{half} {most} NOT"),
+        ("NOT half", f"NOT {half}", f'!"{half}"', f"* {half} NOT"),
+        (
+            "nested",
+            f"({tenth} OR {other}) AND {half} AND NOT {most}",
+            f'(("{tenth}" OR "{other}") AND "{half}") NOT "{most}"',
+            f"{tenth} {other} OR {half} AND {most} NOT",
+        ),
+    ]
+
+
+def fill(program, texts, folder):
+    """The texts in a store, a base and a database."""
+    store, base, xapian = f"{folder}/store", f"{folder}/base", f"{folder}/database"
+    for path in (store, base):
+        pathlib.Path(path).unlink(missing_ok=True)
+    Program.create(program, store, max(4_096, 4 * len(texts)))
+    session = Program(program, store)
+    session.count()
+    session.fill(texts)
+    session.close()
+    fts5 = Fts5(base)
+    fts5.create()
+    fts5.fill(texts)
+    fts5.close()
+    if os.path.exists(f"{folder}/xapian"):
+        lines = "".join(f"{text}\n" for text in texts).encode()
+        subprocess.run([f"{folder}/xapian", "fill", xapian], input=lines, check=True)
+
+
+def merge(program, folder):
+    """The same in one segment, one level and one table."""
+    session = Program(program, f"{folder}/store")
+    session.expect("merge", "merged")
+    session.close()
+    fts5 = Fts5(f"{folder}/base")
+    fts5.base.execute("INSERT INTO documents(documents) VALUES ('optimize')")
+    fts5.close()
+    if os.path.exists(f"{folder}/xapian"):
+        shutil.rmtree(f"{folder}/compact", ignore_errors=True)
+        subprocess.run(
+            [f"{folder}/xapian", "compact", f"{folder}/database", f"{folder}/compact"], check=True
+        )
+
+
+def timed(peer, line):
+    """The median microseconds of an answer, and the answer."""
+    seconds = []
+    for turn in range(WARM + TIMES):
+        start = time.perf_counter()
+        answer = peer.ask(line)
+        if turn >= WARM:
+            seconds.append(time.perf_counter() - start)
+    return 1e6 * statistics.median(seconds), answer
+
+
+def ask_all(program, folder, finds, database):
+    """For each class the times of program, FTS5 and Xapian, and the numbers that were found."""
+    peers = [
+        (Peer(program, "run", f"{folder}/store"), lambda find: f"find {find[1]}\n"),
+        (Peer(f"{folder}/fts5", f"{folder}/base"), lambda find: f"{find[2]}\n"),
+    ]
+    if os.path.exists(f"{folder}/xapian"):
+        asking = Peer(f"{folder}/xapian", "ask", f"{folder}/{database}")
+        peers.append((asking, lambda find: f"{find[3]}\n"))
+    rows = []
+    for find in finds:
+        told = [timed(peer, line(find).encode()) for peer, line in peers]
+        if len({answer for _, answer in told}) != 1:
+            raise SystemExit(f"measure: {find[1]!r} is answered otherwise by a peer")
+        numbers = told[0][1].split(b":")[1].split()
+        rows.append((find[0], [spent for spent, _ in told], numbers))
+    for peer, _ in peers:
+        peer.close()
+    return rows
+
+
+def limits(texts, finds, folder):
+    """The least microseconds of each class by loops in C over the lists."""
+    with open(f"{folder}/lists", "w", encoding="ascii") as file:
+        for name, _, _, joined in finds:
+            words = [word for word in dict.fromkeys(joined.split()) if word not in ("AND", "OR", "NOT", "*")]
+            lists = [[n for n, has in enumerate(texts, 1) if word in has] for word in words]
+            places = {word: str(place) for place, word in enumerate(words)}
+            expression = " ".join(places.get(token, token) for token in joined.split())
+            lists.append(range(1, len(texts) + 1))
+            file.write(f"{name}\t{expression}\t{len(lists)}\n")
+            for numbers in lists:
+                file.write(f"{len(numbers)} {' '.join(map(str, numbers))}\n")
+    lines = subprocess.run([f"{folder}/limit", f"{folder}/lists"], check=True, capture_output=True, text=True)
+    table = {}
+    for line in lines.stdout.splitlines():
+        name, spent, found = line.split("\t")
+        table[name] = (float(spent), int(found))
+    return table
+
+
+def show(title, rows, least, folder):
+    print(f"\n{title}\n")
+    print("| find | found | program, µs | FTS5, µs | Xapian, µs | to the better | loops in C, µs | to the loops |")
+    print("|---|---|---|---|---|---|---|---|")
+    with open(f"{folder}/table", "w", encoding="utf-8") as table:
+        for name, spent, numbers in rows:
+            loops, found = least[name]
+            if found != len(numbers):
+                raise SystemExit(f"measure: the loops find {found} of {name!r}, not {len(numbers)}")
+            xapian = f"{spent[2]:,.0f}" if len(spent) > 2 else "-"
+            better = spent[0] / min(spent[1:])
+            print(
+                f"| {name} | {len(numbers):,} | {spent[0]:,.0f} | {spent[1]:,.0f} | {xapian} "
+                f"| {better:.2f} | {loops:,.0f} | {spent[0] / loops:,.1f} |"
+            )
+            table.write("\t".join([name, *(f"{it:.1f}" for it in (spent + [0])[:3]), f"{loops:.1f}"]) + "\n")
+
+
+def main():
+    program, lines, folder = sys.argv[1:4]
+    texts = pathlib.Path(lines).read_text(encoding="utf-8").splitlines()
+    finds = classes(*pick_words(texts))
+    fill(program, texts, folder)
+    with open("/proc/cpuinfo", encoding="utf-8") as file:
+        model = re.search(r"model name\s*: (.*)", file.read())
+    size = sum(len(text.encode()) for text in texts) / 1e6
+    print(
+        f"{len(texts)} documents, {size:.1f} MB; {model.group(1) if model else platform.machine()};"
+        f" {time.strftime('%Y-%m-%d')}; load {os.getloadavg()[0]:.1f} on {os.cpu_count()} processors"
+    )
+    least = limits([cut(text)[0] for text in texts], finds, folder)
+    show(f"As they were filled, by {-(-len(texts) // BATCH)} commits:", ask_all(program, folder, finds, "database"), least, folder)
+    merge(program, folder)
+    show("Merged into one:", ask_all(program, folder, finds, "compact"), least, folder)
+
+
+if __name__ == "__main__":
+    main()

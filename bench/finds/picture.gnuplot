@@ -1,0 +1,18 @@
+# Draws the times of finds in one segment, of the table that measure.py leaves: class, program,
+# FTS5, Xapian and limit, in microseconds.
+set terminal svg size 900,420 font "sans,13" background "white"
+set output picture
+set title "A find over a pipe, 100,000 documents in one segment, warm: median microseconds"
+set style data histograms
+set style histogram clustered gap 1
+set style fill solid 0.85 noborder
+set logscale y
+set yrange [1:*]
+set grid ytics lc rgb "#dddddd"
+set xtics rotate by -20 scale 0
+set key top left
+set datafile separator "\t"
+plot table using 2:xtic(1) title "program" lc rgb "#1b6ca8", \
+     "" using 3 title "FTS5" lc rgb "#d98e04", \
+     "" using 4 title "Xapian" lc rgb "#7a9e3f", \
+     "" using 5 title "loops in C, no pipe" lc rgb "#999999"

@@ -1,0 +1,96 @@
+// Xapian as a peer over a pipe.
+//   xapian fill PATH       makes a database of the lines of its input, committed each 4,096
+//   xapian compact PATH TO copies it to one compact table
+//   xapian ask PATH        answers a line each, as the program does
+// A line has words and AND, OR, NOT behind what they join: `a b AND`; NOT takes the second from the
+// first, and `*` is every document.
+#include <cctype>
+#include <iostream>
+#include <set>
+#include <sstream>
+#include <string>
+#include <vector>
+#include <xapian.h>
+
+static std::set<std::string> words_of(const std::string &text)
+{
+    std::set<std::string> words;
+    std::string word;
+    for (unsigned char byte : text + " ")
+        if (std::isalnum(byte) || byte >= 128)
+            word += std::tolower(byte);
+        else if (!word.empty()) {
+            words.insert(word.substr(0, 200));
+            word.clear();
+        }
+    return words;
+}
+
+static void fill(const char *path)
+{
+    Xapian::WritableDatabase base(path, Xapian::DB_CREATE_OR_OVERWRITE);
+    std::string text;
+    for (int count = 1; std::getline(std::cin, text); count++) {
+        Xapian::Document document;
+        document.set_data(text);
+        for (const std::string &word : words_of(text))
+            document.add_boolean_term(word);
+        base.add_document(document);
+        if (count % 4096 == 0)
+            base.commit();
+    }
+    base.commit();
+}
+
+static Xapian::Query query_of(const std::string &line)
+{
+    std::vector<Xapian::Query> stack;
+    std::istringstream tokens(line);
+    std::string token;
+    while (tokens >> token) {
+        if (token != "AND" && token != "OR" && token != "NOT") {
+            stack.push_back(token == "*" ? Xapian::Query::MatchAll : Xapian::Query(token));
+            continue;
+        }
+        const Xapian::Query second = stack.back();
+        stack.pop_back();
+        const auto join = token == "AND" ? Xapian::Query::OP_AND
+            : token == "OR"              ? Xapian::Query::OP_OR
+                                         : Xapian::Query::OP_AND_NOT;
+        stack.back() = Xapian::Query(join, stack.back(), second);
+    }
+    return stack.back();
+}
+
+static void ask(const char *path)
+{
+    const Xapian::Database base(path);
+    Xapian::Enquire enquire(base);
+    enquire.set_weighting_scheme(Xapian::BoolWeight());
+    enquire.set_docid_order(Xapian::Enquire::ASCENDING);
+    std::string line, reply;
+    while (std::getline(std::cin, line)) {
+        enquire.set_query(query_of(line));
+        const Xapian::MSet found = enquire.get_mset(0, base.get_doccount());
+        reply = "found " + std::to_string(found.size()) + ":";
+        for (auto at = found.begin(); at != found.end(); ++at) {
+            reply += ' ';
+            reply += std::to_string(*at);
+        }
+        std::cout << reply << std::endl;
+    }
+}
+
+int main(int argc, char **argv)
+{
+    const std::string task = argc > 2 ? argv[1] : "";
+    std::ios::sync_with_stdio(false);
+    if (task == "fill")
+        fill(argv[2]);
+    else if (task == "compact" && argc == 4)
+        Xapian::Database(argv[2]).compact(argv[3]);
+    else if (task == "ask")
+        ask(argv[2]);
+    else
+        return 2;
+}
