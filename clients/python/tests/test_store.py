@@ -74,10 +74,11 @@ class Sessions(Stores):
                              (6, "query no word at 6"))
             with self.assertRaises(NoSuchDocument):
                 store.show(1)
+            # The word stands in the text and in the dictionary: 80,051 bytes in all.
             store.add("x" * 40_000)
             with self.assertRaises(Full) as caught:
                 store.commit()
-            self.assertEqual((caught.exception.need, caught.exception.largest), (79, 30))
+            self.assertEqual((caught.exception.need, caught.exception.largest), (157, 30))
             with self.assertRaises(Refused):
                 store.add("x" * 1_048_577)
             store.delete(1)
