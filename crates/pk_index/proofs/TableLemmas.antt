@@ -70,7 +70,7 @@ from_both true b f g = sym (f refl)
 from_both false true f g = g refl
 from_both false false f g = refl
 
-turned : (xs ys : List ℕ) → bytes_eq xs ys ≡ bytes_eq ys xs
+pub turned : (xs ys : List ℕ) → bytes_eq xs ys ≡ bytes_eq ys xs
 turned xs ys =
     from_both (bytes_eq xs ys) (bytes_eq ys xs)
     (λ t. (bytes_eq-Decides ys xs).1 (sym ((bytes_eq-Decides xs ys).0 t)))

@@ -1,6 +1,6 @@
 //! What the index answers.
 
-ghost use Rattle.std.specs.Prelude.{◌≡◌, ◌≤◌, [], ℕ, List, length, take, IfOk, IsOk};
+ghost use Rattle.std.specs.Prelude.{◌≡◌, [], ℕ, List, IfOk, IsOk};
 ghost use Rattle.std.specs.List.Sorted.{IsStrictlyIncreasing};
 ghost use Rattle.pk_index.specs.Index.{Keeps, HasHits};
 ghost use Rattle.pk_model.specs.Collection.{Doc, answer, numbers_of};
@@ -8,9 +8,8 @@ ghost use Rattle.pk_model.specs.Tree.{Term, tree_of};
 
 use crate::combining::{in_both, in_either, in_first};
 use crate::index::Index;
-use crate::numbers::{is_any_in, reaches_over};
+use crate::numbers::is_any_in;
 use pk_model::Query;
-use pk_sets::both;
 use std::alloc::{AllocError, Global};
 
 /// Numbers that have, of the live ones, just those of the documents whose words satisfy the query.
@@ -77,22 +76,5 @@ impl Index {
         }
         let hits = matching(alloc, self, query, live)?;
         in_both(alloc, live, &hits)
-    }
-
-    /// Writes into `out` the numbers of the documents that hold the folded word, rising, and
-    /// answers how many there are; `live` are those of all documents. It takes no memory.
-    pub fn list_into(&self, word: &str, live: &[u32], out: &mut [u32]) -> usize
-        requires live { IsStrictlyIncreasing live.now }
-        requires room { length live.now ≤ length out.old }
-        ensures within { result ≤ length out.new }
-        ensures list { (docs : List Doc) → Keeps self.now docs → live.now ≡ numbers_of docs
-            → take result out.new ≡ answer (Term word.now) docs }
-    {
-        let list = self.list(word);
-        if reaches_over(live, list) {
-            out[..list.len()].copy_from_slice(list);
-            return list.len();
-        }
-        both(live, list, out)
     }
 }

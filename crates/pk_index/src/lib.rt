@@ -14,10 +14,14 @@
 //! | `piece` | where a piece of a text is folded, so that no word needs a string to be looked up |
 //! | `top` | no number in a list is above it |
 //!
+//! A commit asks for the [`Row`]s (`Index::rows`): the words of the live documents in order, each
+//! with its list, in one walk over the table, so that no word is looked up. [`both_into`] gives the
+//! live numbers of a list.
+//!
 //! [`fold_into`] folds a piece of a text as pk_words does, in place, by a short way for ASCII.
 //!
 //! Only want of memory is refused, and an index stays one of the documents that it had. Clearing
-//! and `list_into` take no memory, nor does a find of one word that no live document holds.
+//! and `both_into` take no memory, nor does a find of one word that no live document holds.
 #![tactic(auto)]
 
 mod combining;
@@ -28,6 +32,7 @@ mod lists;
 mod numbers;
 mod terms;
 
-pub use combining::{in_both, in_either, in_first};
+pub use combining::{both_into, in_both, in_either, in_first};
 pub use folding::fold_into;
 pub use index::Index;
+pub use terms::Row;

@@ -1,5 +1,5 @@
 -- One word more in an index that is planned or written, and an index that is too long.
-use Rattle.std.proofs.Common.{◌≡◌, ℕ, zero, suc, ◌+◌, ◌*◌, ◌^◌, ◌<◌, ◌≤◌, List, [], ◌∷◌, ◌++◌, length, Bool, true, false, refl, sym, ap, subst, ◌∙◌, arith, inl, inr, append_assoc, append-nil, Less, Bor, take, drop, map}
+use Rattle.std.proofs.Common.{◌≡◌, ℕ, zero, suc, ◌+◌, ◌*◌, ◌^◌, ◌<◌, ◌≤◌, List, [], ◌∷◌, ◌++◌, length, refl, sym, ap, subst, ◌∙◌, arith, inl, inr, append_assoc, append-nil, Less, take, drop, map}
 use Rattle.std.specs.Prelude.{All, slice_index_or}
 use Rattle.std.specs.Cmp.Lexicographic.{slice_cmp}
 use Rattle.std.specs.List.{AllByRecursion}
@@ -9,7 +9,7 @@ use Rattle.std.proofs.lemmas.Bool.{cases_lt}
 use Rattle.std.proofs.lemmas.Map.Keys.{below_from_sorted, sorted_from_strictly_increasing}
 use Rattle.std.proofs.lemmas.List.{get_or-take, length-append, length-map, length-take, map-append, take-append-drop, take_more}
 use Rattle.pk_dict.specs.Dictionary.{DictSpells, Item, IsRising, item_of}
-use Rattle.pk_dict.specs.Dictionary.{spelling as dictionary_spelling, terms_of as item_terms}
+use Rattle.pk_dict.specs.Dictionary.{spelling as dictionary_spelling}
 use Rattle.pk_dict.specs.declared.writer.DictWriter.{DictWriter}
 use Rattle.pk_dict.specs.Writer.{HasAdded, MayFollow}
 use Rattle.pk_dict.proofs.Room.{longer}
@@ -18,6 +18,12 @@ use Rattle.pk_model.specs.declared.documents.Document.{Document}
 use Rattle.pk_model.specs.Collection.{Doc, numbers_of}
 use Rattle.pk_model.specs.Views.{doc_of}
 use Rattle.pk_model.specs.Terms.{terms_of}
+use Rattle.pk_model.specs.Tree.{Term}
+use Rattle.pk_model.proofs.TermLemmas.{one_terms}
+use Rattle.pk_index.specs.Terms.{AreRows}
+use Rattle.pk_index.specs.declared.terms.Row.{Row}
+use Rattle.pk_index.proofs.HitLemmas.{answer_is}
+use Rattle.pk_sets.specs.Sets.{intersection}
 use Rattle.pk_posting.specs.Spelling.{spelling as list_spelling}
 use Rattle.pk_segment.specs.Indexed.{dictionary, items_at, items_of, list_with, lists_of, postings}
 use Rattle.pk_segment.specs.declared.building.BuildFault.{BuildFault}
@@ -96,26 +102,34 @@ words_too_long docs xs w ys at terms is not =
     rising : IsRising (items_at 0 (xs ++ w ∷ []) docs)
     rising = subst (IsStrictlySortedBy (slice_cmp nat_cmp)) (sym (items_words docs 0 (xs ++ w ∷ []))) front
 
--- ---- words as they are lent
+-- ---- rows as they are lent
 
--- the word at a place
-abbrev pub word_at : List (Bor (List ℕ)) → ℕ → List ℕ
-word_at vs i = (slice_index_or vs i (record { ref_ptr = (0, 0); now = [] })).now
+-- the row at a place
+abbrev pub row_at : List Row → ℕ → Row
+row_at rows i = slice_index_or rows i (record { word = record { ref_ptr = (0, 0); now = [] }; list = record { ref_ptr = (0, 0); now = [] } })
+
+-- its word
+abbrev pub word_at : List Row → ℕ → List ℕ
+word_at rows i = (row_at rows i).word.now
 
 -- the words themselves
-abbrev pub words_in : List (Bor (List ℕ)) → List (List ℕ)
-words_in vs = map (λ (w : Bor (List ℕ)). w.now) vs
+abbrev pub words_in : List Row → List (List ℕ)
+words_in rows = map (λ (row : Row). row.word.now) rows
 
 -- one word more
-pub front_next : (vs : List (Bor (List ℕ))) (i : ℕ) → i < length vs → words_in (take (i + 1) vs) ≡ words_in (take i vs) ++ word_at vs i ∷ []
-front_next vs i lt = ap words_in (take_more vs i (record { ref_ptr = (0, 0); now = [] }) lt) ∙ map-append (λ (w : Bor (List ℕ)). w.now) (take i vs) (slice_index_or vs i (record { ref_ptr = (0, 0); now = [] }) ∷ [])
+pub front_next : (rows : List Row) (i : ℕ) → i < length rows → words_in (take (i + 1) rows) ≡ words_in (take i rows) ++ word_at rows i ∷ []
+front_next rows i lt = ap words_in (take_more rows i (row_at [] 0) lt) ∙ map-append (λ (row : Row). row.word.now) (take i rows) (row_at rows i ∷ [])
 
 -- those before a place, the one there, and those after it
-pub split : (vs : List (Bor (List ℕ))) (i : ℕ) → i < length vs → words_in vs ≡ words_in (take i vs) ++ (word_at vs i ∷ words_in (drop (i + 1) vs))
-split vs i lt =
-    ap words_in (sym (take-append-drop (i + 1) vs)) ∙ map-append (λ (w : Bor (List ℕ)). w.now) (take (i + 1) vs) (drop (i + 1) vs)
-    ∙ ap (λ (ws : List (List ℕ)). ws ++ words_in (drop (i + 1) vs)) (front_next vs i lt)
-    ∙ append_assoc (words_in (take i vs)) (word_at vs i ∷ []) (words_in (drop (i + 1) vs))
+pub split : (rows : List Row) (i : ℕ) → i < length rows → words_in rows ≡ words_in (take i rows) ++ (word_at rows i ∷ words_in (drop (i + 1) rows))
+split rows i lt =
+    ap words_in (sym (take-append-drop (i + 1) rows)) ∙ map-append (λ (row : Row). row.word.now) (take (i + 1) rows) (drop (i + 1) rows)
+    ∙ ap (λ (ws : List (List ℕ)). ws ++ words_in (drop (i + 1) rows)) (front_next rows i lt)
+    ∙ append_assoc (words_in (take i rows)) (word_at rows i ∷ []) (words_in (drop (i + 1) rows))
+
+-- the numbers that are live and in the row's list are those of the documents with its word
+pub list_found : (docs : List Doc) (rows : List Row) (i : ℕ) (live found : List ℕ) → i < length rows → AreRows rows docs → live ≡ numbers_of docs → found ≡ intersection live (row_at rows i).list.now → found ≡ list_with (word_at rows i) docs
+list_found docs rows i live found lt are same is = is ∙ answer_is (Term (word_at rows i)) live (row_at rows i).list.now docs same (are.hits i (row_at [] 0) lt)
 
 -- the front of some room is as long as it is said to be
 pub front_long : (n : ℕ) (room list : List ℕ) → n ≤ length room → take n room ≡ list → n ≡ length list
@@ -201,7 +215,7 @@ pub record Parts (docs : List Doc) (p : IndexPlan) : Type 0 where
   pub lists : p.postings ≡ length (postings docs)
   pub whole : p.size ≡ p.plain + p.postings + length (dictionary docs)
   pub most : p.size ≤ 1073741824
-  pub words : length p.words.items ≡ length (terms_of docs)
+  pub words : length p.rows.items ≡ length (terms_of docs)
   pub few_words : length (terms_of docs) ≤ length (dictionary docs)
 
 pub plan_parts : (docs : List Doc) (p : IndexPlan) → IsIndexPlan docs p → Parts docs p
@@ -213,7 +227,7 @@ plan_parts docs p is =
       lists = is.postings_are;
       whole = omega (arith, is.size_is, is.plain, is.postings_are, one, two);
       most = omega (arith, is.size_is, is.fits);
-      words = sym (length-map p.words.items (λ (w : Bor (List ℕ)). w.now)) ∙ ap length is.words;
+      words = sym (length-map p.rows.items (λ (row : Row). row.word.now)) ∙ ap length (one_terms _ docs is.rows.terms);
       few_words = few_terms docs 2 (inr refl);
     }
 

@@ -1,13 +1,13 @@
 -- A segment of kind 2 before a byte of it is written.
-use Rattle.std.specs.Prelude.{◌≡◌, ◌+◌, ◌≤◌, ◌<◌, ℕ, List, length, map, Result, Ok, Err}
+use Rattle.std.specs.Prelude.{◌≡◌, ◌≤◌, ℕ, List, length, Result, Ok, Err}
 use Rattle.pk_dict.specs.declared.writer.DictWriter.{DictWriter}
 use Rattle.pk_dict.specs.Writer.{HasAdded}
 use Rattle.pk_model.specs.Collection.{Doc, numbers_of}
-use Rattle.pk_model.specs.Terms.{terms_of}
+use Rattle.pk_index.specs.Terms.{AreRows}
 use Rattle.pk_segment.specs.declared.building.BuildFault.{BuildFault}
 use Rattle.pk_segment.specs.declared.indexing.IndexPlan.{IndexPlan}
 use Rattle.pk_segment.specs.Building.{BuildFails}
-use Rattle.pk_segment.specs.Indexed.{dictionary, items_of, postings}
+use Rattle.pk_segment.specs.Indexed.{items_of, postings}
 use Rattle.pk_segment.specs.Spelling.{AreDocuments, longest, segment_length}
 
 -- the writer of their dictionary, and the bytes of the posting lists
@@ -20,7 +20,7 @@ PlansListsAs docs (Err fault) = BuildFails docs 2 fault
 pub record IsIndexPlan (docs : List Doc) (p : IndexPlan) : Type 0 where
   pub are : AreDocuments docs
   pub live : p.live.items ≡ numbers_of docs
-  pub words : map (λ w. w.now) p.words.items ≡ terms_of docs
+  pub rows : AreRows p.rows.items docs
   pub added : HasAdded p.writer (items_of docs)
   pub plain : p.plain ≡ segment_length docs 1
   pub postings_are : p.postings ≡ length (postings docs)

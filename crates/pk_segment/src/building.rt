@@ -94,7 +94,7 @@ pub fn build_indexed(
     ensures { BuiltAs (docs_of documents.now) 2 result }
 {
     let plan = IndexPlan::of(alloc, documents, index)?;
-    let bytes = plan.spell(alloc, documents, index)?;
+    let bytes = plan.spell(alloc, documents)?;
     Ok(bytes)
 }
 

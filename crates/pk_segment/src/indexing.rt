@@ -3,8 +3,8 @@
 ghost use Rattle.std.specs.Prelude.{◌≡◌, ◌≤◌, ◌<◌, ◌+◌, ◌*◌, ◌^◌, ◌++◌, List, All, length, map, IfOk, IsOk, OnOk};
 ghost use Rattle.std.specs.List.Sorted.{IsStrictlyIncreasing};
 ghost use Rattle.pk_index.specs.Index.{Keeps};
+ghost use Rattle.pk_index.specs.Terms.{AreRows};
 ghost use Rattle.pk_model.specs.Collection.{Doc, numbers_of};
-ghost use Rattle.pk_model.specs.Terms.{terms_of};
 ghost use Rattle.pk_posting.specs.Posting.{IsPosting};
 ghost use Rattle.pk_posting.specs.Spelling.{spelling as list_spelling};
 ghost use Rattle.pk_segment.specs.Planning.{IsIndexPlan, PlansIndexAs, PlansListsAs};
@@ -20,7 +20,7 @@ ghost use Rattle.pk_segment.specs.Spelling.{
 use crate::building::{BuildFault, plain_size, put_front};
 use crate::header::Header;
 use pk_dict::DictWriter;
-use pk_index::Index;
+use pk_index::{Index, Row, both_into};
 use pk_model::Document;
 use pk_model::limits::MAX_SEGMENT_BYTES;
 use pk_posting::{ListPlace, encode_into, length_of};
@@ -63,8 +63,8 @@ fn numbers_in(alloc: Global, documents: &[Document]) -> Result<Vec<u32>, AllocEr
 pub(crate) struct IndexPlan<'a> {
     // The numbers of the documents.
     live: Vec<u32>,
-    // Their words, rising.
-    words: Vec<&'a str>,
+    // Their words, rising, each with its list.
+    rows: Vec<Row<'a>>,
     // The dictionary.
     writer: DictWriter,
     // How many bytes the header, the directory and the texts have,
@@ -79,33 +79,31 @@ pub(crate) struct IndexPlan<'a> {
 fn plan_lists(
     alloc: Global,
     documents: &[Document],
-    index: &Index,
     live: &[u32],
-    words: &[&str],
+    rows: &[Row],
     list: &mut [u32],
 ) -> Result<(DictWriter, u32), BuildFault>
     requires are { AreDocuments (docs_of documents.now) }
     requires fits { segment_length (docs_of documents.now) 1 ≤ longest }
-    requires index { Keeps index.now (docs_of documents.now) }
     requires live { live.now ≡ numbers_of (docs_of documents.now) }
-    requires words { map (λ w. w.now) words.now ≡ terms_of (docs_of documents.now) }
+    requires rows { AreRows rows.now (docs_of documents.now) }
     requires room { length live.now ≤ length list.old }
     ensures planned { PlansListsAs (docs_of documents.now) result }
     ensures room { length list.new ≡ length list.old }
 {
     let mut writer = DictWriter::new(alloc);
     let mut at: u32 = 0;
-    for word in words {
-        let count = index.list_into(word, live, list);
+    for row in rows {
+        let count = both_into(live, row.list, list);
         let bytes = length_of(&list[..count]);
         let place = ListPlace { at, bytes };
         if bytes > MAX_SEGMENT_BYTES - at {
             return Err(BuildFault::TooLarge);
         }
-        if !writer.may_add(word.as_bytes(), count as u32, place) {
+        if !writer.may_add(row.word.as_bytes(), count as u32, place) {
             return Err(BuildFault::TooLarge);
         }
-        writer.add(word.as_bytes(), count as u32, place)?;
+        writer.add(row.word.as_bytes(), count as u32, place)?;
         at += bytes;
     }
     Ok((writer, at))
@@ -115,21 +113,19 @@ fn plan_lists(
 fn put_lists(
     out: &mut Vec<u8>,
     documents: &[Document],
-    index: &Index,
     live: &[u32],
-    words: &[&str],
+    rows: &[Row],
     list: &mut [u32],
 ) -> Result<(), AllocError>
     requires are { AreDocuments (docs_of documents.now) }
     requires fits { segment_length (docs_of documents.now) 1 ≤ longest }
-    requires index { Keeps index.now (docs_of documents.now) }
     requires live { live.now ≡ numbers_of (docs_of documents.now) }
-    requires words { map (λ w. w.now) words.now ≡ terms_of (docs_of documents.now) }
+    requires rows { AreRows rows.now (docs_of documents.now) }
     requires room { length live.now ≤ length list.old }
     ensures { OnOk result (out.new.items ≡ out.old.items ++ postings (docs_of documents.now)) }
 {
-    for word in words {
-        let count = index.list_into(word, live, list);
+    for row in rows {
+        let count = both_into(live, row.list, list);
         put_list(out, &list[..count])?;
     }
     Ok(())
@@ -161,16 +157,16 @@ impl<'a> IndexPlan<'a> {
     {
         let plain = plain_size(documents)?;
         let live = numbers_in(alloc, documents)?;
-        let words = index.terms(alloc, &live)?;
+        let rows = index.rows(alloc, &live)?;
         let mut list = vec![in alloc; 0u32; live.len()]?;
-        let (writer, postings) = plan_lists(alloc, documents, index, &live, &words, &mut list)?;
+        let (writer, postings) = plan_lists(alloc, documents, &live, &rows, &mut list)?;
         let size = u64::from(plain) + u64::from(postings) + writer.size() as u64;
         if size > u64::from(MAX_SEGMENT_BYTES) {
             return Err(BuildFault::TooLarge);
         }
         Ok(IndexPlan {
             live,
-            words,
+            rows,
             writer,
             plain,
             postings,
@@ -187,19 +183,13 @@ impl<'a> IndexPlan<'a> {
     }
 
     /// The bytes of the segment, in memory that is taken once.
-    pub(crate) fn spell(
-        self,
-        alloc: Global,
-        documents: &[Document],
-        index: &Index,
-    ) -> Result<Vec<u8>, AllocError>
+    pub(crate) fn spell(self, alloc: Global, documents: &[Document]) -> Result<Vec<u8>, AllocError>
         requires plan { IsIndexPlan (docs_of documents.now) self }
-        requires index { Keeps index.now (docs_of documents.now) }
         ensures { IfOk result (λ v. SegmentSpells v.items (docs_of documents.now) 2) }
     {
         let IndexPlan {
             live,
-            words,
+            rows,
             writer,
             plain,
             postings,
@@ -212,12 +202,12 @@ impl<'a> IndexPlan<'a> {
             texts: plain - 24 - 12 * count,
             postings,
             dictionary: size - plain - postings,
-            terms: words.len() as u32,
+            terms: rows.len() as u32,
         };
         let mut list = vec![in alloc; 0u32; live.len()]?;
         let mut out = Vec::with_capacity(alloc, size as usize)?;
         put_front(&mut out, header, documents)?;
-        put_lists(&mut out, documents, index, &live, &words, &mut list)?;
+        put_lists(&mut out, documents, &live, &rows, &mut list)?;
         let dictionary = writer.finish(alloc)?;
         out.extend_from_slice(&dictionary)?;
         Ok(out)

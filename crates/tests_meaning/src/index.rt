@@ -3,7 +3,7 @@
 ghost use Rattle.std.specs.Prelude.{◌↔◌, IsTrue};
 ghost use Rattle.std.specs.List.Sorted.{IsStrictlyIncreasing};
 
-use pk_index::{Index, fold_into};
+use pk_index::{Index, Row, both_into, fold_into};
 use pk_query::parse;
 use std::alloc::{AllocError, Global};
 use std::test::Fail;
@@ -57,23 +57,35 @@ fn found(alloc: Global, index: &Index, live: &[u32], text: &str) -> Result<Vec<u
     Ok(index.find(alloc, &query, live)?)
 }
 
-/// The numbers of a word.
-fn list(alloc: Global, index: &Index, live: &[u32], word: &str) -> Result<Vec<u32>, AllocError> {
+/// The live numbers of a row.
+fn numbers(alloc: Global, row: Row, live: &[u32]) -> Result<Vec<u32>, AllocError> {
     let mut numbers = vec![in alloc; 0u32; live.len()]?;
-    if rises(live) {
-        let count = index.list_into(word, live, &mut numbers);
+    if rises(live) && rises(row.list) {
+        let count = both_into(live, row.list, &mut numbers);
         numbers.truncate(count);
     }
     Ok(numbers)
+}
+
+/// The numbers of a word.
+fn list(alloc: Global, index: &Index, live: &[u32], word: &str) -> Result<Vec<u32>, AllocError> {
+    if rises(live) {
+        for row in index.rows(alloc, live)? {
+            if row.word == word {
+                return numbers(alloc, row, live);
+            }
+        }
+    }
+    Ok(Vec::new(alloc))
 }
 
 /// The words of the live documents, each after a space.
 fn terms(alloc: Global, index: &Index, live: &[u32]) -> Result<String, AllocError> {
     let mut answer = String::new(alloc);
     if rises(live) {
-        for word in index.terms(alloc, live)? {
+        for row in index.rows(alloc, live)? {
             answer.push_str(" ")?;
-            answer.push_str(word)?;
+            answer.push_str(row.word)?;
         }
     }
     Ok(answer)

@@ -1,14 +1,15 @@
 -- The parts of the plan, and how long they make the segment.
-use Rattle.std.proofs.Common.{◌≡◌, ◌∙◌, Err, Result, refl, sym, ap, subst, arith}
+use Rattle.std.proofs.Common.{◌∙◌, List, Result, refl, sym, subst, arith}
 use Rattle.std.proofs.lemmas.Result.{err_from_is_err_and}
-use Rattle.pk_model.proofs.TermLemmas.{one_terms}
+use Rattle.pk_index.specs.Terms.{AreRows}
+use Rattle.pk_index.specs.declared.terms.Row.{Row}
 use Rattle.pk_segment.specs.declared.building.BuildFault.{BuildFault}
 use Rattle.pk_segment.specs.declared.indexing.IndexPlan.{IndexPlan}
 use Rattle.pk_segment.specs.Building.{BuildFails}
 use Rattle.pk_segment.specs.Indexed.{items_of}
 use Rattle.pk_segment.specs.Planning.{PlansIndexAs}
 use Rattle.pk_segment.specs.Spelling.{docs_of}
-use Rattle.pk_segment.proofs.PlanLemmas.{fails_more, size_sum, words_in}
+use Rattle.pk_segment.proofs.PlanLemmas.{fails_more, size_sum}
 use Rattle.pk_segment.proofs.ReadLemmas.{are_documents}
 use Rattle.pk_segment.proofs.indexing.IndexPlan.of.Goals as goal
 
@@ -22,11 +23,11 @@ returns-in_err-plain c =
 pub plan_lists-requires-clause-are : goal.plan_lists-requires-clause-are
 plan_lists-requires-clause-are c = are_documents c.args.documents.now c.requires.some c.requires.rising c.requires.least (c.in_ok-live.ensures.small refl)
 
-pub plan_lists-requires-clause-words : goal.plan_lists-requires-clause-words
-plan_lists-requires-clause-words c =
+pub plan_lists-requires-clause-rows : goal.plan_lists-requires-clause-rows
+plan_lists-requires-clause-rows c =
     let docs = docs_of c.args.documents.now in
     let live = c.deref.ensures.value ∙ c.in_ok-live.ensures.numbers in
-    ap words_in c.deref-3.ensures.value ∙ one_terms _ docs (c.in_ok-words.ensures docs c.requires.index live)
+    subst (λ (rows : List Row). AreRows rows docs) (sym c.deref-3.ensures.value) (c.in_ok-rows.ensures docs c.requires.index live)
 
 pub returns-then-size-from : goal.returns-then-size-from
 returns-then-size-from c =
@@ -43,7 +44,7 @@ returns c =
     record {
       are = are_documents c.args.documents.now c.requires.some c.requires.rising c.requires.least (c.in_ok-live.ensures.small refl);
       live = c.in_ok-live.ensures.numbers;
-      words = one_terms _ docs (c.in_ok-words.ensures docs c.requires.index live);
+      rows = c.in_ok-rows.ensures docs c.requires.index live;
       added = planned.0;
       plain = c.in_ok-plain.ensures.0;
       postings_are = planned.1;
