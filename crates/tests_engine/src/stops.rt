@@ -11,7 +11,7 @@ use std::alloc::{AllocError, Global};
 use std::test::Fail;
 
 /// What is asked, as one list of commands.
-const LINES: [&str; 26] = [
+const LINES: [&str; 28] = [
     "add red apple",
     "add red pear",
     "commit",
@@ -23,6 +23,8 @@ const LINES: [&str; 26] = [
     "find apple",
     "find NOT red",
     "merge",
+    "add a",
+    "commit",
     "add a",
     "commit",
     "add a",
