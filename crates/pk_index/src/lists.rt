@@ -20,19 +20,24 @@ ghost use Rattle.pk_index.specs.Lists.{Adds, IsBelow, rows_of, with_last};
 ghost use Rattle.pk_model.specs.Words.{words_of};
 
 use crate::folding::fold_into;
+use smallvec::SmallVec;
 use std::alloc::{AllocError, Global};
 use std::collections::HashMap;
 use unicode_segmentation::UnicodeSegmentation;
 
+/// The numbers of the documents that hold a word. Most words stand in few documents; these lists
+/// take no allocation of their own.
+pub type Numbers = SmallVec<u32, 4>;
+
 /// For each word the numbers of the documents that hold it.
-pub type Lists = HashMap<String, Vec<u32>>;
+pub type Lists = HashMap<String, Numbers>;
 
 /// Puts a number behind a list, unless it is the last there.
-fn put(list: &mut Vec<u32>, number: u32) -> Result<(), AllocError>
+fn put(list: &mut Numbers, number: u32) -> Result<(), AllocError>
     ensures ok { OnOk result (list.new.items ≡ with_last number list.old.items) }
     ensures err { OnErr result (list.new.items ≡ list.old.items) }
 {
-    if let Some(last) = list.last() {
+    if let Some(last) = list.as_slice().last() {
         if *last == number {
             return Ok(());
         }
@@ -52,9 +57,8 @@ fn note(alloc: Global, lists: &mut Lists, word: &str, number: u32) -> Result<(),
     if let Some(list) = lists.get_mut(word) {
         return put(list, number);
     }
-    // Most words stand in one document alone.
-    let mut list = Vec::with_capacity(alloc, 1)?;
-    list.push(number)?;
+    let mut list: Numbers = SmallVec::new(alloc);
+    list.push_reserved(number);
     let key = String::from_str(alloc, word)?;
     lists.insert(key, list)?;
     Ok(())
@@ -83,10 +87,10 @@ pub fn add_words(
 }
 
 /// Keeps the numbers below one.
-fn cut(list: &mut Vec<u32>, number: u32)
+fn cut(list: &mut Numbers, number: u32)
     ensures { list.new.items ≡ filter (λ k. nat_lt k number) list.old.items }
 {
-    list.retain(|k| *k < number);
+    list.retain(|k: &mut u32| *k < number);
 }
 
 /// Takes the numbers from one on out of all lists; none is above `top`. It takes no memory.
@@ -96,7 +100,7 @@ pub fn forget_from(lists: &mut Lists, number: u32, top: u32)
         ≡ filter (λ k. nat_lt k number) (list_of (rows_of lists.old) w) }
 {
     if number <= top {
-        lists.retain(|_, list: &mut Vec<u32>| {
+        lists.retain(|_, list: &mut Numbers| {
             cut(list, number);
             true
         });
