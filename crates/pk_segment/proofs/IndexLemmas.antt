@@ -1,22 +1,22 @@
 -- What the dictionary of documents says, and where the lists of its terms stand.
-use Rattle.std.proofs.Common.{◌≡◌, ℕ, zero, suc, ◌+◌, ◌-◌, ◌*◌, ◌^◌, ◌<◌, ◌≤◌, List, [], ◌∷◌, ◌++◌, length, take, drop, map, Bool, true, false, cond, Option, Some, None, refl, sym, ap, subst, ◌∙◌, arith}
-use Rattle.std.specs.Prelude.{All, filter, nat_eq, slice_index}
-use Rattle.std.specs.List.{AllByRecursion, list_any, starts_with}
+use Rattle.std.proofs.Common.{◌≡◌, ℕ, zero, suc, ◌+◌, ◌-◌, ◌^◌, ◌<◌, ◌≤◌, List, [], ◌∷◌, ◌++◌, length, take, drop, Bool, true, false, cond, Option, Some, None, refl, sym, ap, subst, ◌∙◌, arith}
+use Rattle.std.specs.Prelude.{All, filter, slice_index}
+use Rattle.std.specs.List.{AllByRecursion, list_any}
 use Rattle.std.specs.Cmp.Lexicographic.{slice_cmp}
 use Rattle.std.specs.List.Sorted.{IsStrictlyIncreasing, IsStrictlySortedBy}
 use Rattle.std.specs.Ordering.{nat_cmp}
 use Rattle.std.specs.Str.{bytes_eq}
-use Rattle.std.proofs.lemmas.List.{length-append, length-map, take_at, drop_at, drop-drop, take-append-le, drop-append-le, take_all}
+use Rattle.std.proofs.lemmas.List.{length-append, length-map, take_at, drop_at, drop-drop}
 use Rattle.std.proofs.lemmas.List.Elements.{All-filter, All-get_or, All-map}
 use Rattle.std.proofs.lemmas.Slice.Eq.{bytes_eq-Decides}
 use Rattle.unicode_segmentation.proofs.SegmentsLemmas.{length-filter-le}
 use Rattle.pk_dict.specs.declared.entry.Entry.{Entry}
 use Rattle.pk_dict.specs.Dictionary.{DictSpells, Fits, Item, entry_of, items_with_prefix}
-use Rattle.pk_dict.specs.Dictionary.{spelling as dictionary_spelling, terms_of as item_terms}
+use Rattle.pk_dict.specs.Dictionary.{terms_of as item_terms}
 use Rattle.pk_dict.proofs.Room.{terms_within}
 use Rattle.pk_model.proofs.CollectionLemmas.{rising-filter}
 use Rattle.pk_model.proofs.TermLemmas.{are_terms, has_term, term_has}
-use Rattle.pk_model.specs.Collection.{Doc, is_hit, numbers_of}
+use Rattle.pk_model.specs.Collection.{Doc, is_hit}
 use Rattle.pk_model.specs.Terms.{terms_of}
 use Rattle.pk_model.specs.Tree.{Term}
 use Rattle.pk_posting.specs.Posting.{IsPosting}

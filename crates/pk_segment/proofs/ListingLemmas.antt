@@ -1,8 +1,6 @@
 -- The dictionary and the posting lists of a segment of kind 2 are where its header says.
-use Rattle.std.proofs.Common.{◌≡◌, ℕ, ◌+◌, ◌*◌, ◌^◌, ◌<◌, ◌≤◌, List, ◌++◌, length, take, drop, [], Option, Some, None, Result, Ok, Err, refl, sym, ap, subst, ◌∙◌, arith}
-use Rattle.std.specs.Global.{Vec}
-use Rattle.std.specs.Prelude.{IfOk}
-use Rattle.std.proofs.lemmas.List.{drop-drop, drop_at, length-drop, take_all, take-append-le, drop-append-le}
+use Rattle.std.proofs.Common.{◌≡◌, ℕ, ◌+◌, ◌≤◌, List, length, take, drop, [], Option, Some, None, refl, sym, ap, subst, ◌∙◌, arith}
+use Rattle.std.proofs.lemmas.List.{drop-drop, drop_at, take_all}
 use Rattle.pk_dict.specs.declared.entry.DictPlace.{DictPlace}
 use Rattle.pk_dict.specs.declared.entry.EntriesFault.{EntriesFault}
 use Rattle.pk_dict.specs.declared.entry.EntriesFault.TheVariants as entries
@@ -15,11 +13,10 @@ use Rattle.pk_posting.proofs.SpellingLemmas.{spelling_spells}
 use Rattle.pk_posting.specs.Posting.{Spells}
 use Rattle.pk_posting.specs.Spelling.{spelling as list_spelling}
 use Rattle.pk_segment.specs.declared.fault.ReadFault.{ReadFault}
-use Rattle.pk_segment.specs.declared.fault.ReadFault.TheVariants.{Damaged, Disk, Memory}
 use Rattle.pk_segment.specs.declared.header.Header.{Header}
 use Rattle.pk_segment.specs.Fields.{IsHeader, header_field}
 use Rattle.pk_segment.specs.Indexed.{dictionary, items_of, list_with, postings}
-use Rattle.pk_segment.specs.Listing.{IsEntryFor, LeadsTo, ListReadAs, dictionary_place, postings_at, read_entries}
+use Rattle.pk_segment.specs.Listing.{IsEntryFor, LeadsTo, dictionary_place, postings_at, read_entries}
 use Rattle.pk_segment.specs.Reading.{IsNoDamage}
 use Rattle.pk_segment.specs.Spelling.{IndexSpells, SegmentSpells}
 use Rattle.pk_segment.proofs.DirectoryLemmas.{directory_of, header_in}
@@ -116,14 +113,6 @@ entries_cause entries.Disk h y same = subst (λ (x : ReadFault). IsNoDamage x) (
 entries_cause entries.Memory h y same = subst (λ (x : ReadFault). IsNoDamage x) (sym same) tt
 
 -- ---- a list that is read
-
--- the stretch that was read is the list
-pub list_read : (docs : List Doc) (word bytes : List ℕ) (at n : ℕ) (r : Result (Vec ℕ) ReadFault) → IfOk r (λ v. v.items ≡ take n (drop at bytes))
-    → (r ≡ Err Damaged → length bytes < at + n) → at + n ≤ length bytes → take n (drop at bytes) ≡ list_spelling (list_with word docs) → ListReadAs docs word r
-list_read docs word bytes at n (Ok v) value damaged inside list = value ∙ list
-list_read docs word bytes at n (Err Damaged) value damaged inside list = absurd (omega (arith, inside, damaged refl))
-list_read docs word bytes at n (Err Disk) value damaged inside list = tt
-list_read docs word bytes at n (Err Memory) value damaged inside list = tt
 
 -- an entry that was found leads to the list, and where none was there is none
 pub some_leads : (docs : List Doc) (word : List ℕ) (o : Option Entry) (e : Entry) → o ≡ entry_of (items_of docs) word → o ≡ Some e → LeadsTo docs word e

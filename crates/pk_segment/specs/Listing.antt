@@ -79,13 +79,3 @@ ListedAs docs word (Err fault) = IsNoDamage fault
 abbrev pub TermsAs : List Doc → Result (Vec (Vec ℕ × Entry)) ReadFault → Type 0
 TermsAs docs (Ok terms) = items_from terms.items ≡ items_of docs
 TermsAs docs (Err fault) = IsNoDamage fault
-
--- the bytes of its list
-abbrev pub ListReadAs : List Doc → List ℕ → Result (Vec ℕ) ReadFault → Type 0
-ListReadAs docs word (Ok bytes) = bytes.items ≡ list_spelling (list_with word docs)
-ListReadAs docs word (Err fault) = IsNoDamage fault
-
--- the numbers of the documents that have the word
-abbrev pub HaveWordAs : List Doc → List ℕ → Result (Vec ℕ) ReadFault → Type 0
-HaveWordAs docs word (Ok numbers) = numbers.items ≡ list_with word docs
-HaveWordAs docs word (Err fault) = IsNoDamage fault

@@ -24,7 +24,7 @@ use crate::header::u32_at;
 use pk_posting::{ByteSource, SourceFault};
 
 /// An entry of the directory.
-#[derive(Clone, Copy, Debug, PartialEq, Eq)]
+#[derive(Clone, Copy)]
 pub struct Entry {
     /// The number of the document.
     pub number: u32,
@@ -64,14 +64,21 @@ fn entry_at(field: &[u8]) -> Entry
 }
 
 /// The directory of a segment, in memory: for each document its number, and where its text is.
-#[derive(Debug, Drop)]
+#[derive(Drop)]
 pub struct Directory {
     bytes: Vec<u8>,
     ghost short: { length bytes.items < 2 ^ 32 },
 }
 
 impl Directory {
-    ghost use Rattle.pk_segment.specs.Directory.{IsDirectoryOf, entries_in, field_in, number_in};
+    ghost use Rattle.pk_segment.specs.Directory.{
+      IsDirectoryOf,
+      doc_in,
+      entries_in,
+      field_in,
+      number_in,
+      offset_in,
+    };
 
     // The directory of these entries, of 12 bytes each.
     pub(crate) fn of_bytes(bytes: Vec<u8>) -> Directory
@@ -98,6 +105,17 @@ impl Directory {
             → result ≡ slice_index (numbers_of docs) i }
     {
         self.entry(i).number
+    }
+
+    /// Where the text of the `i`th document begins, counted from the first text, and how many bytes
+    /// it has. The first document is 0.
+    pub fn text_place(&self, i: u32) -> (u32, u32)
+        requires { i < entries_in self.now }
+        ensures { (docs : List Doc) (kind : ℕ) → IsDirectoryOf self.now docs kind
+            → (result.0 ≡ offset_in 0 docs i) × (result.1 ≡ length (doc_in docs i).text) }
+    {
+        let entry = self.entry(i);
+        (entry.at, entry.len)
     }
 
     // The ith entry, the first being 0.

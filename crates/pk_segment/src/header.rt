@@ -23,7 +23,7 @@ ghost use Rattle.pk_segment.specs.Fields.{
 use pk_posting::{ByteSource, SourceFault};
 
 /// The six numbers of a header.
-#[derive(Clone, Copy, Debug, PartialEq, Eq)]
+#[derive(Clone, Copy)]
 pub struct Header {
     /// The kind of the segment.
     pub kind: u32,

@@ -33,18 +33,18 @@
 //! halves the directory; `text_of` does so too, and then reads the one text, at most 4,096 bytes at
 //! once. Whoever wants many documents reads the `directory` into memory, in stretches as long, and
 //! then with `document_in` each text once. Of kind 2, `list_of` looks a word up in the dictionary,
-//! `numbers_with` decodes its list, and `terms` gives all words. Each call that reads is handed the source;
-//! `ExtentSource` is the extent of a disk as one.
+//! whose entry leads to its list, and `terms` gives all words. Each call that reads is handed the
+//! source; `ExtentSource` is the extent of a disk as one.
 //!
 //! # What is refused
 //!
 //! `build` and `size_of` answer `TooLarge` exactly where the length passes the limit, else at most
 //! `Memory`. On bytes that spell documents a reader answers by them, or `Disk` or `Memory`; on any
 //! others it returns. `open`, `contains`, `directory` and `numbers` go by the header and the
-//! directory alone, whatever else the bytes are (`DirectorySpells`); `list_of`, `numbers_with` and
-//! `terms` by these and the index, whatever bytes the texts are (`IndexSpells`). `Disk` is answered exactly
-//! where a read failed. A refused call changed nothing but the counts, and may be made again. Of
-//! the disk below each reader's clause `keeps` tells, through the source, that it was only read.
+//! directory alone, whatever else the bytes are (`DirectorySpells`); `list_of` and `terms` by these
+//! and the index, whatever bytes the texts are (`IndexSpells`). `Disk` is answered exactly where a
+//! read failed. A refused call changed nothing but the counts, and may be made again. Of the disk
+//! below each reader's clause `keeps` tells, through the source, that it was only read.
 //!
 //! `build` cuts texts into words only where no index of them is at hand; `build_indexed` takes one
 //! (pk_index). The lengths of all lists are known before the segment's memory is taken, once.

@@ -1,18 +1,10 @@
 //! What a segment of kind 2 says of its words: the dictionary, and where the posting lists are.
 
-ghost use Rattle.std.specs.Prelude.{◌≡◌, ◌≤◌, ◌+◌, ◌*◌, ℕ, List, length, IfOk};
+ghost use Rattle.std.specs.Prelude.{◌≡◌, ◌≤◌, ◌+◌, ◌*◌, List, length};
 ghost use Rattle.pk_dict.specs.Source.{stretches_of};
 ghost use Rattle.pk_model.specs.Collection.{Doc};
-ghost use Rattle.pk_posting.specs.Posting.{IsPosting};
 ghost use Rattle.pk_posting.specs.Source.{CountsFaults};
-ghost use Rattle.pk_segment.specs.Listing.{
-  HaveWordAs,
-  LeadsTo,
-  ListReadAs,
-  ListedAs,
-  PlacedAs,
-  TermsAs,
-};
+ghost use Rattle.pk_segment.specs.Listing.{ListedAs, PlacedAs, TermsAs};
 ghost use Rattle.pk_segment.specs.Opened.{IsSegmentOf};
 ghost use Rattle.pk_segment.specs.Reading.{CountsReads};
 ghost use Rattle.pk_segment.specs.Spelling.{IndexSpells};
@@ -20,9 +12,8 @@ ghost use Rattle.pk_segment.specs.Spelling.{IndexSpells};
 use crate::fault::ReadFault;
 use crate::header::header_of;
 use crate::segment::Segment;
-use crate::stretch::stretch;
 use pk_dict::{DictPlace, Entry, entries_in, look_up_in};
-use pk_posting::{ByteSource, DecodeFault, SourceFault, decode};
+use pk_posting::{ByteSource, SourceFault};
 use std::alloc::Global;
 
 // Where the dictionary of a segment lies, by the header.
@@ -69,65 +60,6 @@ impl Segment {
         let place = dictionary_of(self, source)?;
         let entry = look_up_in(source, place, word)?;
         Ok(entry)
-    }
-
-    /// The numbers of the documents of a segment of kind 2 that have a word: its posting list,
-    /// read and decoded whole, or none where the dictionary has no such word. The list is read at
-    /// most 4,096 bytes at once, whatever the texts are.
-    ///
-    /// `Damaged` where the dictionary or the list is none.
-    pub fn numbers_with<S: ByteSource>(
-        &self,
-        alloc: Global,
-        source: &mut S,
-        word: &[u8],
-    ) -> Result<Vec<u32>, ReadFault>
-        ensures numbers { S.honest → (docs : List Doc) → IndexSpells (S.content source.old) docs
-            → IsSegmentOf self.now docs → HaveWordAs docs word.now result }
-        ensures posting { IfOk result (λ v. IsPosting v.items) }
-        ensures content { S.honest → S.content source.new ≡ S.content source.old }
-        ensures size { length (S.content source.new) ≡ length (S.content source.old) }
-        ensures keeps { S.keeps source.old source.new }
-        ensures faults { CountsReads (S.failures source.old) (S.failures source.new) result }
-    {
-        let Some(entry) = self.list_of(alloc, source, word)? else {
-            return Ok(Vec::new(alloc));
-        };
-        let bytes = self.list_bytes(alloc, source, entry)?;
-        match decode(alloc, &bytes) {
-            Ok(numbers) => Ok(numbers),
-            Err(DecodeFault::Damaged) => Err(ReadFault::Damaged),
-            Err(DecodeFault::Memory) => Err(ReadFault::Memory),
-        }
-    }
-
-    // The bytes of the posting list that an entry leads to.
-    fn list_bytes<S: ByteSource>(
-        &self,
-        alloc: Global,
-        source: &mut S,
-        entry: Entry,
-    ) -> Result<Vec<u8>, ReadFault>
-        ensures bytes { S.honest → (docs : List Doc) (word : List ℕ)
-            → IndexSpells (S.content source.old) docs → IsSegmentOf self.now docs
-            → LeadsTo docs word entry → ListReadAs docs word result }
-        ensures content { S.honest → S.content source.new ≡ S.content source.old }
-        ensures size { length (S.content source.new) ≡ length (S.content source.old) }
-        ensures keeps { S.keeps source.old source.new }
-        ensures faults { CountsReads (S.failures source.old) (S.failures source.new) result }
-    {
-        let end = u64::from(self.postings())
-            + u64::from(entry.place.at)
-            + u64::from(entry.place.bytes);
-        if end > u64::from(u32::MAX) {
-            return Err(ReadFault::Damaged);
-        }
-        stretch(
-            alloc,
-            source,
-            self.postings() + entry.place.at,
-            entry.place.bytes,
-        )
     }
 
     /// All words of a segment of kind 2, rising by their bytes, each with its entry. It reads the

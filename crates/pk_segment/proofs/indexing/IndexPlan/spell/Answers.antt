@@ -1,5 +1,5 @@
 -- The parts, one behind the other, are the segment.
-use Rattle.std.proofs.Common.{◌≡◌, ◌∙◌, ◌++◌, ℕ, List, length, arith, inr, refl, sym, ap}
+use Rattle.std.proofs.Common.{◌∙◌, ◌++◌, ℕ, List, arith, inr, refl, ap}
 use Rattle.std.proofs.lemmas.List.{length-map}
 use Rattle.pk_model.specs.Views.{doc_of}
 use Rattle.pk_segment.specs.Indexed.{dictionary, items_of, postings}

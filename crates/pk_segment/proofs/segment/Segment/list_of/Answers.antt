@@ -1,15 +1,12 @@
 -- What the dictionary says.
-use Rattle.std.proofs.Common.{◌≡◌, ◌∙◌, List, ℕ, sym, ap, subst, arith, Err, Result}
-use Rattle.std.specs.Prelude.{Option, MatchResult}
+use Rattle.std.proofs.Common.{◌≡◌, ◌∙◌, List, ℕ, sym, subst, arith, Result}
+use Rattle.std.specs.Prelude.{Option}
 use Rattle.std.proofs.lemmas.Result.{err_from_is_err_and}
 use Rattle.pk_dict.specs.declared.entry.Entry.{Entry}
-use Rattle.pk_dict.specs.Dictionary.{entry_of}
-use Rattle.pk_posting.specs.declared.source.SourceFault.{SourceFault}
 use Rattle.pk_posting.specs.declared.source.SourceFault.TheVariants as source
 use Rattle.pk_segment.specs.declared.fault.ReadFault.{ReadFault}
 use Rattle.pk_segment.specs.Indexed.{items_of}
 use Rattle.pk_segment.specs.Listing.{ListedAs}
-use Rattle.pk_segment.specs.Reading.{IsNoDamage}
 use Rattle.pk_segment.specs.Spelling.{IndexSpells}
 use Rattle.pk_segment.proofs.ListingLemmas.{is_there}
 use Rattle.pk_segment.proofs.ReadLemmas.{cause_read}

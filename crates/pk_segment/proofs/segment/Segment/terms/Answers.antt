@@ -1,5 +1,5 @@
 -- All words begin with nothing.
-use Rattle.std.proofs.Common.{◌≡◌, ◌∙◌, List, ℕ, sym, subst, Result}
+use Rattle.std.proofs.Common.{◌∙◌, List, ℕ, sym, subst, Result}
 use Rattle.std.specs.Global.{Vec}
 use Rattle.std.proofs.lemmas.Result.{err_from_is_err_and}
 use Rattle.pk_dict.specs.declared.entry.Entry.{Entry}
