@@ -1,6 +1,6 @@
 -- What was gathered: its length, one document more, and what is left of several.
-use Rattle.std.proofs.Common.{◌≡◌, ℕ, zero, suc, ◌+◌, ◌*◌, ◌<◌, ◌≤◌, List, [], ◌∷◌, ◌++◌, length, take, drop, true, false, Some, sym, ap, subst, ◌∙◌, append_assoc, append-nil, arith, Result, Ok, Err, Vec, Global}
-use Rattle.std.specs.Prelude.{All, Option, slice_get}
+use Rattle.std.proofs.Common.{◌≡◌, ◌⊎◌, inl, inr, ℕ, ◌+◌, ◌*◌, ◌<◌, ◌≤◌, List, [], ◌∷◌, ◌++◌, length, take, drop, true, false, sym, ap, subst, ◌∙◌, append_assoc, append-nil, arith, Result, Ok, Err, Vec, Global}
+use Rattle.std.specs.Prelude.{All, Option}
 use Rattle.std.specs.List.Sorted.{IsStrictlyIncreasing}
 use Rattle.std.proofs.lemmas.Grind.{flat_map-append}
 use Rattle.std.proofs.lemmas.List.{length-append, map-append, take-append-drop}
@@ -11,16 +11,15 @@ use Rattle.pk_model.specs.Views.{doc_of}
 use Rattle.pk_model.proofs.CollectionLemmas.{increasing-snoc}
 use Rattle.pk_segment.specs.declared.fault.ReadFault.{ReadFault}
 use Rattle.pk_segment.specs.declared.fault.ReadFault.TheVariants as reading
-use Rattle.pk_segment.specs.Directory.{doc_in}
 use Rattle.pk_segment.specs.Spelling.{docs_of, longest, segment_length, texts}
 use Rattle.pk_segment.specs.Reading.{IsNoDamage}
 use Rattle.pk_segment.proofs.SegmentLemmas.{parts_of, length_texts_cons}
 use Rattle.pk_state.specs.Committed.{lists}
 use Rattle.pk_merge.specs.declared.fault.MergeFault.{MergeFault}
-use Rattle.pk_merge.specs.declared.fault.MergeFault.TheVariants.{TooLarge, Damaged, Disk, Memory}
+use Rattle.pk_merge.specs.declared.fault.MergeFault.TheVariants.{TooLarge, Damaged, Disk, Memory, NotWritten}
 use Rattle.pk_merge.specs.declared.gathered.Gathered.{Gathered}
 use Rattle.pk_merge.specs.Gathering.{BuildsAs, FailsInMemory, GathersAs, KeepsAs, RiseFrom, docs_in, left_by}
-use Rattle.pk_merge.specs.Merging.{MergeFails, MergedAs, merge_of}
+use Rattle.pk_merge.specs.Merging.{CountsMerge, MergeFails, MergedAs, merge_of}
 use Rattle.pk_merge.proofs.RiseLemmas.{rise_next}
 
 -- LENGTHS
@@ -29,7 +28,7 @@ length_texts : (xs ys : List Doc) → length (texts (xs ++ ys)) ≡ length (text
 length_texts xs ys = ap length (flat_map-append (λ (d : Doc). d.text) xs ys) ∙ length-append (texts xs) (texts ys)
 
 -- in kind 1 nothing stands behind the texts
-front_of : (docs : List Doc) → segment_length docs 1 ≡ 24 + 12 * length docs + length (texts docs)
+pub front_of : (docs : List Doc) → segment_length docs 1 ≡ 24 + 12 * length docs + length (texts docs)
 front_of docs = parts_of docs 1 ∙ nothing (24 + 12 * length docs + length (texts docs))
   where
     nothing : (n : ℕ) → n + 0 + 0 ≡ n
@@ -80,12 +79,6 @@ pub kept_size : (ds now : List Document) (d : Document) → now ≡ ds ++ d ∷ 
 kept_size ds now d same = ap (λ (xs : List Document). segment_length (docs_of xs) 1) same
     ∙ ap (λ (xs : List Doc). segment_length xs 1) (map-append doc_of ds (d ∷ [])) ∙ front_one (docs_of ds) (doc_of d)
 
--- the document that was read is the one at its place
-pub doc_got : (docs : List Doc) (i : ℕ) (d : Doc) → slice_get docs i ≡ Some d → d ≡ doc_in docs i
-doc_got [] i d e = cc
-doc_got (x ∷ docs) zero d e = cc
-doc_got (x ∷ docs) (suc i) d e = doc_got docs i d e
-
 -- a listed document is passed
 pub passes : (old new : Gathered) (dead : List ℕ) (d : Doc) (more : List Doc) (n : ℕ) → new.documents ≡ old.documents → new.last ≡ n → n ≡ d.number
     → lists n dead ≡ true → RiseFrom old.last (d ∷ more) → (docs_in new ≡ docs_in old ++ left_by dead (d ∷ [])) × RiseFrom new.last more
@@ -106,6 +99,7 @@ keeps old new dead d e more (Err TooLarge) same none rise kept = rw none (subst 
 keeps old new dead d e more (Err Damaged) same none rise kept = absurd kept
 keeps old new dead d e more (Err Disk) same none rise kept = absurd kept
 keeps old new dead d e more (Err Memory) same none rise kept = tt
+keeps old new dead d e more (Err NotWritten) same none rise kept = absurd kept
 
 -- A FAULT on the way stays one
 
@@ -125,6 +119,7 @@ fails_longer xs ys zs TooLarge same fault = longer xs ys zs same fault
 fails_longer xs ys zs Damaged same fault = absurd fault
 fails_longer xs ys zs Disk same fault = tt
 fails_longer xs ys zs Memory same fault = tt
+fails_longer xs ys zs NotWritten same fault = absurd fault
 
 -- ONE PART AFTER THE OTHER, where what is left of two parts is what is left of each
 module _ {X : Type 0} (left : List X → List Doc) (parts : (xs ys : List X) → left (xs ++ ys) ≡ left xs ++ left ys) where
@@ -146,21 +141,46 @@ module _ {X : Type 0} (left : List X → List Doc) (parts : (xs ys : List X) →
 -- THE WHOLE
 
 -- what fails in kind 1 fails in each kind
-fails_in : (docs : List Doc) (kind : ℕ) (x : MergeFault) → MergeFails docs 1 x → MergeFails docs kind x
+pub fails_in : (docs : List Doc) (kind : ℕ) (x : MergeFault) → MergeFails docs 1 x → MergeFails docs kind x
 fails_in docs kind TooLarge fault = omega (arith, fault, no_shorter docs kind)
 fails_in docs kind Damaged fault = fault
 fails_in docs kind Disk fault = tt
 fails_in docs kind Memory fault = tt
+fails_in docs kind NotWritten fault = fault
 
 pub merged_fault : (docs : List Doc) (kind : ℕ) (r : Result (Option (Vec ℕ Global)) MergeFault) (x : MergeFault) → r ≡ Err x → MergeFails docs 1 x → MergedAs docs kind r
 merged_fault docs kind r x is fault = rw is (fails_in docs kind x fault)
 
-fails_built : (docs : List Doc) (kind : ℕ) (x : MergeFault) → FailsInMemory docs kind x → MergeFails docs kind x
+pub fails_built : (docs : List Doc) (kind : ℕ) (x : MergeFault) → FailsInMemory docs kind x → MergeFails docs kind x
 fails_built docs kind TooLarge fault = fault
 fails_built docs kind Damaged fault = fault
 fails_built docs kind Disk fault = tt
 fails_built docs kind Memory fault = tt
+fails_built docs kind NotWritten fault = fault
 
 pub merged_all : (docs : List Doc) (kind : ℕ) (g : Gathered) (r : Result (Option (Vec ℕ Global)) MergeFault) → docs_in g ≡ docs → BuildsAs (docs_in g) kind r → MergedAs docs kind r
 merged_all docs kind g (Ok bytes) all built = subst (λ (ds : List Doc). BuildsAs ds kind (Ok bytes)) all built
 merged_all docs kind g (Err fault) all built = fails_built docs kind fault (subst (λ (ds : List Doc). FailsInMemory ds kind fault) all built)
+
+-- no count rose where the documents were too many bytes, or memory was refused
+pub counts_memory : {T : Type 0} (before now : ℕ) (r : Result T MergeFault) (x : MergeFault) → r ≡ Err x → (x ≡ TooLarge) ⊎ (x ≡ Memory) → now ≡ before → CountsMerge before now r
+counts_memory {T} before now r x is cause same = subst (λ (s : Result T MergeFault). CountsMerge before now s) (sym is) (elim cause [
+  | inl e ↦ subst (λ (y : MergeFault). CountsMerge {T = T} before now (Err y)) (sym e) (record {
+    later = omega (arith, same);
+    ok = tt;
+    too_large = λ h. same;
+    damaged = λ h. same;
+    memory = λ h. same;
+    disk = λ h. absurd (cc (h));
+    unwritten = λ h. cc (h);
+  })
+  | inr e ↦ subst (λ (y : MergeFault). CountsMerge {T = T} before now (Err y)) (sym e) (record {
+    later = omega (arith, same);
+    ok = tt;
+    too_large = λ h. same;
+    damaged = λ h. same;
+    memory = λ h. same;
+    disk = λ h. absurd (cc (h));
+    unwritten = λ h. cc (h);
+  })
+])

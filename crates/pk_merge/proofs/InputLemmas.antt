@@ -1,52 +1,24 @@
 -- The inputs of a merge, each with what it spells.
-use Rattle.std.proofs.Common.{◌≡◌, ℕ, zero, suc, ◌+◌, ◌<◌, ◌≤◌, ◌^◌, List, [], ◌∷◌, ◌++◌, length, take, drop, get_or, refl, sym, ap, subst, ◌∙◌, append-nil, arith}
-use Rattle.std.proofs.lemmas.Grind.{flat_map-append}
+use Rattle.std.proofs.Common.{◌≡◌, ℕ, ◌+◌, ◌<◌, ◌≤◌, ◌^◌, List, [], ◌∷◌, ◌++◌, length, drop, sym, ap, subst, ◌∙◌, append-nil, arith}
 use Rattle.std.proofs.lemmas.List.{drop_more}
 use Rattle.std.proofs.lemmas.List.Concat.{flat_map-cons}
 use Rattle.std.proofs.lemmas.List.Elements.{All-head}
 use Rattle.std.specs.List.Sorted.{IsStrictlyIncreasing}
+use Rattle.pk_join.specs.declared.input.MergeInput.{MergeInput}
+use Rattle.pk_join.specs.Inputs.{SpellsInputs}
+use Rattle.pk_join.specs.Walking.{none_stored, stored_at}
 use Rattle.pk_model.specs.Collection.{Doc, numbers_of}
 use Rattle.pk_segment.specs.Directory.{doc_in}
 use Rattle.pk_segment.specs.Spelling.{AreDocuments}
 use Rattle.pk_state.specs.Committed.{Stored, all_in, live_in, live_of}
-use Rattle.pk_merge.specs.declared.merging.MergeInput.{MergeInput}
 use Rattle.pk_merge.specs.Gathering.{RiseFrom, left_by}
-use Rattle.pk_merge.specs.Merging.{SpellsInput, SpellsInputs}
 use Rattle.pk_merge.proofs.RiseLemmas.{rise_zero}
-
--- BY THEIR PLACE
-abbrev pub none_stored : Stored
-none_stored = record { documents = []; dead = [] }
-
-abbrev pub stored_at : List Stored → ℕ → Stored
-stored_at stored i = get_or stored i none_stored
-
-pub inputs_long : (bytes : List ℕ) (is : List MergeInput) (stored : List Stored) → SpellsInputs bytes is stored → length is ≡ length stored
-inputs_long bytes [] [] spells = refl
-inputs_long bytes [] (s ∷ stored) spells = absurd spells
-inputs_long bytes (x ∷ is) [] spells = absurd spells
-inputs_long bytes (x ∷ is) (s ∷ stored) spells = ap suc (inputs_long bytes is stored spells.1)
-
-pub input_at : (bytes : List ℕ) (is : List MergeInput) (stored : List Stored) (i : ℕ) (x : MergeInput) → SpellsInputs bytes is stored → i < length is → x ≡ get_or is i x
-    → SpellsInput bytes x (stored_at stored i)
-input_at bytes [] stored i x spells lt at = absurd (omega arith)
-input_at bytes (y ∷ is) [] i x spells lt at = absurd spells
-input_at bytes (y ∷ is) (s ∷ stored) zero x spells lt at = subst (λ (z : MergeInput). SpellsInput bytes z s) (sym at) spells.0
-input_at bytes (y ∷ is) (s ∷ stored) (suc i) x spells lt at = input_at bytes is stored i x spells.1 (omega arith) at
-
-pub take_stored : (stored : List Stored) (i : ℕ) → i < length stored → take (i + 1) stored ≡ take i stored ++ stored_at stored i ∷ []
-take_stored [] i lt = absurd (omega arith)
-take_stored (s ∷ stored) zero lt = refl
-take_stored (s ∷ stored) (suc i) lt = let k : suc i + 1 ≡ suc (i + 1) = omega arith in rw k (ap (λ (xs : List Stored). s ∷ xs) (take_stored stored i (omega arith)))
 
 -- the documents of those that are left, one in front
 pub all_on : (stored : List Stored) (i : ℕ) → i < length stored → all_in (drop i stored) ≡ (stored_at stored i).documents ++ all_in (drop (i + 1) stored)
 all_on stored i lt = ap all_in (drop_more stored i none_stored lt) ∙ flat_map-cons (λ (s : Stored). s.documents) (stored_at stored i) (drop (i + 1) stored)
 
 -- WHAT THEY LEAVE
-pub live_append : (xs ys : List Stored) → live_in (xs ++ ys) ≡ live_in xs ++ live_in ys
-live_append xs ys = flat_map-append live_of xs ys
-
 pub live_here : (dead : List ℕ) (s : Stored) → dead ≡ s.dead → left_by dead s.documents ≡ live_in (s ∷ [])
 live_here dead s same = ap (λ (ns : List ℕ). left_by ns s.documents) same ∙ sym (flat_map-cons live_of s [] ∙ append-nil (live_of s))
 

@@ -1,4 +1,11 @@
 -- The lemma pages.
 pub mod GatherLemmas
+pub mod GivenLemmas
 pub mod InputLemmas
+pub mod KeepLemmas
+pub mod LiveLemmas
+pub mod OutputLemmas
+pub mod ReadLemmas
 pub mod RiseLemmas
+pub mod StreamLemmas
+pub mod TextLemmas

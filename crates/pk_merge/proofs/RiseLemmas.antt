@@ -1,7 +1,8 @@
 -- Numbers that rise from above the last one on, document by document.
-use Rattle.std.proofs.Common.{◌≡◌, ℕ, zero, suc, ◌+◌, ◌<◌, ◌≤◌, List, [], ◌∷◌, ◌++◌, length, take, drop, refl, ap, subst, arith}
+use Rattle.std.proofs.Common.{◌≡◌, ℕ, zero, suc, ◌+◌, ◌<◌, ◌≤◌, List, [], ◌∷◌, ◌++◌, length, drop, subst, arith}
 use Rattle.std.specs.Prelude.{slice_index}
 use Rattle.std.specs.List.Sorted.{IsStrictlyIncreasing}
+use Rattle.pk_join.proofs.DocLemmas.{drop_doc}
 use Rattle.pk_model.specs.Collection.{Doc, numbers_of}
 use Rattle.pk_segment.specs.Directory.{doc_in}
 use Rattle.pk_merge.specs.Gathering.{RiseFrom}
@@ -29,17 +30,5 @@ rise_zero (d ∷ docs) rising least = first
         subst (λ (n : ℕ). slice_index (d.number ∷ numbers_of docs) k < slice_index (0 ∷ d.number ∷ numbers_of docs) n) e
         (rising k (omega (arith, within)))
 
--- the documents from one on, and up to one
-pub drop_doc : (docs : List Doc) (i : ℕ) → i < length docs → drop i docs ≡ doc_in docs i ∷ drop (i + 1) docs
-drop_doc [] i lt = absurd (omega arith)
-drop_doc (d ∷ docs) zero lt = refl
-drop_doc (d ∷ docs) (suc i) lt = let k : suc i + 1 ≡ suc (i + 1) = omega arith in rw k (drop_doc docs i (omega arith))
-
-pub take_doc : (docs : List Doc) (i : ℕ) → i < length docs → take (i + 1) docs ≡ take i docs ++ doc_in docs i ∷ []
-take_doc [] i lt = absurd (omega arith)
-take_doc (d ∷ docs) zero lt = refl
-take_doc (d ∷ docs) (suc i) lt = let k : suc i + 1 ≡ suc (i + 1) = omega arith in rw k (ap (λ (xs : List Doc). d ∷ xs) (take_doc docs i (omega arith)))
-
--- the same of documents in front of others
 pub rise_at : (last i : ℕ) (docs more : List Doc) → i < length docs → RiseFrom last (drop i docs ++ more) → RiseFrom last (doc_in docs i ∷ (drop (i + 1) docs ++ more))
 rise_at last i docs more lt rise = subst (λ (xs : List Doc). RiseFrom last (xs ++ more)) (drop_doc docs i lt) rise

@@ -3,7 +3,7 @@ use Rattle.std.specs.Prelude.{◌≡◌, ℕ, ◌<◌, List, [], ◌∷◌, ◌+
 use Rattle.std.specs.Global.{Vec}
 use Rattle.std.specs.List.Sorted.{IsStrictlyIncreasing}
 use Rattle.pk_merge.specs.declared.fault.MergeFault.{MergeFault}
-use Rattle.pk_merge.specs.declared.fault.MergeFault.TheVariants.{TooLarge, Damaged, Disk, Memory}
+use Rattle.pk_merge.specs.declared.fault.MergeFault.TheVariants.{TooLarge, Damaged, Disk, Memory, NotWritten}
 use Rattle.pk_merge.specs.declared.gathered.Gathered.{Gathered}
 use Rattle.pk_merge.specs.Merging.{IsMerged, MergeFails}
 use Rattle.pk_model.specs.Collection.{Doc, numbers_of}
@@ -28,6 +28,7 @@ FailsInMemory docs kind TooLarge = longest < segment_length docs kind
 FailsInMemory docs kind Damaged = ⊥
 FailsInMemory docs kind Disk = ⊥
 FailsInMemory docs kind Memory = Unit {0}
+FailsInMemory docs kind NotWritten = ⊥
 
 -- one document more was kept, or even a segment of kind 1 would be too long, or memory was refused
 abbrev pub KeepsAs : {T : Type 0} → Gathered → Doc → Gathered → Result T MergeFault → Type 0

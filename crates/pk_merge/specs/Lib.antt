@@ -1,4 +1,12 @@
 -- The definitions that the contracts cite.
 pub mod Choosing
 pub mod Gathering
+pub mod Inputs
+pub mod Keeping
+pub mod Left
 pub mod Merging
+pub mod Planned
+pub mod Output
+pub mod Prepared
+pub mod ReadAll
+pub mod Streaming

@@ -1,35 +1,17 @@
 -- What the inputs of a merge spell, and what a merge answers.
-use Rattle.std.specs.Prelude.{
-  ◌≡◌,
-  ◌≤◌,
-  ◌<◌,
-  ◌+◌,
-  ℕ,
-  List,
-  [],
-  ◌∷◌,
-  Option,
-  None,
-  Some,
-  Result,
-  Ok,
-  Err,
-  OnOk,
-  IsErrOf,
-}
+use Rattle.std.specs.Prelude.{◌≡◌, ◌≤◌, ◌<◌, ℕ, List, [], Option, None, Some, Result, Ok, Err, OnOk, IsErrOf}
 use Rattle.std.specs.Global.{Vec}
-use Rattle.pk_disk.specs.Units.{extent_bytes, start_of}
 use Rattle.pk_merge.specs.declared.fault.MergeFault.{MergeFault}
-use Rattle.pk_merge.specs.declared.fault.MergeFault.TheVariants.{TooLarge, Damaged, Disk, Memory}
-use Rattle.pk_merge.specs.declared.merging.MergeInput.{MergeInput}
+use Rattle.pk_merge.specs.declared.fault.MergeFault.TheVariants.{TooLarge, Damaged, Disk, Memory, NotWritten}
 use Rattle.pk_model.specs.Collection.{Doc}
 use Rattle.pk_posting.specs.Source.{Rose}
+use Rattle.pk_replace.specs.declared.stream.StreamFault.{StreamFault}
+use Rattle.pk_replace.specs.declared.stream.StreamFault.TheVariants as streaming
 use Rattle.pk_segment.specs.declared.building.BuildFault.{BuildFault}
 use Rattle.pk_segment.specs.declared.building.BuildFault.TheVariants as building
 use Rattle.pk_segment.specs.declared.fault.ReadFault.{ReadFault}
 use Rattle.pk_segment.specs.declared.fault.ReadFault.TheVariants as reading
-use Rattle.pk_segment.specs.Spelling.{IsKind, SegmentSpells, longest, segment_length}
-use Rattle.pk_state.specs.Committed.{Stored}
+use Rattle.pk_segment.specs.Spelling.{SegmentSpells, longest, segment_length}
 
 -- what a fault of a reader means to a merge
 abbrev pub merge_of : ReadFault → MergeFault
@@ -42,26 +24,11 @@ abbrev pub built_of : BuildFault → MergeFault
 built_of building.TooLarge = TooLarge
 built_of building.Memory = Memory
 
--- it is of a kind that is read
-abbrev pub HasKind : MergeInput → Type 0
-HasKind i = IsKind i.kind
-
--- its extent lies within a disk of so many bytes
-abbrev pub LiesInside : ℕ → MergeInput → Type 0
-LiesInside size i = start_of i.extent + i.extent.bytes ≤ size
-
--- The input's extent spells the documents of what is stored, and its deletion list is the one that
--- is stored.
-pub record SpellsInput (bytes : List ℕ) (i : MergeInput) (s : Stored) : Type 0 where
-  pub segment : SegmentSpells (extent_bytes bytes i.extent) s.documents i.kind
-  pub dead : i.dead.now ≡ s.dead
-
--- each input spells what stands at its place
-abbrev pub SpellsInputs : List ℕ → List MergeInput → List Stored → Type 0
-SpellsInputs bytes [] [] = Unit {0}
-SpellsInputs bytes [] (s ∷ stored) = ⊥
-SpellsInputs bytes (i ∷ is) [] = ⊥
-SpellsInputs bytes (i ∷ is) (s ∷ stored) = SpellsInput bytes i s × SpellsInputs bytes is stored
+-- what a fault of a writer means to a merge
+abbrev pub streamed_of : StreamFault → MergeFault
+streamed_of streaming.Read = Disk
+streamed_of streaming.Write = NotWritten
+streamed_of streaming.Damaged = Damaged
 
 -- the segment of a kind of the documents; none exactly where there is none
 abbrev pub IsMerged : List Doc → ℕ → Option (Vec ℕ) → Type 0
@@ -74,6 +41,7 @@ MergeFails docs kind TooLarge = longest < segment_length docs kind
 MergeFails docs kind Damaged = ⊥
 MergeFails docs kind Disk = Unit {0}
 MergeFails docs kind Memory = Unit {0}
+MergeFails docs kind NotWritten = ⊥
 
 -- the segment of a kind of the documents, or why there is none
 abbrev pub MergedAs : List Doc → ℕ → Result (Option (Vec ℕ)) MergeFault → Type 0
@@ -85,6 +53,7 @@ abbrev pub IsSomeMerged : ℕ → Option (Vec ℕ) → Type 0
 IsSomeMerged kind bytes = (docs : List Doc) × IsMerged docs kind bytes
 
 -- Disk is answered exactly where the count of failures rose; with any other answer it is as before.
+-- Nothing is written.
 pub record CountsMerge {T : Type 0} (before now : ℕ) (result : Result T MergeFault) : Type 0 where
   pub later : before ≤ now
   pub ok : OnOk result (now ≡ before)
@@ -92,3 +61,4 @@ pub record CountsMerge {T : Type 0} (before now : ℕ) (result : Result T MergeF
   pub damaged : IsErrOf result Damaged → now ≡ before
   pub memory : IsErrOf result Memory → now ≡ before
   pub disk : IsErrOf result Disk → Rose before now
+  pub unwritten : IsErrOf result NotWritten → ⊥

@@ -1,11 +1,12 @@
 //! Why segments were not merged.
 
 use pk_posting::SourceFault;
+use pk_replace::StreamFault;
 use pk_segment::{BuildFault, ReadFault};
 use std::alloc::AllocError;
 use thiserror::Error;
 
-/// Why segments were not merged. The disk is as it was, and the call may be made again.
+/// Why segments were not merged. Where it is not `NotWritten`, the call may be made again.
 #[derive(Clone, Copy, Debug, PartialEq, Eq, Drop, Error)]
 pub enum MergeFault {
     /// The segment would pass 1,073,741,824 bytes.
@@ -20,6 +21,9 @@ pub enum MergeFault {
     /// Memory was refused.
     #[error("memory")]
     Memory,
+    /// A write failed.
+    #[error("not written")]
+    NotWritten,
 }
 
 impl From<SourceFault> for MergeFault {
@@ -33,6 +37,21 @@ impl From<SourceFault> for MergeFault {
         match fault {
             SourceFault::Damaged => MergeFault::Damaged,
             SourceFault::Disk => MergeFault::Disk,
+        }
+    }
+}
+
+impl From<StreamFault> for MergeFault {
+    ghost use Rattle.std.specs.Prelude.{◌≡◌};
+    ghost use Rattle.pk_merge.specs.Merging.{streamed_of};
+
+    ghost from_gives = { λ fault merge. merge ≡ streamed_of fault };
+
+    fn from(fault: StreamFault) -> MergeFault {
+        match fault {
+            StreamFault::Read => MergeFault::Disk,
+            StreamFault::Write => MergeFault::NotWritten,
+            StreamFault::Damaged => MergeFault::Damaged,
         }
     }
 }

@@ -10,9 +10,39 @@
 //! | `MergeInput` | a segment on the disk: its extent, its kind, and its deletion list |
 //! | `merged` | the bytes of the one segment, in memory; none where no document is left |
 //! | `choose` | which eight neighbours to merge where not all are: those with the least bytes |
+//! | `prepare` | a merge to a segment of kind 2: its exact length, and all that it needs |
+//! | `Prepared::merge_into` | the segment that is prepared, written to the disk as it is read |
+//! | `MergeWriter` | the same, for a body that is put in force with it (`WritesExtent`) |
 //!
-//! Of each input the directory is read once, in large stretches, and the text of each document that
-//! is left, once. The documents are then in memory, all of them, until the segment is built.
+//! For `merged` the directory of each input is read once, in large stretches, and the text of each
+//! document that is left, once. The documents are then in memory, all of them, until the segment is
+//! built.
+//!
+//! # A merge that is written as it is read
+//!
+//! `prepare` reads the directories and the dictionaries (of inputs of kind 1 the texts), and goes
+//! through the words of all inputs side by side (pk_join): the least at their heads is next.
+//! Its list is joined from those of the inputs without the dead numbers, and only its length and its
+//! entry are kept. So the exact length is known, and all memory taken, before the first write.
+//!
+//! `merge_into` then writes header and directory, copies the texts one after the other, goes
+//! through the words a second time, which gives the posting lists, and writes the dictionary: in
+//! writes of 65,536 bytes, the last one perhaps shorter. It takes no memory. It writes no position
+//! outside the segment's place, whatever it reads and answers, and its bytes are those of `merged`.
+//!
+//! What is prepared takes memory for:
+//!
+//! | what | how much |
+//! |---|---|
+//! | each document left | 24 bytes for its place, 12 for its directory entry, 4 in the list of one word |
+//! | each term of an input of kind 2 | some 40 bytes, and the word |
+//! | an input of kind 1 | the index of its texts, and its words |
+//! | the dictionary | its bytes |
+//! | the longest posting list | its bytes |
+//! | what is to be written | 65,536 bytes |
+//!
+//! It keeps no texts (of an input of kind 1 one at a time), and of inputs of kind 2 no lists but
+//! the one that is joined.
 //!
 //! # What is refused
 //!
@@ -22,18 +52,43 @@
 //! segments, and numbers that are 0 or don't rise from document to document and from input to
 //! input, also where a list has them. `Disk` is answered exactly where a read failed, and `Memory`
 //! where memory was refused. The disk was only read, whatever is answered, and the call may be made
-//! again. Whatever was read, what is answered is the bytes of a segment.
+//! again. Whatever was read, what `merged` answers is the bytes of a segment.
 //!
-//! Where the words are: `specs/Merging` has what inputs spell and what a merge answers,
-//! `specs/Gathering` what stands in memory on the way, `specs/Choosing` what is chosen. Lemma pages:
-//! `RiseLemmas` on the order of the numbers, `GatherLemmas` on what was gathered.
+//! `merge_into` answers `Damaged` where what it reads isn't what was prepared, `Disk` exactly where
+//! a read failed and `NotWritten` exactly where a write did: then a part of the segment may stand in
+//! its place. After the first two the merge may be prepared again.
+//!
+//! Where the words are: `specs/Merging` has what a merge answers (what inputs spell is in pk_join's
+//! `specs/Inputs`), `specs/Gathering` what stands in memory on the way, `specs/Choosing` what is
+//! chosen, `specs/Prepared` what is prepared, `specs/Keeping` where the texts stand that are kept,
+//! `specs/Output` what was given to be written, `specs/Streaming` what `MergeWriter` promises. Lemma
+//! pages: `RiseLemmas` on the order of the numbers, `GatherLemmas` on what was gathered,
+//! `LiveLemmas` on the documents that are left, `GivenLemmas` and `StreamLemmas` on what is given
+//! part after part; pk_join's `TermWalkLemmas` on the walk through the words.
 #![tactic(auto)]
 
 mod choosing;
 mod fault;
+mod front;
 mod gathered;
+mod kept;
+mod left;
+mod merge_writer;
 mod merging;
+mod output;
+mod planning;
+mod prepared;
+mod preparing;
+mod reading;
+mod streaming;
+mod texts;
+mod word_plan;
+mod writing;
 
 pub use choosing::choose;
 pub use fault::MergeFault;
-pub use merging::{MergeInput, merged};
+pub use merge_writer::MergeWriter;
+pub use merging::merged;
+pub use pk_join::MergeInput;
+pub use prepared::Prepared;
+pub use preparing::prepare;

@@ -18,15 +18,9 @@ ghost use Rattle.std.specs.Prelude.{
 ghost use Rattle.std.specs.List.Sorted.{IsStrictlyIncreasing};
 ghost use Rattle.pk_disk.specs.Frames.{KeepsDisk};
 ghost use Rattle.pk_disk.specs.Units.{extent_bytes};
+ghost use Rattle.pk_join.specs.Inputs.{HasKind, LiesInside, SpellsInputs};
 ghost use Rattle.pk_merge.specs.Gathering.{GathersAs, RiseFrom, left_by};
-ghost use Rattle.pk_merge.specs.Merging.{
-  CountsMerge,
-  HasKind,
-  IsSomeMerged,
-  LiesInside,
-  MergedAs,
-  SpellsInputs,
-};
+ghost use Rattle.pk_merge.specs.Merging.{CountsMerge, IsSomeMerged, MergedAs};
 ghost use Rattle.pk_model.specs.Collection.{Doc, numbers_of};
 ghost use Rattle.pk_segment.specs.Directory.{IsDirectoryOf, doc_in, entries_in};
 ghost use Rattle.pk_segment.specs.Opened.{IsSegmentOf};
@@ -37,20 +31,10 @@ use crate::fault::MergeFault;
 use crate::gathered::Gathered;
 use pk_dead::Dead;
 use pk_disk::{Disk, Extent};
+use pk_join::MergeInput;
 use pk_posting::ByteSource;
 use pk_segment::{Directory, ExtentSource, Segment};
 use std::alloc::Global;
-
-/// A segment that is merged.
-#[derive(Debug, Drop)]
-pub struct MergeInput<'a> {
-    /// Where it lies.
-    pub extent: Extent,
-    /// Its kind.
-    pub kind: u32,
-    /// The numbers of its documents that are deleted.
-    pub dead: &'a Dead,
-}
 
 /// The segment of that kind of the documents that the inputs leave, in the inputs' order; none
 /// where none is left.

@@ -3,13 +3,16 @@ use Rattle.std.proofs.Common.{◌∙◌, ◌<◌, ◌≤◌, ◌+◌, ◌++◌, 
 use Rattle.std.proofs.lemmas.Result.{err_from_is_err_and}
 use Rattle.std.proofs.lemmas.List.{take_all}
 use Rattle.pk_disk.proofs.FrameLemmas.{keeps_disk_then}
+use Rattle.pk_join.specs.Inputs.{SpellsInputs}
+use Rattle.pk_join.specs.Walking.{stored_at}
+use Rattle.pk_join.proofs.InputLemmas.{input_at, inputs_long, live_append, take_stored}
 use Rattle.pk_model.specs.Collection.{Doc}
 use Rattle.pk_state.specs.Committed.{Stored, all_in, live_in}
 use Rattle.pk_merge.specs.declared.fault.MergeFault.{MergeFault}
 use Rattle.pk_merge.specs.Gathering.{RiseFrom, docs_in, left_by}
-use Rattle.pk_merge.specs.Merging.{MergeFails, SpellsInputs}
+use Rattle.pk_merge.specs.Merging.{MergeFails}
 use Rattle.pk_merge.proofs.GatherLemmas.{fails_longer, gathers_fault, left_next, left_on}
-use Rattle.pk_merge.proofs.InputLemmas.{all_on, input_at, inputs_long, live_append, live_here, stored_at, take_stored}
+use Rattle.pk_merge.proofs.InputLemmas.{all_on, live_here}
 use Rattle.pk_merge.proofs.merging.gather_all.Goals as goal
 
 pub returns-in_err-gather_in-clause-gathered : goal.returns-in_err-gather_in-clause-gathered

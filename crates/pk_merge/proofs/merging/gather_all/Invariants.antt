@@ -1,8 +1,8 @@
 -- What the inputs so far leave was gathered, and the documents of the others rise.
 use Rattle.std.proofs.Common.{◌≡◌, ◌++◌, List, take, drop}
 use Rattle.pk_disk.specs.Frames.{KeepsDisk}
+use Rattle.pk_join.specs.Inputs.{SpellsInputs}
 use Rattle.pk_merge.specs.Gathering.{RiseFrom, docs_in}
-use Rattle.pk_merge.specs.Merging.{SpellsInputs}
 use Rattle.pk_state.specs.Committed.{Stored, all_in, live_in}
 use Rattle.pk_merge.proofs.merging.gather_all.Given as goal
 

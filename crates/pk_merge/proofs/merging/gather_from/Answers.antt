@@ -2,6 +2,7 @@
 use Rattle.std.proofs.Common.{◌∙◌, ◌<◌, ◌≤◌, ◌+◌, ◌++◌, ◌∷◌, [], refl, ap, append-nil, sym, subst, arith, List, ℕ, length, drop}
 use Rattle.std.proofs.lemmas.Result.{err_from_is_err_and}
 use Rattle.std.proofs.lemmas.List.{drop_all, take_all}
+use Rattle.pk_join.proofs.DocLemmas.{take_doc}
 use Rattle.pk_model.specs.Collection.{Doc}
 use Rattle.pk_segment.specs.Spelling.{DirectorySpells, SegmentSpells}
 use Rattle.pk_segment.specs.Directory.{doc_in}
@@ -11,7 +12,6 @@ use Rattle.pk_merge.specs.declared.fault.MergeFault.{MergeFault}
 use Rattle.pk_merge.specs.Gathering.{RiseFrom, docs_in, left_by}
 use Rattle.pk_merge.specs.Merging.{MergeFails}
 use Rattle.pk_merge.proofs.GatherLemmas.{fails_longer, fails_read, gathers_fault, left_append, left_next, left_on}
-use Rattle.pk_merge.proofs.RiseLemmas.{take_doc}
 use Rattle.pk_merge.proofs.merging.gather_from.Goals as goal
 
 pub returns-in_err-segment-clause-gathered : goal.returns-in_err-segment-clause-gathered

@@ -1,6 +1,7 @@
 -- The number is above the last one, and the document is kept just where the list has it not.
 use Rattle.std.proofs.Common.{◌∙◌, ◌≡◌, ◌∷◌, [], ◌<◌, ◌+◌, ◌++◌, sym, subst, arith, length, drop, false, ℕ}
 use Rattle.std.proofs.lemmas.Result.{err_from_is_err_and}
+use Rattle.pk_join.proofs.DocLemmas.{doc_got}
 use Rattle.pk_model.specs.Views.{doc_of}
 use Rattle.pk_segment.specs.Directory.{doc_in}
 use Rattle.pk_segment.proofs.DirectoryLemmas.{entries_of}
@@ -9,7 +10,7 @@ use Rattle.pk_state.specs.Committed.{lists}
 use Rattle.pk_merge.specs.declared.fault.MergeFault.{MergeFault}
 use Rattle.pk_merge.specs.Gathering.{docs_in, left_by}
 use Rattle.pk_merge.specs.Merging.{MergeFails}
-use Rattle.pk_merge.proofs.GatherLemmas.{doc_got, fails_read, gathers_fault, keeps, passes}
+use Rattle.pk_merge.proofs.GatherLemmas.{fails_read, gathers_fault, keeps, passes}
 use Rattle.pk_merge.proofs.RiseLemmas.{rise_at, rise_here}
 use Rattle.pk_merge.proofs.merging.gather_one.Goals as goal
 

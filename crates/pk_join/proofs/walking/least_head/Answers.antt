@@ -1,0 +1,18 @@
+-- The head of the ith input is one of them.
+use Rattle.std.proofs.Common.{◌≡◌, ◌∙◌, ◌+◌, suc, ℕ, List, Option, slice_index, sym, ap, arith}
+use Rattle.std.specs.Option.{option_map}
+use Rattle.std.specs.Prelude.{slice_get}
+use Rattle.pk_join.specs.Walking.{least_of, lesser_of}
+use Rattle.pk_join.proofs.WalkLemmas.{words_at_is}
+use Rattle.pk_join.proofs.walking.least_head.Goals as goal
+
+pub loop-i-preserved : goal.loop-i-preserved
+loop-i-preserved c =
+    let ls = c.args.lists.now in
+    let words = words_at_is ls c.loop-i.i c.index-lists-i.result c.loop-i-test.true c.index-lists-i.is in
+    let i = c.loop-i.i in
+    let heads = c.args.heads.now in
+    let e : suc i ≡ i + 1 = omega arith in
+    c.lesser-least.ensures ∙ ap (λ (v : Option (List ℕ)). lesser_of v (option_map (λ w. w.now) c.word.result)) c.loop-i.invariant
+    ∙ ap (lesser_of (least_of ls heads i)) (c.word.ensures ∙ ap (λ (ws : List (List ℕ)). slice_get ws (slice_index heads i)) (sym words))
+    ∙ ap (least_of ls heads) e

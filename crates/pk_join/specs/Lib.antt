@@ -1,0 +1,6 @@
+-- The definitions that the contracts cite.
+pub mod Inputs
+pub mod Joining
+pub mod Listed
+pub mod Reading
+pub mod Walking

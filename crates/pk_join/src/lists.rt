@@ -1,0 +1,178 @@
+//! The words of an input, and how the list of one is put behind others.
+
+ghost use Rattle.std.specs.Prelude.{
+  ◌≡◌,
+  ◌≤◌,
+  ◌<◌,
+  ◌+◌,
+  ◌++◌,
+  ℕ,
+  List,
+  Some,
+  length,
+  slice_get,
+  IfErr,
+  MatchResult,
+};
+ghost use Rattle.std.specs.Option.{option_map};
+ghost use Rattle.pk_disk.specs.Frames.{KeepsDisk};
+ghost use Rattle.pk_disk.specs.Units.{extent_bytes};
+ghost use Rattle.pk_join.specs.Joining.{MayJoin, joined_in, numbers_left};
+ghost use Rattle.pk_join.specs.Listed.{
+  AreIndexed,
+  AreListsOf,
+  room_for,
+  stored_words,
+  text_words,
+  words_in,
+};
+ghost use Rattle.pk_join.specs.Inputs.{LiesInside};
+ghost use Rattle.pk_model.specs.Collection.{Doc};
+ghost use Rattle.pk_posting.specs.Source.{CountsFaults};
+ghost use Rattle.pk_segment.specs.Indexed.{list_with};
+ghost use Rattle.pk_segment.specs.Listing.{LeadsTo, postings_at};
+ghost use Rattle.pk_segment.specs.Spelling.{SegmentSpells};
+
+use crate::input::MergeInput;
+use crate::joined::Joined;
+use crate::joining::{join_list, join_numbers};
+use crate::text_lists::TextLists;
+use pk_dead::Dead;
+use pk_dict::Entry;
+use pk_disk::Disk;
+use pk_posting::{ListPlace, SourceFault};
+use pk_segment::ExtentSource;
+
+/// The words of an input, rising, each with its list.
+#[derive(Drop)]
+pub enum InputLists {
+    /// Those of a segment of kind 2: the terms of its dictionary, and where in the segment its
+    /// posting lists begin.
+    Stored {
+        terms: Vec<(Vec<u8>, Entry)>,
+        postings: u32,
+    },
+    /// Those of the texts of a segment of kind 1.
+    Indexed(TextLists),
+}
+
+impl InputLists {
+    /// The kth word, the first being 0.
+    pub(crate) fn word(&self, k: usize) -> Option<&[u8]>
+        ensures { option_map (λ w. w.now) result ≡ slice_get (words_in self.now) k }
+    {
+        match self {
+            InputLists::Stored { terms, .. } => stored_word(terms, k),
+            InputLists::Indexed(lists) => text_word(lists, k),
+        }
+    }
+}
+
+fn stored_word(terms: &[(Vec<u8>, Entry)], k: usize) -> Option<&[u8]>
+    ensures { option_map (λ w. w.now) result ≡ slice_get (stored_words terms.now) k }
+{
+    if k < terms.len() {
+        Some(terms[k].0.as_slice())
+    } else {
+        None
+    }
+}
+
+fn text_word(lists: &TextLists, k: usize) -> Option<&[u8]>
+    ensures { option_map (λ w. w.now) result ≡ slice_get (text_words lists.now) k }
+{
+    if k < lists.words.len() {
+        Some(lists.words[k].as_bytes())
+    } else {
+        None
+    }
+}
+
+/// Puts what an input leaves of its kth word's list behind what is joined. It takes no memory.
+pub(crate) fn join_word<D: Disk>(
+    disk: &mut D,
+    input: &MergeInput,
+    lists: &InputLists,
+    k: usize,
+    room: &mut [u32],
+    joined: &mut Joined,
+) -> Result<(), SourceFault>
+    requires inside { LiesInside (length (D.content disk.old)) input.now }
+    requires word { k < length (words_in lists.now) }
+    requires room { room_for lists.now ≤ length room.old }
+    ensures joined { D.honest → (docs : List Doc) (w : List ℕ)
+        → SegmentSpells (extent_bytes (D.content disk.old) input.now.extent) docs input.now.kind
+        → AreListsOf lists.now input.now.kind docs → slice_get (words_in lists.now) k ≡ Some w
+        → MayJoin joined.old (numbers_left input.now.dead.now (list_with w docs))
+        → MatchResult result (λ _. joined_in joined.new
+        ≡ joined_in joined.old ++ numbers_left input.now.dead.now (list_with w docs))
+        (λ e. e ≡ SourceFault.Disk) }
+    ensures room { joined.new.room ≡ joined.old.room }
+    ensures keeps { KeepsDisk D.Disk disk.old disk.new }
+    ensures faults { CountsFaults (D.failed_reads disk.old) (D.failed_reads disk.new) result }
+{
+    match lists {
+        InputLists::Stored { terms, postings } => {
+            join_stored(disk, input, &terms[k], *postings, joined)
+        }
+        InputLists::Indexed(lists) => join_indexed(lists, input.dead, k, room, joined),
+    }
+}
+
+// The same of a term of a segment of kind 2: its list lies behind where the lists begin.
+fn join_stored<D: Disk>(
+    disk: &mut D,
+    input: &MergeInput,
+    term: &(Vec<u8>, Entry),
+    postings: u32,
+    joined: &mut Joined,
+) -> Result<(), SourceFault>
+    requires inside { LiesInside (length (D.content disk.old)) input.now }
+    ensures joined { D.honest → (docs : List Doc)
+        → SegmentSpells (extent_bytes (D.content disk.old) input.now.extent) docs 2
+        → LeadsTo docs term.now.0.items term.now.1 → postings ≡ postings_at docs
+        → MayJoin joined.old (numbers_left input.now.dead.now (list_with term.now.0.items docs))
+        → MatchResult result (λ _. joined_in joined.new
+        ≡ joined_in joined.old ++ numbers_left input.now.dead.now (list_with term.now.0.items docs))
+        (λ e. e ≡ SourceFault.Disk) }
+    ensures room { joined.new.room ≡ joined.old.room }
+    ensures keeps { KeepsDisk D.Disk disk.old disk.new }
+    ensures faults { CountsFaults (D.failed_reads disk.old) (D.failed_reads disk.new) result }
+{
+    let entry = term.1;
+    let Some(at) = postings.checked_add(entry.place.at) else {
+        return Err(SourceFault::Damaged);
+    };
+    let place = ListPlace {
+        at,
+        bytes: entry.place.bytes,
+    };
+    let mut source = ExtentSource::on(disk, input.extent);
+    join_list(&mut source, place, input.dead, joined)
+}
+
+// The same of a word of texts: its list is made in the room.
+fn join_indexed(
+    lists: &TextLists,
+    dead: &Dead,
+    k: usize,
+    room: &mut [u32],
+    joined: &mut Joined,
+) -> Result<(), SourceFault>
+    requires word { k < length (text_words lists.now) }
+    requires room { length lists.now.numbers.items ≤ length room.old }
+    ensures joined { (docs : List Doc) (w : List ℕ) → AreIndexed lists.now docs
+        → slice_get (text_words lists.now) k ≡ Some w
+        → MayJoin joined.old (numbers_left dead.now (list_with w docs))
+        → MatchResult result
+        (λ _. joined_in joined.new
+        ≡ joined_in joined.old ++ numbers_left dead.now (list_with w docs))
+        (λ e. e ≡ SourceFault.Disk) }
+    ensures cause { IfErr result (λ e. e ≡ SourceFault.Damaged) }
+    ensures room { joined.new.room ≡ joined.old.room }
+{
+    let count = lists
+        .index
+        .list_into(lists.words[k].as_str(), &lists.numbers, room);
+    join_numbers(&room[..count], dead, joined)
+}

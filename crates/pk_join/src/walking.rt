@@ -1,0 +1,155 @@
+//! The words of all inputs, one after the other, each with the inputs that have it.
+
+ghost use Rattle.std.specs.Prelude.{
+  ◌≡◌,
+  ◌≤◌,
+  ◌<◌,
+  ◌++◌,
+  [],
+  ℕ,
+  List,
+  Some,
+  false,
+  length,
+  slice_get,
+  All,
+  MatchResult,
+  OnOk,
+};
+ghost use Rattle.std.specs.Option.{option_map};
+ghost use Rattle.pk_disk.specs.Frames.{KeepsDisk};
+ghost use Rattle.pk_join.specs.Joining.{MayJoin, joined_in, room_in};
+ghost use Rattle.pk_join.specs.Listed.{AreListsOf, room_for, words_in};
+ghost use Rattle.pk_join.specs.Inputs.{LiesInside, SpellsInput, SpellsInputs};
+ghost use Rattle.pk_join.specs.Walking.{
+  AreListed,
+  CanHold,
+  IsAtHeads,
+  IsPassed,
+  head_at,
+  is_word,
+  least_of,
+  lesser_of,
+};
+ghost use Rattle.pk_posting.specs.Source.{CountsFaults};
+ghost use Rattle.pk_segment.specs.Indexed.{list_with};
+ghost use Rattle.pk_state.specs.Committed.{Stored, live_in, live_of};
+
+use crate::input::MergeInput;
+use crate::joined::Joined;
+use crate::lists::{InputLists, join_word};
+use pk_disk::Disk;
+use pk_posting::SourceFault;
+use std::cmp::Ordering;
+
+// The lesser of two words, if there are any.
+fn lesser<'a>(a: Option<&'a [u8]>, b: Option<&'a [u8]>) -> Option<&'a [u8]>
+    ensures { option_map (λ w. w.now) result
+        ≡ lesser_of (option_map (λ w. w.now) a.entry) (option_map (λ w. w.now) b.entry) }
+{
+    let Some(v) = a else {
+        return b;
+    };
+    let Some(w) = b else {
+        return a;
+    };
+    match w.cmp(v) {
+        Ordering::Less => b,
+        _ => a,
+    }
+}
+
+/// The least of the words at the heads of the inputs; none where all have come to their ends.
+pub fn least_head<'a>(lists: &'a [InputLists], heads: &[usize]) -> Option<&'a [u8]>
+    requires { length heads.now ≡ length lists.now }
+    ensures { option_map (λ w. w.now) result ≡ least_of lists.now heads.now (length lists.now) }
+{
+    let mut least = None;
+    for i in 0..lists.len() {
+        least = lesser(least, lists[i].word(heads[i]));
+    }
+    least
+}
+
+// Whether an input has the word at its head.
+fn is_head(lists: &InputLists, head: usize, word: &[u8]) -> bool
+    ensures { result ≡ is_word word.now (slice_get (words_in lists.now) head) }
+{
+    match lists.word(head) {
+        Some(other) => other == word,
+        None => false,
+    }
+}
+
+/// Passes a word: each input that has it at its head goes one on.
+pub fn pass_word(lists: &[InputLists], heads: &mut [usize], word: &[u8])
+    requires { length heads.old ≡ length lists.now }
+    ensures { IsPassed lists.now word.now heads.old heads.new }
+{
+    for i in 0..lists.len() {
+        if is_head(&lists[i], heads[i], word) {
+            heads[i] += 1;
+        }
+    }
+}
+
+// Joins what an input leaves of the list of a word, if it has it at its head.
+fn join_head<D: Disk>(
+    disk: &mut D,
+    input: &MergeInput,
+    lists: &InputLists,
+    head: usize,
+    word: &[u8],
+    room: &mut [u32],
+    joined: &mut Joined,
+) -> Result<(), SourceFault>
+    requires inside { LiesInside (length (D.content disk.old)) input.now }
+    requires room { room_for lists.now ≤ length room.old }
+    ensures joined { D.honest → (s : Stored) → SpellsInput (D.content disk.old) input.now s
+        → AreListsOf lists.now input.now.kind s.documents
+        → (is_word word.now (slice_get (words_in lists.now) head) ≡ false
+        → list_with word.now (live_of s) ≡ [])
+        → MayJoin joined.old (list_with word.now (live_of s)) → MatchResult result
+        (λ _. joined_in joined.new ≡ joined_in joined.old ++ list_with word.now (live_of s))
+        (λ e. e ≡ SourceFault.Disk) }
+    ensures room { joined.new.room ≡ joined.old.room }
+    ensures keeps { KeepsDisk D.Disk disk.old disk.new }
+    ensures faults { CountsFaults (D.failed_reads disk.old) (D.failed_reads disk.new) result }
+{
+    if !is_head(lists, head, word) {
+        return Ok(());
+    }
+    join_word(disk, input, lists, head, room, joined)
+}
+
+/// Joins what all inputs leave of the list of a word, which those have at their heads that have
+/// it. It takes no memory.
+pub fn join_all<D: Disk>(
+    disk: &mut D,
+    inputs: &[MergeInput],
+    lists: &[InputLists],
+    heads: &[usize],
+    word: &[u8],
+    room: &mut [u32],
+    joined: &mut Joined,
+) -> Result<(), SourceFault>
+    requires heads { length heads.now ≡ length lists.now }
+    requires inputs { length inputs.now ≡ length lists.now }
+    requires inside { All (LiesInside (length (D.content disk.old))) inputs.now }
+    requires room { All (λ l. room_for l ≤ length room.old) lists.now }
+    ensures joined { D.honest → (stored : List Stored)
+        → SpellsInputs (D.content disk.old) inputs.now stored
+        → AreListed inputs.now lists.now stored → CanHold stored (room_in joined.old)
+        → IsAtHeads lists.now heads.now word.now stored → MatchResult result
+        (λ _. joined_in joined.new ≡ list_with word.now (live_in stored))
+        (λ e. e ≡ SourceFault.Disk) }
+    ensures room { room_in joined.new ≡ room_in joined.old }
+    ensures keeps { KeepsDisk D.Disk disk.old disk.new }
+    ensures faults { CountsFaults (D.failed_reads disk.old) (D.failed_reads disk.new) result }
+{
+    joined.clear();
+    for i in 0..lists.len() {
+        join_head(disk, &inputs[i], &lists[i], heads[i], word, room, joined)?;
+    }
+    Ok(())
+}

@@ -1,0 +1,93 @@
+-- One input after the other.
+use Rattle.std.proofs.Common.{◌∙◌, ◌∷◌, ◌++◌, [], ◌<◌, ◌+◌, List, ℕ, length, take, drop, refl, sym, ap, subst, arith}
+use Rattle.std.proofs.lemmas.List.{length-append, take_all}
+use Rattle.std.proofs.lemmas.Result.{err_from_is_err_and}
+use Rattle.pk_disk.proofs.FrameLemmas.{keeps_disk_then}
+use Rattle.pk_join.specs.declared.input.MergeInput.{MergeInput}
+use Rattle.pk_join.specs.declared.lists.InputLists.{InputLists}
+use Rattle.pk_join.specs.Inputs.{SpellsInputs}
+use Rattle.pk_join.specs.Walking.{AreListed, stored_at}
+use Rattle.pk_join.proofs.InputLemmas.{input_at, inputs_long, live_append, take_stored}
+use Rattle.pk_join.proofs.WalkLemmas.{inputs_more, listed_snoc}
+use Rattle.pk_model.specs.Collection.{Doc}
+use Rattle.pk_state.specs.Committed.{Stored, all_in, live_in}
+use Rattle.pk_merge.specs.declared.fault.MergeFault.{MergeFault}
+use Rattle.pk_merge.specs.Gathering.{RiseFrom, left_by}
+use Rattle.pk_merge.specs.Keeping.{AreKept}
+use Rattle.pk_merge.specs.Left.{kept_in}
+use Rattle.pk_merge.specs.Merging.{MergeFails}
+use Rattle.pk_merge.specs.Output.{LiesApart}
+use Rattle.pk_merge.proofs.GatherLemmas.{fails_longer, left_next, left_on}
+use Rattle.pk_merge.proofs.InputLemmas.{all_on, live_here}
+use Rattle.pk_merge.proofs.reading.read_all.Goals as goal
+
+pub returns-in_err-of_input-clause-read : goal.returns-in_err-of_input-clause-read
+returns-in_err-of_input-clause-read g c = λ honest so_far stored spells rise are.
+    let content = g.D.Disk.content in
+    let inv = c.loop-input.invariant in
+    let i = c.loop-input.input-index in
+    let s = stored_at stored i in
+    let x = c.input-item.result in
+    let dead = x.dead.now in
+    let lt : i < length stored = omega (arith, c.loop-input-test.true, inputs_long (content c.args.disk.now) c.args.inputs.now stored spells) in
+    let same = (inv.keeps.read honest).bytes in
+    let here = subst (λ (b : List ℕ). SpellsInputs b c.args.inputs.now stored) (sym same) spells in
+    let input = input_at (content c.loop-input.disk) c.args.inputs.now stored i x here c.loop-input-test.true c.input-item.is in
+    let known = inv.read honest so_far stored spells rise are in
+    let next = subst (λ (ds : List Doc). RiseFrom c.loop-input.left.last ds) (all_on stored i lt) known.2 in
+    let before = so_far ++ live_in (take i stored) in
+    let kept = subst (λ (b : List ℕ). AreKept b (kept_in c.loop-input.left) before) (sym same) known.1 in
+    let part = left_by dead s.documents in
+    let fault = c.in_err-of_input.ensures.read honest before s.documents (all_in (drop (i + 1) stored)) input.segment next kept in
+    let on = left_on live_in live_append stored i s so_far before part (take_stored stored i lt) (live_here dead s input.dead) refl in
+    let found = err_from_is_err_and c.from_residual-in_err-of_input.result c.from_residual-in_err-of_input.ensures.1 in
+    rw found.1 (subst (λ (y : MergeFault). MergeFails (so_far ++ live_in stored) 1 y) (sym found.2)
+    (fails_longer (before ++ part) (live_in (drop (i + 1) stored)) (so_far ++ live_in stored) c.in_err-of_input.field-0.0 on fault))
+
+pub loop-input-preserved : goal.loop-input-preserved
+loop-input-preserved g c =
+    let content = g.D.Disk.content in
+    let inv = c.loop-input.invariant in
+    let i = c.loop-input.input-index in
+    let x = c.input-item.result in
+    record {
+      keeps = keeps_disk_then _ _ _ _ inv.keeps c.read_input.ensures.keeps;
+      reads = c.in_ok-of_input.ensures.reads.ok ∙ inv.reads;
+      disk_bytes = c.read_input.ensures.disk_bytes ∙ inv.disk_bytes;
+      apart = λ before start end all. c.in_ok-of_input.ensures.between start end (subst (LiesApart start end) (sym c.input-item.is) (all i x c.loop-input-test.true)) (inv.apart before start end all);
+      long = ap length c.in-Ok.ensures.items ∙ omega (arith, length-append c.loop-input.lists.items (c.in_ok-of_input.of_input ∷ []), inv.long);
+      read = λ honest so_far stored spells rise are.
+          let s = stored_at stored i in
+          let dead = x.dead.now in
+          let lt : i < length stored = omega (arith, c.loop-input-test.true, inputs_long (content c.args.disk.now) c.args.inputs.now stored spells) in
+          let same = (inv.keeps.read honest).bytes in
+          let here = subst (λ (b : List ℕ). SpellsInputs b c.args.inputs.now stored) (sym same) spells in
+          let input = input_at (content c.loop-input.disk) c.args.inputs.now stored i x here c.loop-input-test.true c.input-item.is in
+          let known = inv.read honest so_far stored spells rise are in
+          let next = subst (λ (ds : List Doc). RiseFrom c.loop-input.left.last ds) (all_on stored i lt) known.2 in
+          let before = so_far ++ live_in (take i stored) in
+          let kept = subst (λ (b : List ℕ). AreKept b (kept_in c.loop-input.left) before) (sym same) known.1 in
+          let part = left_by dead s.documents in
+          let has = c.in_ok-of_input.ensures.read honest before s.documents (all_in (drop (i + 1) stored)) input.segment next kept in
+          let all = left_next live_in live_append stored i s so_far before part (take_stored stored i lt) (live_here dead s input.dead) refl in
+          let more = listed_snoc (take i c.args.inputs.now) c.loop-input.lists.items (take i stored) x c.in_ok-of_input.of_input s known.0 has.listed in (
+            subst (λ (is : List MergeInput). AreListed is c.push.new.self.items (take (i + 1) stored)) (sym (inputs_more c.args.inputs.now i x c.loop-input-test.true c.input-item.is))
+                (subst (λ (ls : List InputLists). AreListed (take i c.args.inputs.now ++ x ∷ []) ls (take (i + 1) stored)) (sym c.in-Ok.ensures.items)
+                (subst (AreListed (take i c.args.inputs.now ++ x ∷ []) (c.loop-input.lists.items ++ c.in_ok-of_input.of_input ∷ [])) (sym (take_stored stored i lt)) more)),
+            subst (λ (b : List ℕ). AreKept b (kept_in c.read_input.new.left) (so_far ++ live_in (take (i + 1) stored))) same
+                (subst (AreKept (content c.loop-input.disk) (kept_in c.read_input.new.left)) all has.kept),
+            has.rise,
+          );
+    }
+
+pub returns-clause-read : goal.returns-clause-read
+returns-clause-read g c = λ honest so_far stored spells rise are.
+    let content = g.D.Disk.content in
+    let i = c.loop-input.input-index in
+    let known = c.loop-input.invariant.read honest so_far stored spells rise are in
+    let long = inputs_long (content c.args.disk.now) c.args.inputs.now stored spells in
+    let all = take_all i stored (omega (arith, c.loop-input-test.false, long)) in
+    let each = take_all i c.args.inputs.now (omega (arith, c.loop-input-test.false)) in (
+      subst (λ (is : List MergeInput). AreListed is c.loop-input.lists.items stored) each (subst (AreListed (take i c.args.inputs.now) c.loop-input.lists.items) all known.0),
+      subst (λ (ss : List Stored). AreKept (content c.args.disk.now) (kept_in c.loop-input.left) (so_far ++ live_in ss)) all known.1,
+    )

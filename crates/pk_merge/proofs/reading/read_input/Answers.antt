@@ -1,0 +1,22 @@
+-- The source is the extent, which begins at its place.
+use Rattle.std.proofs.Common.{◌≡◌, ◌∙◌, ◌+◌, ◌*◌, ℕ, length, drop, ap, subst, arith}
+use Rattle.std.specs.Prelude.{OnOk}
+use Rattle.std.proofs.lemmas.List.{length-drop, length-take-le}
+use Rattle.pk_disk.specs.Units.{DiskExtent, extent_bytes, start_of}
+use Rattle.pk_merge.specs.Keeping.{KeepsBetween}
+use Rattle.pk_merge.specs.Left.{kept_in}
+use Rattle.pk_merge.proofs.reading.read_input.Goals as goal
+
+pub returns-clause-between : goal.returns-clause-between
+returns-clause-between g c =
+    let extent = c.args.input.now.extent in
+    let source = c.on-source.result in
+    let content = g.D.Disk.content source.disk.now in
+    let ks = kept_in c.args.left.now in
+    let new = kept_in c.read_from.new.left in
+    let start : 512 * c.from-start.result ≡ start_of extent = omega (arith, c.from-start.ensures) in
+    let long : length (extent_bytes content source.extent) ≡ extent.bytes =
+    length-take-le source.extent.bytes (drop (start_of source.extent) content) (omega (arith, length-drop (start_of source.extent) content, source.inside))
+    ∙ ap (λ (x : DiskExtent). x.bytes) c.on-source.ensures.extent in
+    subst (λ (n : ℕ). OnOk c.read_from.result (KeepsBetween n (n + extent.bytes) ks new)) start
+    (subst (λ (n : ℕ). OnOk c.read_from.result (KeepsBetween (512 * c.from-start.result) (512 * c.from-start.result + n) ks new)) long c.read_from.ensures.between)

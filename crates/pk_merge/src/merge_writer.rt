@@ -1,0 +1,52 @@
+//! A prepared merge as a writer, for a body that is put in force with it.
+
+use crate::prepared::Prepared;
+use pk_disk::Disk;
+use pk_join::MergeInput;
+use pk_replace::{StreamFault, WritesExtent};
+
+/// The writer of a prepared merge: it writes the segment behind the bodies, as it reads the inputs.
+#[derive(Drop)]
+pub struct MergeWriter<'a> {
+    /// What is prepared.
+    pub prepared: Prepared,
+    /// Its inputs.
+    pub inputs: &'a [MergeInput<'a>],
+    /// The unit that the segment begins at.
+    pub first: u32,
+}
+
+impl<'a> WritesExtent for MergeWriter<'a> {
+    ghost use Rattle.std.specs.Prelude.{◌*◌};
+    ghost use Rattle.pk_disk.specs.Disk.{in_range};
+    ghost use Rattle.pk_merge.specs.Streaming.{
+      CanStream,
+      IsSoundMerge,
+      PromisesMerge,
+      far_merge,
+      promise_still,
+      sound_still,
+    };
+
+    ghost can_write = { λ w size. CanStream size w.first w.inputs.now w.prepared };
+
+    ghost touches = { λ w. in_range (512 * w.first) w.prepared.size };
+
+    ghost promises = { λ w. PromisesMerge w.first w.inputs.now w.prepared };
+
+    ghost is_sound = { λ w. IsSoundMerge w.inputs.now w.prepared };
+
+    ghost reads_nothing = { λ w. ⊥ };
+
+    fn write_into<D: Disk>(self, disk: &mut D) -> Result<(), StreamFault> {
+        self.prepared.write_segment(disk, self.inputs, self.first)
+    }
+
+    ghost is_far = { λ w size can. far_merge size w.first w.inputs.now w.prepared can };
+
+    ghost promises_stay = { λ w bytes bytes' c agree is.
+        promise_still w.first w.inputs.now w.prepared bytes bytes' c agree is };
+
+    ghost sound_stays = { λ w bytes bytes' agree is.
+        sound_still w.inputs.now w.prepared bytes bytes' agree is };
+}

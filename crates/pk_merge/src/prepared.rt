@@ -1,0 +1,59 @@
+//! A merge that is prepared: all that it needs to be written, and its memory.
+
+ghost use Rattle.std.specs.Prelude.{◌≡◌, ◌≤◌, ◌<◌, ℕ, length, slice_index, All};
+ghost use Rattle.pk_join.specs.Listed.{room_for};
+ghost use Rattle.pk_merge.specs.Keeping.{EndBy};
+
+use crate::kept::Kept;
+use pk_join::{InputLists, Joined};
+
+/// A merge that is prepared: how long its segment is, and all that is written but the texts and the
+/// posting lists.
+#[derive(Drop)]
+pub struct Prepared {
+    // The documents that are left.
+    pub(crate) documents: Vec<Kept>,
+    // How many bytes the disk has.
+    pub(crate) disk_bytes: u64,
+    // The words of each input, with their lists,
+    pub(crate) lists: Vec<InputLists>,
+    // and how many of them were passed: none.
+    pub(crate) heads: Vec<usize>,
+    // Where a list of texts is made.
+    pub(crate) room: Vec<u32>,
+    // Where the list of a word is joined.
+    pub(crate) joined: Joined,
+    // Where it is spelled.
+    pub(crate) encoded: Vec<u8>,
+    // Where bytes are held until they are written.
+    pub(crate) buffer: Vec<u8>,
+    // The header and the directory.
+    pub(crate) front: Vec<u8>,
+    // The dictionary.
+    pub(crate) dictionary: Vec<u8>,
+    // How many bytes the segment has.
+    pub(crate) size: u32,
+    ghost start: { (i : ℕ) → slice_index heads.items i ≡ 0 },
+    ghost heads_long: { length heads.items ≡ length lists.items },
+    ghost enough: { All (λ l. room_for l ≤ length room.items) lists.items },
+    ghost some: { 0 < length buffer.items },
+    ghost inside: { All (EndBy disk_bytes) documents.items },
+}
+
+impl Prepared {
+    ghost use Rattle.std.specs.Prelude.{List};
+    ghost use Rattle.pk_join.specs.declared.input.MergeInput.{MergeInput};
+    ghost use Rattle.pk_merge.specs.Prepared.{IsPrepared};
+    ghost use Rattle.pk_segment.specs.Spelling.{longest, segment_length};
+    ghost use Rattle.pk_state.specs.Committed.{Stored, live_in};
+
+    /// How many bytes the segment of kind 2 of the documents that are left has.
+    pub fn size(&self) -> u32
+        ensures value { result ≡ self.now.size }
+        ensures long { (bytes : List ℕ) (inputs : List MergeInput) (stored : List Stored)
+            → IsPrepared bytes inputs stored self.now
+            → (result ≡ segment_length (live_in stored) 2) × (result ≤ longest) }
+    {
+        self.size
+    }
+}

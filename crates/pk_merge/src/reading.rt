@@ -1,0 +1,134 @@
+//! What a merge reads of an input before it writes: the documents that are left, and the words.
+
+ghost use Rattle.std.specs.Prelude.{
+  ◌≡◌,
+  ◌≤◌,
+  ◌+◌,
+  ◌++◌,
+  ℕ,
+  List,
+  length,
+  take,
+  drop,
+  All,
+  IfOk,
+  OnOk,
+};
+ghost use Rattle.pk_disk.specs.Frames.{KeepsDisk};
+ghost use Rattle.pk_disk.specs.Units.{extent_bytes, start_of};
+ghost use Rattle.pk_join.specs.Inputs.{HasKind, LiesInside, SpellsInputs};
+ghost use Rattle.pk_join.specs.Reading.{IndexesAs, ListsAs, TextListsAs};
+ghost use Rattle.pk_merge.specs.Gathering.{RiseFrom, left_by};
+ghost use Rattle.pk_merge.specs.Inputs.{ReadsAs};
+ghost use Rattle.pk_merge.specs.Keeping.{AreKept, KeepsBetween, StayApart};
+ghost use Rattle.pk_merge.specs.Left.{kept_in};
+ghost use Rattle.pk_merge.specs.Merging.{CountsMerge};
+ghost use Rattle.pk_merge.specs.ReadAll.{ReadsAllAs};
+ghost use Rattle.pk_model.specs.Collection.{Doc};
+ghost use Rattle.pk_segment.specs.Spelling.{IsKind, SegmentSpells};
+ghost use Rattle.pk_state.specs.Committed.{Stored, all_in};
+
+use crate::fault::MergeFault;
+use crate::left::Left;
+use pk_dead::Dead;
+use pk_disk::{Disk, UNIT};
+use pk_join::{InputLists, MergeInput, read_lists};
+use pk_posting::ByteSource;
+use pk_segment::{ExtentSource, Segment};
+use std::alloc::Global;
+
+// The words of a segment that is all of a source, whose bytes begin at a position of the disk; and
+// the documents that it leaves.
+fn read_from<S: ByteSource>(
+    alloc: Global,
+    source: &mut S,
+    kind: u32,
+    start: u64,
+    dead: &Dead,
+    left: &mut Left,
+) -> Result<InputLists, MergeFault>
+    requires kind { IsKind kind }
+    requires inside { start + length (S.content source.old) ≤ left.old.disk_bytes }
+    ensures read { S.honest → (bytes : List ℕ) (so_far docs more : List Doc)
+        → S.content source.old ≡ take (length (S.content source.old)) (drop start bytes)
+        → SegmentSpells (S.content source.old) docs kind → RiseFrom left.old.last (docs ++ more)
+        → AreKept bytes (kept_in left.old) so_far
+        → ReadsAs kind bytes so_far docs (left_by dead.now docs) more left.new result }
+    ensures between { OnOk result (KeepsBetween start (start + length (S.content source.old))
+        (kept_in left.old) (kept_in left.new)) }
+    ensures disk_bytes { left.new.disk_bytes ≡ left.old.disk_bytes }
+    ensures keeps { S.keeps source.old source.new }
+    ensures faults { CountsMerge (S.failures source.old) (S.failures source.new) result }
+{
+    let bytes = source.len();
+    let segment = Segment::open(source, bytes, kind)?;
+    let directory = segment.directory(alloc, source)?;
+    let texts = start.saturating_add(24 + 12 * u64::from(segment.count()));
+    let end = start + u64::from(bytes);
+    left.take_all(&directory, texts, end, dead)?;
+    let lists = read_lists(alloc, source, kind, &segment, &directory)?;
+    Ok(lists)
+}
+
+/// The words of an input, with their lists, and the documents that it leaves.
+///
+/// Answers `TooLarge` where even a segment without an index would be too long, `Damaged` where the
+/// input is no segment or the numbers don't rise, `Disk` where a read failed, or `Memory`.
+pub(crate) fn read_input<D: Disk>(
+    alloc: Global,
+    disk: &mut D,
+    input: &MergeInput,
+    left: &mut Left,
+) -> Result<InputLists, MergeFault>
+    requires kind { HasKind input.now }
+    requires inside { LiesInside (length (D.content disk.old)) input.now }
+    requires disk_bytes { left.old.disk_bytes ≡ length (D.content disk.old) }
+    ensures read { D.honest → (so_far docs more : List Doc)
+        → SegmentSpells (extent_bytes (D.content disk.old) input.now.extent) docs input.now.kind
+        → RiseFrom left.old.last (docs ++ more)
+        → AreKept (D.content disk.old) (kept_in left.old) so_far
+        → ReadsAs input.now.kind (D.content disk.old) so_far docs (left_by input.now.dead.now docs)
+        more left.new result }
+    ensures between { OnOk result (KeepsBetween (start_of input.now.extent)
+        (start_of input.now.extent + input.now.extent.bytes)
+        (kept_in left.old) (kept_in left.new)) }
+    ensures disk_bytes { left.new.disk_bytes ≡ left.old.disk_bytes }
+    ensures keeps { KeepsDisk D.Disk disk.old disk.new }
+    ensures reads { CountsMerge (D.failed_reads disk.old) (D.failed_reads disk.new) result }
+{
+    let start = UNIT * u64::from(input.extent.first);
+    let mut source = ExtentSource::on(disk, input.extent);
+    read_from(alloc, &mut source, input.kind, start, input.dead, left)
+}
+
+/// The words of all inputs, with their lists, and the documents that they leave.
+pub(crate) fn read_all<D: Disk>(
+    alloc: Global,
+    disk: &mut D,
+    inputs: &[MergeInput],
+    left: &mut Left,
+) -> Result<Vec<InputLists>, MergeFault>
+    requires kinds { All HasKind inputs.now }
+    requires inside { All (LiesInside (length (D.content disk.old))) inputs.now }
+    requires disk_bytes { left.old.disk_bytes ≡ length (D.content disk.old) }
+    ensures read { D.honest → (so_far : List Doc) (stored : List Stored)
+        → SpellsInputs (D.content disk.old) inputs.now stored
+        → RiseFrom left.old.last (all_in stored)
+        → AreKept (D.content disk.old) (kept_in left.old) so_far
+        → ReadsAllAs (D.content disk.old) so_far inputs.now stored left.new result }
+    ensures apart { StayApart inputs.now (kept_in left.old)
+        → OnOk result (StayApart inputs.now (kept_in left.new)) }
+    ensures long { IfOk result (λ v. length v.items ≡ length inputs.now) }
+    ensures disk_bytes { left.new.disk_bytes ≡ left.old.disk_bytes }
+    ensures keeps { KeepsDisk D.Disk disk.old disk.new }
+    ensures reads { CountsMerge (D.failed_reads disk.old) (D.failed_reads disk.new) result }
+{
+    let mut lists = Vec::with_capacity(alloc, inputs.len())?;
+    for input in inputs {
+        let of_input = read_input(alloc, disk, input, left)?;
+        let Ok(()) = lists.push(of_input) else {
+            return Err(MergeFault::Memory);
+        };
+    }
+    Ok(lists)
+}

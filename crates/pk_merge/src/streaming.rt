@@ -1,0 +1,182 @@
+//! A merge that is prepared, written as it is read.
+
+ghost use Rattle.std.specs.Prelude.{
+  ◌≡◌,
+  ◌⊎◌,
+  ◌≤◌,
+  ◌+◌,
+  ◌*◌,
+  ◌++◌,
+  ℕ,
+  List,
+  length,
+  slice_index,
+  take,
+  drop,
+  All,
+  IfErr,
+  OnOk,
+};
+ghost use Rattle.pk_disk.specs.Disk.{in_range};
+ghost use Rattle.pk_join.specs.Inputs.{LiesInside, SpellsInputs};
+ghost use Rattle.pk_join.specs.Joining.{room_in};
+ghost use Rattle.pk_join.specs.Listed.{room_for};
+ghost use Rattle.pk_join.specs.Walking.{AreListed, CanHold};
+ghost use Rattle.pk_merge.specs.Keeping.{AreKept, EndBy, KeptApart};
+ghost use Rattle.pk_merge.specs.Output.{AreGiven, IsGiven, LiesApart};
+ghost use Rattle.pk_merge.specs.Prepared.{CanMerge, IsPrepared};
+ghost use Rattle.pk_model.specs.Collection.{Doc};
+ghost use Rattle.pk_model.specs.Terms.{terms_of};
+ghost use Rattle.pk_posting.specs.Spelling.{spelling as list_spelling};
+ghost use Rattle.pk_replace.specs.Cause.{IsCause, IsUndamaged};
+ghost use Rattle.pk_replace.specs.Writing.{WritesOnly};
+ghost use Rattle.pk_segment.specs.Indexed.{list_with, postings};
+ghost use Rattle.pk_segment.specs.Spelling.{segment_spelling, texts};
+ghost use Rattle.pk_state.specs.Committed.{Stored, live_in};
+
+use crate::fault::MergeFault;
+use crate::kept::Kept;
+use crate::output::Output;
+use crate::prepared::Prepared;
+use crate::texts::write_texts;
+use crate::writing::write_lists;
+use pk_disk::{Disk, UNIT};
+use pk_join::{InputLists, Joined, MergeInput};
+use pk_replace::StreamFault;
+
+// Gives header, directory and texts.
+fn write_front<D: Disk>(
+    disk: &mut D,
+    front: &[u8],
+    documents: &[Kept],
+    disk_bytes: u64,
+    output: &mut Output,
+) -> Result<(), StreamFault>
+    requires disk_bytes { disk_bytes ≡ length (D.content disk.old) }
+    requires inside { All (EndBy disk_bytes) documents.now }
+    requires stretch { output.old.end ≤ length (D.content disk.old) }
+    requires apart { All (KeptApart output.old.start output.old.end) documents.now }
+    ensures given { IsGiven D.Disk disk.old disk.new output.old output.new result }
+    ensures bytes { D.honest → (docs : List Doc) → AreKept (D.content disk.old) documents.now docs
+        → output.old.at + output.old.filled + length (front.now ++ texts docs) ≤ output.old.end
+        → AreGiven D.Disk disk.old disk.new output.old output.new (front.now ++ texts docs)
+        result }
+{
+    output.offer(disk, front)?;
+    write_texts(disk, documents, disk_bytes, output)
+}
+
+// Gives posting lists and dictionary.
+fn write_index<D: Disk>(
+    disk: &mut D,
+    inputs: &[MergeInput],
+    lists: &[InputLists],
+    heads: &mut [usize],
+    room: &mut [u32],
+    joined: &mut Joined,
+    encoded: &mut [u8],
+    dictionary: &[u8],
+    output: &mut Output,
+) -> Result<(), StreamFault>
+    requires heads { length heads.old ≡ length lists.now }
+    requires start { (i : ℕ) → slice_index heads.old i ≡ 0 }
+    requires inputs { length inputs.now ≡ length lists.now }
+    requires inside { All (LiesInside (length (D.content disk.old))) inputs.now }
+    requires room { All (λ l. room_for l ≤ length room.old) lists.now }
+    requires stretch { output.old.end ≤ length (D.content disk.old) }
+    ensures given { IsGiven D.Disk disk.old disk.new output.old output.new result }
+    ensures bytes { D.honest → (stored : List Stored)
+        → SpellsInputs (D.content disk.old) inputs.now stored
+        → AreListed inputs.now lists.now stored → CanHold stored (room_in joined.old)
+        → All (LiesApart output.old.start output.old.end) inputs.now
+        → All (λ w. length (list_spelling (list_with w (live_in stored))) ≤ length encoded.old)
+        (terms_of (live_in stored))
+        → output.old.at + output.old.filled
+        + length (postings (live_in stored) ++ dictionary.now) ≤ output.old.end
+        → AreGiven D.Disk disk.old disk.new output.old output.new
+        (postings (live_in stored) ++ dictionary.now) result }
+{
+    write_lists(disk, inputs, lists, heads, room, joined, encoded, output)?;
+    output.offer(disk, dictionary)
+}
+
+impl Prepared {
+    ghost use Rattle.pk_merge.specs.Streaming.{IsMergeCause};
+
+    /// Writes the segment from unit `first` on, as it is read. It takes no memory.
+    pub(crate) fn write_segment<D: Disk>(
+        self,
+        disk: &mut D,
+        inputs: &[MergeInput],
+        first: u32,
+    ) -> Result<(), StreamFault>
+        requires { CanMerge (length (D.content disk.old)) first inputs.now self }
+        ensures writes { WritesOnly D.Disk (in_range (512 * first) self.size) disk.old disk.new }
+        ensures there { D.honest → (stored : List Stored)
+            → SpellsInputs (D.content disk.old) inputs.now stored
+            → IsPrepared (D.content disk.old) inputs.now stored self
+            → OnOk result (take self.size (drop (512 * first) (D.content disk.new))
+            ≡ segment_spelling (live_in stored) 2) }
+        ensures undamaged { D.honest → (stored : List Stored)
+            → SpellsInputs (D.content disk.old) inputs.now stored
+            → IsPrepared (D.content disk.old) inputs.now stored self → IsUndamaged result }
+        ensures cause { IsCause D.Disk disk.old disk.new result }
+    {
+        let start = UNIT * u64::from(first);
+        let mut output = Output::over(self.buffer, start, start + u64::from(self.size));
+        write_front(
+            disk,
+            &self.front,
+            &self.documents,
+            self.disk_bytes,
+            &mut output,
+        )?;
+        let mut heads = self.heads;
+        let mut room = self.room;
+        let mut joined = self.joined;
+        let mut encoded = self.encoded;
+        write_index(
+            disk,
+            inputs,
+            &self.lists,
+            &mut heads,
+            &mut room,
+            &mut joined,
+            &mut encoded,
+            &self.dictionary,
+            &mut output,
+        )?;
+        output.flush(disk)
+    }
+
+    /// Writes the segment that is prepared from unit `first` on, as it is read: in writes of 65,536
+    /// bytes, the last one perhaps shorter, and in the memory that `prepare` took. The inputs are
+    /// those that it was prepared from, and none of them has a position of the segment's place. No
+    /// other position is written, whatever is answered.
+    ///
+    /// Answers `Damaged` where what is read isn't what was prepared, `Disk` where a read failed, or
+    /// `NotWritten` where a write failed.
+    pub fn merge_into<D: Disk>(
+        self,
+        disk: &mut D,
+        inputs: &[MergeInput],
+        first: u32,
+    ) -> Result<(), MergeFault>
+        requires { CanMerge (length (D.content disk.old)) first inputs.now self }
+        ensures writes { WritesOnly D.Disk (in_range (512 * first) self.size) disk.old disk.new }
+        ensures there { D.honest → (stored : List Stored)
+            → SpellsInputs (D.content disk.old) inputs.now stored
+            → IsPrepared (D.content disk.old) inputs.now stored self
+            → OnOk result (take self.size (drop (512 * first) (D.content disk.new))
+            ≡ segment_spelling (live_in stored) 2) }
+        ensures undamaged { D.honest → (stored : List Stored)
+            → SpellsInputs (D.content disk.old) inputs.now stored
+            → IsPrepared (D.content disk.old) inputs.now stored self
+            → IfErr result (λ f. (f ≡ MergeFault.Disk) ⊎ (f ≡ MergeFault.NotWritten)) }
+        ensures size { length (D.content disk.new) ≡ length (D.content disk.old) }
+        ensures cause { IsMergeCause D.Disk disk.old disk.new result }
+    {
+        self.write_segment(disk, inputs, first)?;
+        Ok(())
+    }
+}
