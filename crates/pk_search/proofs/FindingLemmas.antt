@@ -13,7 +13,9 @@ use Rattle.pk_model.specs.Tree.{Tree, satisfies}
 use Rattle.pk_model.specs.Views.{numbers_in}
 use Rattle.pk_model.specs.Words.{words_of}
 use Rattle.pk_segment.specs.declared.fault.ReadFault.{ReadFault}
-use Rattle.pk_segment.specs.Spelling.{DirectorySpells, SegmentSpells}
+use Rattle.pk_disk.specs.Units.{extent_bytes}
+use Rattle.pk_segment.specs.Opened.{IsSegmentOf}
+use Rattle.pk_segment.specs.Spelling.{DirectorySpells, IndexSpells, SegmentSpells}
 use Rattle.pk_segment.specs.Reading.{IsNoDamage}
 use Rattle.pk_manifest.specs.declared.manifest.Part.{Part as Entry}
 use Rattle.pk_disk.specs.Units.{start_of}
@@ -209,22 +211,23 @@ push_last [] x (suc j) d lt le = absurd (omega arith)
 push_last (y ∷ ys) x zero d lt le = absurd (omega arith)
 push_last (y ∷ ys) x (suc j) d lt le = push_last ys x j d (omega arith) (omega arith)
 
-pub none_kept : (parts : List Entry) (stored : List Stored) (kept : List (Vec WordEntry)) → kept ≡ [] → AreKept parts stored kept
-none_kept parts stored kept e i part entries lt at there two = absurd (let k : length kept ≡ 0 = ap length e in omega (arith, lt, k))
+pub none_kept : (bytes : List ℕ) (parts : List Entry) (opened : List OpenSegment) (kept : List (Vec WordEntry)) → kept ≡ [] → AreKept bytes parts opened kept
+none_kept bytes parts opened kept e i part o entries lt at part_open there two docs is of = absurd (let k : length kept ≡ 0 = ap length e in omega (arith, lt, k))
 
-pub one_kept : (parts : List Entry) (stored : List Stored) (kept now : List (Vec WordEntry)) (i : ℕ) (v : Vec WordEntry) (e : Entry) → now ≡ kept ++ v ∷ [] → length kept ≡ i → i < length parts → e ≡ get_or parts i e
-    → AreKept parts stored kept → (e.kind ≡ 2 → AreEntriesOf v.items (get_or stored i none_stored).documents) → AreKept parts stored now
-one_kept parts stored kept now i v e is long inside at are one j part entries lt part_at there two =
+pub one_kept : (bytes : List ℕ) (parts : List Entry) (opened : List OpenSegment) (kept now : List (Vec WordEntry)) (i : ℕ) (v : Vec WordEntry) (e : Entry) (p : OpenSegment)
+    → now ≡ kept ++ v ∷ [] → length kept ≡ i → i < length parts → i < length opened → e ≡ get_or parts i e → p ≡ get_or opened i p
+    → AreKept bytes parts opened kept → (e.kind ≡ 2 → (docs : List Doc) → IndexSpells (extent_bytes bytes e.extent) docs → IsSegmentOf p.segment docs → AreEntriesOf v.items docs) → AreKept bytes parts opened now
+one_kept bytes parts opened kept now i v e p is long inside within at open_at are one j part o entries lt part_at o_at there two docs index of =
     let size = length-append kept (v ∷ []) in
     let less : j < length (kept ++ v ∷ []) = subst (λ (vs : List (Vec WordEntry)). j < length vs) is lt in
     let there_now : entries ≡ get_or (kept ++ v ∷ []) j entries = subst (λ (vs : List (Vec WordEntry)). entries ≡ get_or vs j entries) is there in
     elim (cases_lt j (length kept)) [
-      | inl l ↦ are j part entries l part_at (there_now ∙ push_before kept v j entries l) two
+      | inl l ↦ are j part o entries l part_at o_at (there_now ∙ push_before kept v j entries l) two docs index of
       | inr g ↦ (
           let same : j ≡ i = omega (arith, less, g, size, long) in
           let part_is : part ≡ e = part_at ∙ ap (λ (k : ℕ). get_or parts k part) same ∙ any_or parts i part e inside ∙ sym at in
+          let o_is : o ≡ p = o_at ∙ ap (λ (k : ℕ). get_or opened k o) same ∙ any_or opened i o p within ∙ sym open_at in
           let entries_is : entries ≡ v = there_now ∙ push_last kept v j entries less g in
-          let here = one (subst (λ (p : Entry). p.kind ≡ 2) part_is two) in
-          subst (λ (w : Vec WordEntry). AreEntriesOf w.items (get_or stored j none_stored).documents) (sym entries_is)
-          (subst (λ (k : ℕ). AreEntriesOf v.items (get_or stored k none_stored).documents) (sym same) here))
+          let here = one (subst (λ (x : Entry). x.kind ≡ 2) part_is two) docs (subst (λ (x : Entry). IndexSpells (extent_bytes bytes x.extent) docs) part_is index) (subst (λ (x : OpenSegment). IsSegmentOf x.segment docs) o_is of) in
+          subst (λ (w : Vec WordEntry). AreEntriesOf w.items docs) (sym entries_is) here)
     ]

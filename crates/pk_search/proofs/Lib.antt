@@ -1,4 +1,5 @@
 -- The lemma pages; those that callers cite are public.
+pub mod CacheLemmas
 pub mod FindingLemmas
 mod JoinLemmas
 mod ListLemmas

@@ -1,4 +1,5 @@
 -- The definitions that the contracts cite.
+pub mod Cached
 pub mod Finding
 pub mod Matching
 pub mod Opened

@@ -2,6 +2,7 @@
 use Rattle.std.specs.Prelude.{◌≡◌, ◌≤◌, ◌<◌, ◌+◌, ℕ, All, List, Result, Ok, Err, get_or, length}
 use Rattle.std.specs.Global.{Vec}
 use Rattle.std.specs.List.Sorted.{IsStrictlyIncreasing}
+use Rattle.pk_disk.specs.Units.{extent_bytes}
 use Rattle.pk_dict.specs.Dictionary.{entry_of}
 use Rattle.pk_manifest.specs.declared.manifest.Part.{Part}
 use Rattle.pk_model.specs.Collection.{Doc, answer, numbers_of}
@@ -15,10 +16,10 @@ use Rattle.pk_segment.specs.declared.fault.ReadFault.{ReadFault}
 use Rattle.pk_segment.specs.Indexed.{items_of}
 use Rattle.pk_segment.specs.Opened.{IsSegmentOf}
 use Rattle.pk_segment.specs.Reading.{IsNoDamage}
+use Rattle.pk_segment.specs.Spelling.{IndexSpells}
 use Rattle.pk_search.specs.declared.listed.WordEntry.{WordEntry}
 use Rattle.pk_search.specs.declared.listed.WordLists.{WordLists}
-use Rattle.pk_search.specs.Opened.{none_stored}
-use Rattle.pk_state.specs.Committed.{Stored}
+use Rattle.pk_search.specs.declared.opened.OpenSegment.{OpenSegment}
 
 -- the numbers are these, or the device or memory failed
 abbrev pub PutsAs : {T : Type 0} → List ℕ → List ℕ → Result T ReadFault → Type 0
@@ -45,22 +46,13 @@ pub record AreListsOf (lists : WordLists) (docs : List Doc) : Type 0 where
   pub segment : IsSegmentOf lists.segment.now docs
   pub entries : AreEntriesOf lists.entries.now docs
 
--- of each segment of kind 2 the entries are those of its documents' dictionary
-abbrev pub AreKept : List Part → List Stored → List (Vec WordEntry) → Type 0
-AreKept parts stored kept =
-    (i : ℕ) (part : Part) (entries : Vec WordEntry) → i < length kept → part ≡ get_or parts i part
-    → entries ≡ get_or kept i entries → part.kind ≡ 2
-    → AreEntriesOf entries.items (get_or stored i none_stored).documents
-
--- what is kept of a segment of a kind, or a failure
-abbrev pub KeptAs : ℕ → List Doc → Result (Vec WordEntry) ReadFault → Type 0
-KeptAs kind docs (Ok entries) = kind ≡ 2 → AreEntriesOf entries.items docs
-KeptAs kind docs (Err fault) = IsNoDamage fault
-
--- what is kept of all segments, or a failure
-abbrev pub AllKeptAs : List Part → List Stored → Result (Vec (Vec WordEntry)) ReadFault → Type 0
-AllKeptAs parts stored (Ok kept) = AreKept parts stored kept.items
-AllKeptAs parts stored (Err fault) = IsNoDamage fault
+-- of each open segment of kind 2 the entries are those of its documents' dictionary
+abbrev pub AreKept : List ℕ → List Part → List OpenSegment → List (Vec WordEntry) → Type 0
+AreKept bytes parts opened kept =
+    (i : ℕ) (part : Part) (o : OpenSegment) (entries : Vec WordEntry) → i < length kept
+    → part ≡ get_or parts i part → o ≡ get_or opened i o → entries ≡ get_or kept i entries
+    → part.kind ≡ 2 → (docs : List Doc) → IndexSpells (extent_bytes bytes part.extent) docs
+    → IsSegmentOf o.segment docs → AreEntriesOf entries.items docs
 
 -- the plan means the query
 abbrev pub IsPlanFor : Plan → Tree → Type 0

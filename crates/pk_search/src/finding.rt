@@ -1,25 +1,29 @@
 //! A query over stored segments: those of kind 2 by a plan over their posting lists, those of
 //! kind 1 document by document, each read, cut into words and folded.
-ghost use Rattle.std.specs.Prelude.{◌≡◌, ◌≤◌, ◌+◌, ◌++◌, ◌∷◌, [], ℕ, List, length, min, IfOk};
+ghost use Rattle.std.specs.Prelude.{◌≡◌, ◌≤◌, ◌<◌, ◌+◌, ◌++◌, ◌∷◌, [], ℕ, List, length, min};
+ghost use Rattle.std.specs.Prelude.{All, IfErr, IfOk, true};
 ghost use Rattle.pk_disk.specs.Frames.{KeepsDisk};
-ghost use Rattle.pk_disk.specs.Units.{start_of};
-ghost use Rattle.pk_model.specs.Collection.{answer};
+ghost use Rattle.pk_disk.specs.Units.{apart, extent_bytes, start_of};
+ghost use Rattle.pk_manifest.specs.Sound.{same_segment};
+ghost use Rattle.pk_model.specs.Collection.{Doc, answer};
 ghost use Rattle.pk_model.specs.Tree.{tree_of};
 ghost use Rattle.pk_model.specs.Views.{doc_of, numbers_in};
+ghost use Rattle.pk_search.specs.Cached.{AddsOnlyOf, AgreesAt, CacheAgrees, KeepsBelow};
 ghost use Rattle.pk_search.specs.Finding.{FoundAs};
-ghost use Rattle.pk_search.specs.Matching.{AllKeptAs, AreEntriesOf, AreKept, IsPlanFor, KeptAs};
+ghost use Rattle.pk_search.specs.Matching.{AreEntriesOf, AreKept, EntriesAs, IsPlanFor};
 ghost use Rattle.pk_search.specs.Opened.{AreOpenOf, present, with_deleted};
 ghost use Rattle.pk_segment.specs.Opened.{IsSegmentOf};
-ghost use Rattle.pk_segment.specs.Spelling.{SegmentSpells};
-ghost use Rattle.pk_segment.specs.Reading.{CountsReads};
+ghost use Rattle.pk_segment.specs.Spelling.{IndexSpells, SegmentSpells};
+ghost use Rattle.pk_segment.specs.Reading.{CountsReads, IsNoDamage};
 ghost use Rattle.pk_state.specs.Committed.{Stored, live_in, live_of};
 ghost use Rattle.pk_state.specs.Holds.{IndexesEntries, IndexesEntry};
 ghost use Rattle.pk_state.specs.Kept.{LieInside};
 
-use crate::listed::{WordEntry, frequencies_of, look_up, words_in};
+use crate::listed::{WordEntry, WordLists, frequencies_of, look_up, words_in};
 use crate::opened::OpenSegment;
 use crate::planned::find_planned;
 use pk_buffer::is_hit;
+use pk_cache::BlockCache;
 use pk_disk::Disk;
 use pk_manifest::Part;
 use pk_model::{DocNo, Document, Query};
@@ -84,9 +88,11 @@ fn look_up_in<'a, D: Disk>(
     words: &[&'a str],
 ) -> Result<Vec<WordEntry<'a>>, ReadFault>
     requires { start_of entry.now.extent + entry.now.extent.bytes ≤ length (D.content disk.old) }
-    ensures entries { D.honest → (s : Stored) → IndexesEntry (D.content disk.old) entry.now s
-        → IsSegmentOf opened.now.segment s.documents
-        → KeptAs entry.now.kind s.documents result }
+    ensures entries { D.honest → entry.now.kind ≡ 2 → (docs : List Doc)
+        → IndexSpells (extent_bytes (D.content disk.old) entry.now.extent) docs
+        → IsSegmentOf opened.now.segment docs → EntriesAs docs result }
+    ensures fault { D.honest → (s : Stored) → IndexesEntry (D.content disk.old) entry.now s
+        → IsSegmentOf opened.now.segment s.documents → IfErr result IsNoDamage }
     ensures keeps { KeepsDisk D.Disk disk.old disk.new }
     ensures reads { CountsReads (D.failed_reads disk.old) (D.failed_reads disk.new) result }
 {
@@ -106,9 +112,11 @@ fn look_up_all<'a, D: Disk>(
     words: &[&'a str],
 ) -> Result<Vec<Vec<WordEntry<'a>>>, ReadFault>
     requires { LieInside (length (D.content disk.old)) entries.now }
-    ensures kept { D.honest → (stored : List Stored)
+    ensures kept { D.honest → IfOk result (λ kept.
+        AreKept (D.content disk.old) entries.now opened.now kept.items) }
+    ensures fault { D.honest → (stored : List Stored)
         → IndexesEntries (D.content disk.old) entries.now stored → AreOpenOf opened.now stored
-        → AllKeptAs entries.now stored result }
+        → IfErr result IsNoDamage }
     ensures count { IfOk result (λ kept. length kept.items
         ≡ min (length entries.now) (length opened.now)) }
     ensures keeps { KeepsDisk D.Disk disk.old disk.new }
@@ -136,6 +144,7 @@ struct Planned<'a> {
 fn find_in<D: Disk>(
     alloc: Global,
     disk: &mut D,
+    cache: &mut Option<BlockCache>,
     entry: &Part,
     opened: &OpenSegment,
     kept: &[WordEntry],
@@ -147,14 +156,34 @@ fn find_in<D: Disk>(
         → IsSegmentOf opened.now.segment s.documents
         → (entry.now.kind ≡ 2 → AreEntriesOf kept.now s.documents)
         → IsPlanFor planned.now.plan (tree_of planned.now.query.now)
+        → AgreesAt (D.content disk.old) cache.old entry.now opened.now
         → FoundAs (tree_of planned.now.query.now) (live_of (with_deleted opened.now s))
         found.old.items found.new.items result }
+    ensures agrees { D.honest → (entry.now.kind ≡ 2 → (docs : List Doc)
+        → IndexSpells (extent_bytes (D.content disk.old) entry.now.extent) docs
+        → IsSegmentOf opened.now.segment docs → AreEntriesOf kept.now docs)
+        → AgreesAt (D.content disk.old) cache.old entry.now opened.now
+        → AgreesAt (D.content disk.old) cache.new entry.now opened.now }
+    ensures adds { AddsOnlyOf entry.now.segment cache.old cache.new }
     ensures keeps { KeepsDisk D.Disk disk.old disk.new }
     ensures reads { CountsReads (D.failed_reads disk.old) (D.failed_reads disk.new) result }
 {
     let mut source = ExtentSource::on(disk, entry.extent);
     if entry.kind == INDEXED {
-        return find_planned(alloc, &mut source, opened, kept, &planned.plan, found);
+        let lists = WordLists {
+            id: entry.segment,
+            segment: &opened.segment,
+            entries: kept,
+        };
+        return find_planned(
+            alloc,
+            &mut source,
+            cache,
+            &lists,
+            opened,
+            &planned.plan,
+            found,
+        );
     }
     find_from(alloc, &mut source, opened, planned.query, found)
 }
@@ -163,6 +192,7 @@ fn find_in<D: Disk>(
 fn find_all<D: Disk>(
     alloc: Global,
     disk: &mut D,
+    cache: &mut Option<BlockCache>,
     entries: &[Part],
     opened: &[OpenSegment],
     kept: &[Vec<WordEntry>],
@@ -170,13 +200,20 @@ fn find_all<D: Disk>(
     found: &mut Vec<DocNo>,
 ) -> Result<(), ReadFault>
     requires inside { LieInside (length (D.content disk.old)) entries.now }
+    requires ids { apart same_segment entries.now ≡ true }
     requires count { length kept.now ≡ min (length entries.now) (length opened.now) }
     ensures found { D.honest → (stored : List Stored)
         → IndexesEntries (D.content disk.old) entries.now stored → AreOpenOf opened.now stored
-        → AreKept entries.now stored kept.now
+        → AreKept (D.content disk.old) entries.now opened.now kept.now
         → IsPlanFor planned.now.plan (tree_of planned.now.query.now)
+        → CacheAgrees (D.content disk.old) cache.old entries.now opened.now
         → FoundAs (tree_of planned.now.query.now) (live_in (present opened.now stored))
         found.old.items found.new.items result }
+    ensures agrees { D.honest → AreKept (D.content disk.old) entries.now opened.now kept.now
+        → CacheAgrees (D.content disk.old) cache.old entries.now opened.now
+        → CacheAgrees (D.content disk.old) cache.new entries.now opened.now }
+    ensures below { (next : ℕ) → All (λ (e : Part). e.segment < next) entries.now
+        → KeepsBelow next cache.old → KeepsBelow next cache.new }
     ensures keeps { KeepsDisk D.Disk disk.old disk.new }
     ensures reads { CountsReads (D.failed_reads disk.old) (D.failed_reads disk.new) result }
 {
@@ -184,6 +221,7 @@ fn find_all<D: Disk>(
         find_in(
             alloc,
             disk,
+            cache,
             &entries[i],
             &opened[i],
             &kept[i],
@@ -197,21 +235,32 @@ fn find_all<D: Disk>(
 /// Puts the numbers of the live documents of all segments that satisfy the query behind those that
 /// were found. Each open segment stands at the place of its entry. Of kind 2 no text is read.
 ///
+/// Where there is a cache, the blocks of a list that is taken out whole go through it. Let it agree
+/// with the entries and their open segments, then it does so afterwards; a new one does.
+///
 /// Answers `Damaged` where a segment is none, `Disk` where a read failed, or `Memory`; then some of
 /// the numbers may stand there.
 pub fn find_stored<D: Disk>(
     alloc: Global,
     disk: &mut D,
+    cache: &mut Option<BlockCache>,
     entries: &[Part],
     opened: &[OpenSegment],
     query: &Query,
     found: &mut Vec<DocNo>,
 ) -> Result<(), ReadFault>
-    requires { LieInside (length (D.content disk.old)) entries.now }
+    requires inside { LieInside (length (D.content disk.old)) entries.now }
+    requires ids { apart same_segment entries.now ≡ true }
     ensures found { D.honest → (stored : List Stored)
         → IndexesEntries (D.content disk.old) entries.now stored → AreOpenOf opened.now stored
+        → CacheAgrees (D.content disk.old) cache.old entries.now opened.now
         → FoundAs (tree_of query.now) (live_in (present opened.now stored)) found.old.items
         found.new.items result }
+    ensures agrees { D.honest
+        → CacheAgrees (D.content disk.old) cache.old entries.now opened.now
+        → CacheAgrees (D.content disk.old) cache.new entries.now opened.now }
+    ensures below { (next : ℕ) → All (λ (e : Part). e.segment < next) entries.now
+        → KeepsBelow next cache.old → KeepsBelow next cache.new }
     ensures keeps { KeepsDisk D.Disk disk.old disk.new }
     ensures reads { CountsReads (D.failed_reads disk.old) (D.failed_reads disk.new) result }
 {
@@ -220,5 +269,5 @@ pub fn find_stored<D: Disk>(
     let frequencies = frequencies_of(alloc, &words, &kept)?;
     let plan = plan(alloc, query, &frequencies)?;
     let planned = Planned { query, plan };
-    find_all(alloc, disk, entries, opened, &kept, &planned, found)
+    find_all(alloc, disk, cache, entries, opened, &kept, &planned, found)
 }

@@ -26,12 +26,19 @@
 //!
 //! The answer is exact whatever the frequencies are: they choose the way alone.
 //!
+//! Where the caller hands a cache of decoded blocks (pk_cache), a list that is taken out whole goes
+//! through it, by the segment's id (`kept`): its whole blocks come from the cache or are put there,
+//! its tail is read. A caller who never gives an id twice, and changes no extent that the entries
+//! name, can keep it from find to find: where it agrees with the entries and their open segments
+//! (`CacheAgrees` in specs/), it does so afterwards, and a new one always does.
+//!
 //! A search is refused as damaged where a segment is none, as disk where a read failed, or as
 //! memory. It writes nothing.
 #![tactic(auto)]
 
 mod finding;
 mod joining;
+mod kept;
 mod listed;
 mod lists;
 mod opened;

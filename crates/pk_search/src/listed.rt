@@ -22,9 +22,10 @@ pub(crate) struct WordEntry<'a> {
     pub(crate) entry: Option<Entry>,
 }
 
-/// A segment of kind 2, with the entries that were looked up there.
+/// A segment of kind 2 and its id, with the entries that were looked up there.
 #[derive(Clone, Copy)]
 pub(crate) struct WordLists<'a> {
+    pub(crate) id: u64,
     pub(crate) segment: &'a Segment,
     pub(crate) entries: &'a [WordEntry<'a>],
 }

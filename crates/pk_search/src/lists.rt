@@ -1,8 +1,9 @@
-//! One posting list: taken out by a cursor, or asked by its seeks.
+//! One posting list: taken out by a cursor or through the cache, or asked by a cursor's seeks.
 ghost use Rattle.std.specs.Prelude.{◌≡◌, ◌↔◌, ℕ, List, length, IsTrue, OnOk, MatchResult};
 ghost use Rattle.std.specs.List.Sorted.{IsStrictlyIncreasing};
 ghost use Rattle.pk_model.specs.Collection.{Doc};
-ghost use Rattle.pk_search.specs.Matching.{AreListsOf, ListLies, PutsAs};
+ghost use Rattle.pk_search.specs.Cached.{AddsOnlyOf, AreServed, KeepsBlocksOf, Serves};
+ghost use Rattle.pk_search.specs.Matching.{ListLies, PutsAs};
 ghost use Rattle.pk_segment.specs.Indexed.{list_with};
 ghost use Rattle.pk_segment.specs.Listing.{LeadsTo};
 ghost use Rattle.pk_segment.specs.Opened.{IsSegmentOf};
@@ -11,7 +12,9 @@ ghost use Rattle.pk_segment.specs.Spelling.{IndexSpells};
 ghost use Rattle.pk_sets.specs.Sets.{intersection};
 
 use crate::joining::keep_both;
+use crate::kept::copy_kept;
 use crate::listed::{WordLists, entry_for};
+use pk_cache::BlockCache;
 use pk_cursor::Cursor;
 use pk_dict::Entry;
 use pk_posting::{ByteSource, ListPlace};
@@ -76,21 +79,32 @@ fn copy_out<S: ByteSource>(
     Ok(())
 }
 
-// The same. `Damaged` where the numbers don't rise.
+// The same, where there is a cache through it. The list is one of the segment of this id.
+// `Damaged` where the numbers don't rise.
 fn take_out<S: ByteSource>(
     source: &mut S,
+    cache: &mut Option<BlockCache>,
+    id: u64,
     place: ListPlace,
     count: u32,
     out: &mut Vec<u32>,
 ) -> Result<(), ReadFault>
     ensures numbers { S.honest → (xs : List ℕ) → ListLies (S.content source.old) place xs
-        → count ≡ length xs → PutsAs xs out.new.items result }
+        → count ≡ length xs → KeepsBlocksOf id (S.content source.old) cache.old
+        → PutsAs xs out.new.items result }
+    ensures cached { S.honest → (xs : List ℕ) → ListLies (S.content source.old) place xs
+        → KeepsBlocksOf id (S.content source.old) cache.old
+        → KeepsBlocksOf id (S.content source.old) cache.new }
+    ensures adds { AddsOnlyOf id cache.old cache.new }
     ensures rising { OnOk result (IsStrictlyIncreasing out.new.items) }
     ensures content { S.honest → S.content source.new ≡ S.content source.old }
     ensures keeps { S.keeps source.old source.new }
     ensures faults { CountsReads (S.failures source.old) (S.failures source.new) result }
 {
-    copy_out(source, place, count, out)?;
+    match cache {
+        None => copy_out(source, place, count, out)?,
+        Some(cache) => copy_kept(source, cache, id, place, out)?,
+    }
     if !is_rising(out) {
         return Err(ReadFault::Damaged);
     }
@@ -153,13 +167,16 @@ fn cut_in<S: ByteSource>(
 pub(crate) fn put_word<S: ByteSource>(
     alloc: Global,
     source: &mut S,
+    cache: &mut Option<BlockCache>,
     lists: &WordLists,
     word: &str,
     out: &mut Vec<u32>,
 ) -> Result<(), ReadFault>
-    ensures numbers { S.honest → (docs : List Doc) → IndexSpells (S.content source.old) docs
-        → AreListsOf lists.now docs → PutsAs (list_with word.now docs) out.new.items result }
+    ensures numbers { S.honest → (docs : List Doc)
+        → AreServed (S.content source.old) lists.now docs cache.old → PutsAs (list_with word.now docs) out.new.items result }
     ensures rising { OnOk result (IsStrictlyIncreasing out.new.items) }
+    ensures served { Serves S.honest lists.now (S.content source.old) cache.old
+        (S.content source.new) cache.new }
     ensures content { S.honest → S.content source.new ≡ S.content source.old }
     ensures keeps { S.keeps source.old source.new }
     ensures faults { CountsReads (S.failures source.old) (S.failures source.new) result }
@@ -169,7 +186,7 @@ pub(crate) fn put_word<S: ByteSource>(
         return Ok(());
     };
     let place = place_of(lists.segment, entry)?;
-    take_out(source, place, entry.frequency, out)
+    take_out(source, cache, lists.id, place, entry.frequency, out)
 }
 
 // Whether a list is more than 50 times as long as the numbers that are sought in it.
@@ -184,6 +201,7 @@ fn is_far(numbers: usize, frequency: u32) -> bool {
 pub(crate) fn cut_word<S: ByteSource>(
     alloc: Global,
     source: &mut S,
+    cache: &mut Option<BlockCache>,
     lists: &WordLists,
     word: &str,
     numbers: &mut Vec<u32>,
@@ -191,11 +209,13 @@ pub(crate) fn cut_word<S: ByteSource>(
     spare: &mut Vec<u32>,
 ) -> Result<(), ReadFault>
     requires { IsStrictlyIncreasing numbers.old.items }
-    ensures numbers { S.honest → (docs : List Doc) → IndexSpells (S.content source.old) docs
-        → AreListsOf lists.now docs
+    ensures numbers { S.honest → (docs : List Doc)
+        → AreServed (S.content source.old) lists.now docs cache.old
         → PutsAs (intersection numbers.old.items (list_with word.now docs)) numbers.new.items
         result }
     ensures rising { OnOk result (IsStrictlyIncreasing numbers.new.items) }
+    ensures served { Serves S.honest lists.now (S.content source.old) cache.old
+        (S.content source.new) cache.new }
     ensures content { S.honest → S.content source.new ≡ S.content source.old }
     ensures keeps { S.keeps source.old source.new }
     ensures faults { CountsReads (S.failures source.old) (S.failures source.new) result }
@@ -211,7 +231,7 @@ pub(crate) fn cut_word<S: ByteSource>(
     if is_far(numbers.len(), entry.frequency) {
         return cut_in(source, place, numbers);
     }
-    take_out(source, place, entry.frequency, list)?;
+    take_out(source, cache, lists.id, place, entry.frequency, list)?;
     keep_both(numbers, list, spare)?;
     Ok(())
 }

@@ -18,18 +18,20 @@ ghost use Rattle.pk_plan.specs.Plans.{
   holding,
   operation_of,
 };
+ghost use Rattle.pk_search.specs.Cached.{AreServed, Serves};
 ghost use Rattle.pk_search.specs.Finding.{FoundAs};
-ghost use Rattle.pk_search.specs.Matching.{AreEntriesOf, AreListsOf, IsPlanFor, PutsAs};
+ghost use Rattle.pk_search.specs.Matching.{IsPlanFor, PutsAs};
 ghost use Rattle.pk_search.specs.Opened.{with_deleted};
 ghost use Rattle.pk_segment.specs.Opened.{IsSegmentOf};
 ghost use Rattle.pk_segment.specs.Reading.{CountsReads};
-ghost use Rattle.pk_segment.specs.Spelling.{DirectorySpells, IndexSpells};
+ghost use Rattle.pk_segment.specs.Spelling.{DirectorySpells};
 ghost use Rattle.pk_state.specs.Committed.{Stored, live_of};
 
 use crate::joining::{keep_both, keep_without, put_either};
-use crate::listed::{WordEntry, WordLists};
+use crate::listed::WordLists;
 use crate::lists::{cut_word, is_rising, put_word};
 use crate::opened::OpenSegment;
+use pk_cache::BlockCache;
 use pk_model::DocNo;
 use pk_plan::Plan;
 use pk_posting::ByteSource;
@@ -63,17 +65,21 @@ fn put_all<S: ByteSource>(
 fn cut_words<S: ByteSource>(
     alloc: Global,
     source: &mut S,
+    cache: &mut Option<BlockCache>,
     lists: &WordLists,
     words: &[String],
     numbers: &mut Vec<u32>,
     spare: &mut Vec<u32>,
 ) -> Result<(), ReadFault>
     requires { IsStrictlyIncreasing numbers.old.items }
-    ensures numbers { S.honest → (docs : List Doc) → IndexSpells (S.content source.old) docs
-        → AreListsOf lists.now docs → (o : Operation) → numbers.old.items ≡ found o docs
+    ensures numbers { S.honest → (docs : List Doc)
+        → AreServed (S.content source.old) lists.now docs cache.old
+        → (o : Operation) → numbers.old.items ≡ found o docs
         → PutsAs (found (Both o (both_all (map holding words.now))) docs) numbers.new.items
         result }
     ensures rising { OnOk result (IsStrictlyIncreasing numbers.new.items) }
+    ensures served { Serves S.honest lists.now (S.content source.old) cache.old
+        (S.content source.new) cache.new }
     ensures content { S.honest → S.content source.new ≡ S.content source.old }
     ensures keeps { S.keeps source.old source.new }
     ensures faults { CountsReads (S.failures source.old) (S.failures source.new) result }
@@ -83,6 +89,7 @@ fn cut_words<S: ByteSource>(
         cut_word(
             alloc,
             source,
+            cache,
             lists,
             words[i].as_str(),
             numbers,
@@ -98,15 +105,18 @@ fn cut_words<S: ByteSource>(
 fn put_words<S: ByteSource>(
     alloc: Global,
     source: &mut S,
+    cache: &mut Option<BlockCache>,
     lists: &WordLists,
     words: &[String],
     out: &mut Vec<u32>,
     spare: &mut Vec<u32>,
 ) -> Result<(), ReadFault>
-    ensures numbers { S.honest → (docs : List Doc) → IndexSpells (S.content source.old) docs
-        → AreListsOf lists.now docs
+    ensures numbers { S.honest → (docs : List Doc)
+        → AreServed (S.content source.old) lists.now docs cache.old
         → PutsAs (found (both_all (map holding words.now)) docs) out.new.items result }
     ensures rising { OnOk result (IsStrictlyIncreasing out.new.items) }
+    ensures served { Serves S.honest lists.now (S.content source.old) cache.old
+        (S.content source.new) cache.new }
     ensures content { S.honest → S.content source.new ≡ S.content source.old }
     ensures keeps { S.keeps source.old source.new }
     ensures faults { CountsReads (S.failures source.old) (S.failures source.new) result }
@@ -114,8 +124,8 @@ fn put_words<S: ByteSource>(
     if words.is_empty() {
         return put_all(alloc, source, lists.segment, out);
     }
-    put_word(alloc, source, lists, words[0].as_str(), out)?;
-    cut_words(alloc, source, lists, &words[1..], out, spare)
+    put_word(alloc, source, cache, lists, words[0].as_str(), out)?;
+    cut_words(alloc, source, cache, lists, &words[1..], out, spare)
 }
 
 // Puts the numbers that a plan finds into `out`. What `spare` holds is open.
@@ -123,34 +133,37 @@ fn put_words<S: ByteSource>(
 fn carry_out<S: ByteSource>(
     alloc: Global,
     source: &mut S,
+    cache: &mut Option<BlockCache>,
     lists: &WordLists,
     plan: &Plan,
     out: &mut Vec<u32>,
     spare: &mut Vec<u32>,
 ) -> Result<(), ReadFault>
-    ensures numbers { S.honest → (docs : List Doc) → IndexSpells (S.content source.old) docs
-        → AreListsOf lists.now docs
+    ensures numbers { S.honest → (docs : List Doc)
+        → AreServed (S.content source.old) lists.now docs cache.old
         → PutsAs (found (operation_of plan.now) docs) out.new.items result }
     ensures rising { OnOk result (IsStrictlyIncreasing out.new.items) }
+    ensures served { Serves S.honest lists.now (S.content source.old) cache.old
+        (S.content source.new) cache.new }
     ensures content { S.honest → S.content source.new ≡ S.content source.old }
     ensures keeps { S.keeps source.old source.new }
     ensures faults { CountsReads (S.failures source.old) (S.failures source.new) result }
 {
     match plan {
-        Plan::Term(word) => put_word(alloc, source, lists, word.as_str(), out),
+        Plan::Term(word) => put_word(alloc, source, cache, lists, word.as_str(), out),
         Plan::All => put_all(alloc, source, lists.segment, out),
         Plan::Intersect(words, parts) if words.is_empty() && !parts.is_empty() => {
-            carry_out(alloc, source, lists, &parts[0], out, spare)?;
-            cut_parts(alloc, source, lists, parts, 1, out, spare)
+            carry_out(alloc, source, cache, lists, &parts[0], out, spare)?;
+            cut_parts(alloc, source, cache, lists, parts, 1, out, spare)
         }
         Plan::Intersect(words, parts) => {
-            put_words(alloc, source, lists, words.as_slice(), out, spare)?;
-            cut_parts(alloc, source, lists, parts, 0, out, spare)
+            put_words(alloc, source, cache, lists, words.as_slice(), out, spare)?;
+            cut_parts(alloc, source, cache, lists, parts, 0, out, spare)
         }
-        Plan::Unite(parts) => unite(alloc, source, lists, parts, out, spare),
+        Plan::Unite(parts) => unite(alloc, source, cache, lists, parts, out, spare),
         Plan::Exclude(all, less) => {
-            carry_out(alloc, source, lists, all, out, spare)?;
-            rule_out(alloc, source, lists, less, out, spare)
+            carry_out(alloc, source, cache, lists, all, out, spare)?;
+            rule_out(alloc, source, cache, lists, less, out, spare)
         }
     }
 }
@@ -160,16 +173,20 @@ fn carry_out<S: ByteSource>(
 fn cut_part<S: ByteSource>(
     alloc: Global,
     source: &mut S,
+    cache: &mut Option<BlockCache>,
     lists: &WordLists,
     part: &Plan,
     numbers: &mut Vec<u32>,
     spare: &mut Vec<u32>,
 ) -> Result<(), ReadFault>
     requires { IsStrictlyIncreasing numbers.old.items }
-    ensures numbers { S.honest → (docs : List Doc) → IndexSpells (S.content source.old) docs
-        → AreListsOf lists.now docs → (o : Operation) → numbers.old.items ≡ found o docs
+    ensures numbers { S.honest → (docs : List Doc)
+        → AreServed (S.content source.old) lists.now docs cache.old
+        → (o : Operation) → numbers.old.items ≡ found o docs
         → PutsAs (found (Both o (operation_of part.now)) docs) numbers.new.items result }
     ensures rising { OnOk result (IsStrictlyIncreasing numbers.new.items) }
+    ensures served { Serves S.honest lists.now (S.content source.old) cache.old
+        (S.content source.new) cache.new }
     ensures content { S.honest → S.content source.new ≡ S.content source.old }
     ensures keeps { S.keeps source.old source.new }
     ensures faults { CountsReads (S.failures source.old) (S.failures source.new) result }
@@ -178,7 +195,7 @@ fn cut_part<S: ByteSource>(
         return Ok(());
     }
     let mut list = Vec::new(alloc);
-    carry_out(alloc, source, lists, part, &mut list, spare)?;
+    carry_out(alloc, source, cache, lists, part, &mut list, spare)?;
     keep_both(numbers, &list, spare)?;
     Ok(())
 }
@@ -189,16 +206,20 @@ fn cut_part<S: ByteSource>(
 fn rule_out<S: ByteSource>(
     alloc: Global,
     source: &mut S,
+    cache: &mut Option<BlockCache>,
     lists: &WordLists,
     part: &Plan,
     numbers: &mut Vec<u32>,
     spare: &mut Vec<u32>,
 ) -> Result<(), ReadFault>
     requires { IsStrictlyIncreasing numbers.old.items }
-    ensures numbers { S.honest → (docs : List Doc) → IndexSpells (S.content source.old) docs
-        → AreListsOf lists.now docs → (o : Operation) → numbers.old.items ≡ found o docs
+    ensures numbers { S.honest → (docs : List Doc)
+        → AreServed (S.content source.old) lists.now docs cache.old
+        → (o : Operation) → numbers.old.items ≡ found o docs
         → PutsAs (found (Without o (operation_of part.now)) docs) numbers.new.items result }
     ensures rising { OnOk result (IsStrictlyIncreasing numbers.new.items) }
+    ensures served { Serves S.honest lists.now (S.content source.old) cache.old
+        (S.content source.new) cache.new }
     ensures content { S.honest → S.content source.new ≡ S.content source.old }
     ensures keeps { S.keeps source.old source.new }
     ensures faults { CountsReads (S.failures source.old) (S.failures source.new) result }
@@ -207,7 +228,7 @@ fn rule_out<S: ByteSource>(
         return Ok(());
     }
     let mut list = Vec::new(alloc);
-    carry_out(alloc, source, lists, part, &mut list, spare)?;
+    carry_out(alloc, source, cache, lists, part, &mut list, spare)?;
     keep_without(numbers, &list, spare)?;
     Ok(())
 }
@@ -217,6 +238,7 @@ fn rule_out<S: ByteSource>(
 fn cut_parts<S: ByteSource>(
     alloc: Global,
     source: &mut S,
+    cache: &mut Option<BlockCache>,
     lists: &WordLists,
     parts: &Vec<Plan>,
     from: usize,
@@ -224,17 +246,20 @@ fn cut_parts<S: ByteSource>(
     spare: &mut Vec<u32>,
 ) -> Result<(), ReadFault>
     requires { IsStrictlyIncreasing numbers.old.items }
-    ensures numbers { S.honest → (docs : List Doc) → IndexSpells (S.content source.old) docs
-        → AreListsOf lists.now docs → (o : Operation) → numbers.old.items ≡ found o docs
+    ensures numbers { S.honest → (docs : List Doc)
+        → AreServed (S.content source.old) lists.now docs cache.old
+        → (o : Operation) → numbers.old.items ≡ found o docs
         → PutsAs (found (Both o (both_all (map operation_of (drop from parts.now.items)))) docs)
         numbers.new.items result }
     ensures rising { OnOk result (IsStrictlyIncreasing numbers.new.items) }
+    ensures served { Serves S.honest lists.now (S.content source.old) cache.old
+        (S.content source.new) cache.new }
     ensures content { S.honest → S.content source.new ≡ S.content source.old }
     ensures keeps { S.keeps source.old source.new }
     ensures faults { CountsReads (S.failures source.old) (S.failures source.new) result }
 {
     for i in from..parts.len() {
-        cut_part(alloc, source, lists, &parts[i], numbers, spare)?;
+        cut_part(alloc, source, cache, lists, &parts[i], numbers, spare)?;
     }
     Ok(())
 }
@@ -244,16 +269,19 @@ fn cut_parts<S: ByteSource>(
 fn unite<S: ByteSource>(
     alloc: Global,
     source: &mut S,
+    cache: &mut Option<BlockCache>,
     lists: &WordLists,
     parts: &Vec<Plan>,
     out: &mut Vec<u32>,
     spare: &mut Vec<u32>,
 ) -> Result<(), ReadFault>
-    ensures numbers { S.honest → (docs : List Doc) → IndexSpells (S.content source.old) docs
-        → AreListsOf lists.now docs
+    ensures numbers { S.honest → (docs : List Doc)
+        → AreServed (S.content source.old) lists.now docs cache.old
         → PutsAs (found (either_all (map operation_of parts.now.items)) docs) out.new.items
         result }
     ensures rising { OnOk result (IsStrictlyIncreasing out.new.items) }
+    ensures served { Serves S.honest lists.now (S.content source.old) cache.old
+        (S.content source.new) cache.new }
     ensures content { S.honest → S.content source.new ≡ S.content source.old }
     ensures keeps { S.keeps source.old source.new }
     ensures faults { CountsReads (S.failures source.old) (S.failures source.new) result }
@@ -261,38 +289,37 @@ fn unite<S: ByteSource>(
     out.clear();
     let mut list = Vec::new(alloc);
     for i in 0..parts.len() {
-        carry_out(alloc, source, lists, &parts[i], &mut list, spare)?;
+        carry_out(alloc, source, cache, lists, &parts[i], &mut list, spare)?;
         put_either(out, &list, spare)?;
     }
     Ok(())
 }
 
 /// Puts the numbers of the segment's documents that are not deleted and satisfy the query of the
-/// plan behind those that were found: by its posting lists, whatever the texts are. The entries
-/// are those that were looked up in the segment.
+/// plan behind those that were found: by its posting lists, whatever the texts are.
 pub(crate) fn find_planned<S: ByteSource>(
     alloc: Global,
     source: &mut S,
+    cache: &mut Option<BlockCache>,
+    lists: &WordLists,
     opened: &OpenSegment,
-    entries: &[WordEntry],
     plan: &Plan,
     found: &mut Vec<DocNo>,
 ) -> Result<(), ReadFault>
-    ensures found { S.honest → (s : Stored) → IndexSpells (S.content source.old) s.documents
-        → IsSegmentOf opened.now.segment s.documents → AreEntriesOf entries.now s.documents
+    ensures found { S.honest → (s : Stored)
+        → AreServed (S.content source.old) lists.now s.documents cache.old
         → (query : Tree) → IsPlanFor plan.now query
         → FoundAs query (live_of (with_deleted opened.now s)) found.old.items
         found.new.items result }
+    ensures served { Serves S.honest lists.now (S.content source.old) cache.old
+        (S.content source.new) cache.new }
+    ensures content { S.honest → S.content source.new ≡ S.content source.old }
     ensures keeps { S.keeps source.old source.new }
     ensures faults { CountsReads (S.failures source.old) (S.failures source.new) result }
 {
-    let lists = WordLists {
-        segment: &opened.segment,
-        entries,
-    };
     let mut hits = Vec::new(alloc);
     let mut spare = Vec::new(alloc);
-    carry_out(alloc, source, &lists, plan, &mut hits, &mut spare)?;
+    carry_out(alloc, source, cache, lists, plan, &mut hits, &mut spare)?;
     keep_without(&mut hits, opened.deleted.numbers(), &mut spare)?;
     put_numbers(&hits, found)?;
     Ok(())

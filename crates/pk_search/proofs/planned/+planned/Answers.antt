@@ -4,54 +4,55 @@ use Rattle.std.proofs.lemmas.Result.{err_from_is_err_and}
 use Rattle.pk_plan.proofs.OperationLemmas.{of_exclude, of_intersect, of_unite}
 use Rattle.pk_plan.specs.declared.plans.Plan.{Plan}
 use Rattle.pk_plan.specs.Plans.{Both, Operation, Without, both_all, either_all, found, holding, operation_of}
+use Rattle.pk_search.proofs.CacheLemmas.{serves_none, serves_then}
 use Rattle.pk_search.proofs.ListLemmas.{puts_fault}
 use Rattle.pk_search.proofs.PlanLemmas.{cut_all, cut_none, cut_one, none_yet, one_more, put_one}
 use Rattle.pk_search.specs.Matching.{PutsAs}
-use Rattle.pk_segment.specs.Spelling.{IndexSpells}
 use Rattle.pk_sets.specs.Sets.{union}
 use Rattle.pk_search.proofs.planned.+planned.Goals as goal
 
 pub carry_out-returns-in_ok-put_words-in-Intersect-2-clause-numbers : goal.carry_out-returns-in_ok-put_words-in-Intersect-2-clause-numbers
-carry_out-returns-in_ok-put_words-in-Intersect-2-clause-numbers g t c = λ h docs is of.
-    let here = subst (λ (x : List ℕ). IndexSpells x docs) (sym (c.in_ok-put_words-in-Intersect-2.ensures.content h)) is in
+carry_out-returns-in_ok-put_words-in-Intersect-2-clause-numbers g t c = λ h docs served.
+    let here = c.in_ok-put_words-in-Intersect-2.ensures.served.served h docs served in
     let words = map holding c.as_slice.result.now in
     let says : operation_of c.args.plan.now ≡ both_all (words ++ map operation_of c.in-Intersect-2.parts.items) = ap operation_of c.in-Intersect-2.is ∙ of_intersect c.in-Intersect-2.words c.in-Intersect-2.parts
     ∙ ap (λ (ws : List (String Global)). both_all (map holding ws ++ map operation_of c.in-Intersect-2.parts.items)) (sym c.as_slice.ensures) in
-    let first = c.in_ok-put_words-in-Intersect-2.ensures.numbers h docs is of in
-    let all = c.cut_parts-in-Intersect-2.ensures.numbers h docs here of (both_all words) first in
+    let first = c.in_ok-put_words-in-Intersect-2.ensures.numbers h docs served in
+    let all = c.cut_parts-in-Intersect-2.ensures.numbers h docs here (both_all words) first in
     subst (λ (ns : List ℕ). PutsAs ns c.cut_parts-in-Intersect-2.new.numbers.items c.cut_parts-in-Intersect-2.result)
-    (cut_all words (map operation_of c.in-Intersect-2.parts.items) docs is.front.spelled.are.rising ∙ ap (λ (o : Operation). found o docs) (sym says)) all
+    (cut_all words (map operation_of c.in-Intersect-2.parts.items) docs served.index.front.spelled.are.rising ∙ ap (λ (o : Operation). found o docs) (sym says)) all
 
 pub carry_out-returns-in-Unite-clause-numbers : goal.carry_out-returns-in-Unite-clause-numbers
-carry_out-returns-in-Unite-clause-numbers g t c = λ h docs is of.
+carry_out-returns-in-Unite-clause-numbers g t c = λ h docs served.
     let says : operation_of c.args.plan.now ≡ either_all (map operation_of c.in-Unite.parts.items) = ap operation_of c.in-Unite.is ∙ of_unite c.in-Unite.parts in
-    subst (λ (ns : List ℕ). PutsAs ns c.unite.new.out.items c.unite.result) (ap (λ (o : Operation). found o docs) (sym says)) (c.unite.ensures.numbers h docs is of)
+    subst (λ (ns : List ℕ). PutsAs ns c.unite.new.out.items c.unite.result) (ap (λ (o : Operation). found o docs) (sym says)) (c.unite.ensures.numbers h docs served)
 
 pub carry_out-returns-in_ok-carry_out-in-Exclude-clause-numbers : goal.carry_out-returns-in_ok-carry_out-in-Exclude-clause-numbers
-carry_out-returns-in_ok-carry_out-in-Exclude-clause-numbers g t c = λ h docs is of.
-    let here = subst (λ (x : List ℕ). IndexSpells x docs) (sym (c.in_ok-carry_out-in-Exclude.ensures.content h)) is in
+carry_out-returns-in_ok-carry_out-in-Exclude-clause-numbers g t c = λ h docs served.
+    let here = c.in_ok-carry_out-in-Exclude.ensures.served.served h docs served in
     let says : operation_of c.args.plan.now ≡ Without (operation_of c.deref.result.now) (operation_of c.deref-in-Exclude.result.now) =
     ap operation_of c.in-Exclude.is ∙ of_exclude c.in-Exclude.all c.in-Exclude.less ∙ sym (ap₂ (λ (a b : Plan). Without (operation_of a) (operation_of b)) c.deref.ensures c.deref-in-Exclude.ensures) in
     subst (λ (ns : List ℕ). PutsAs ns c.rule_out.new.numbers.items c.rule_out.result) (ap (λ (o : Operation). found o docs) (sym says))
-    (c.rule_out.ensures.numbers h docs here of (operation_of c.deref.result.now) (c.in_ok-carry_out-in-Exclude.ensures.numbers h docs is of))
+    (c.rule_out.ensures.numbers h docs here (operation_of c.deref.result.now) (c.in_ok-carry_out-in-Exclude.ensures.numbers h docs served))
 
 pub cut_parts-loop-i-init : goal.cut_parts-loop-i-init
 cut_parts-loop-i-init g t c = record {
   same = λ h. refl;
+  served = serves_none _ _ _ _;
   kept = g.met.S.ByteSource.keeps_self _;
   failures = refl;
   rising = c.requires;
-  numbers = λ h docs is of o e. e ∙ cut_none o docs is.front.spelled.are.rising
+  numbers = λ h docs served o e. e ∙ cut_none o docs served.index.front.spelled.are.rising
       ∙ ap (λ (ps : List Plan). found (Both o (both_all (map operation_of ps))) docs) (sym (none_yet c.args.parts.now.items c.args.from));
 }
 
 pub cut_parts-returns-in_err-cut_part-clause-numbers : goal.cut_parts-returns-in_err-cut_part-clause-numbers
-cut_parts-returns-in_err-cut_part-clause-numbers g t c = λ h docs is of o e.
+cut_parts-returns-in_err-cut_part-clause-numbers g t c = λ h docs served o e.
     let before = c.loop-i.invariant in
-    let here = subst (λ (x : List ℕ). IndexSpells x docs) (sym (before.same h)) is in
+    let here = before.served.served h docs served in
     let so_far = Both o (both_all (map operation_of (drop c.args.from (take c.loop-i.i c.args.parts.now.items)))) in
     let err = err_from_is_err_and c.from_residual.result c.from_residual.ensures.1 in
-    puts_fault _ _ _ err.0 c.in_err-cut_part.field-0.0 err.1 err.2 (c.in_err-cut_part.ensures.numbers h docs here of so_far (before.numbers h docs is of o e))
+    puts_fault _ _ _ err.0 c.in_err-cut_part.field-0.0 err.1 err.2 (c.in_err-cut_part.ensures.numbers h docs here so_far (before.numbers h docs served o e))
 
 pub cut_parts-loop-i-preserved : goal.cut_parts-loop-i-preserved
 cut_parts-loop-i-preserved g t c =
@@ -61,14 +62,15 @@ cut_parts-loop-i-preserved g t c =
     let part = c.index.result.now in
     record {
       same = λ h. c.cut_part.ensures.content h ∙ before.same h;
+      served = serves_then _ _ _ _ _ _ _ _ before.served c.cut_part.ensures.served;
       kept = g.met.S.ByteSource.keeps_then _ _ _ before.kept c.cut_part.ensures.keeps;
       failures = c.in_ok-cut_part.ensures.faults.ok ∙ before.failures;
       rising = c.in_ok-cut_part.ensures.rising;
-      numbers = λ h docs is of o e. (
-          let here = subst (λ (x : List ℕ). IndexSpells x docs) (sym (before.same h)) is in
+      numbers = λ h docs served o e. (
+          let here = before.served.served h docs served in
           let so_far = map operation_of (drop c.args.from (take i parts)) in
-          c.in_ok-cut_part.ensures.numbers h docs here of (Both o (both_all so_far)) (before.numbers h docs is of o e)
-          ∙ cut_one o (operation_of part) so_far docs is.front.spelled.are.rising
+          c.in_ok-cut_part.ensures.numbers h docs here (Both o (both_all so_far)) (before.numbers h docs served o e)
+          ∙ cut_one o (operation_of part) so_far docs served.index.front.spelled.are.rising
           ∙ ap (λ (ops : List Operation). found (Both o (both_all ops)) docs) (sym (one_more operation_of parts c.args.from i part (omega arith) (omega arith) c.index.ensures)));
     }
 
@@ -80,14 +82,15 @@ unite-loop-i-preserved g t c =
     let part = c.index.result.now in
     record {
       same = λ h. c.carry_out.ensures.content h ∙ before.same h;
+      served = serves_then _ _ _ _ _ _ _ _ before.served c.carry_out.ensures.served;
       kept = g.met.S.ByteSource.keeps_then _ _ _ before.kept c.carry_out.ensures.keeps;
       failures = c.in_ok-carry_out.ensures.faults.ok ∙ before.failures;
       rising = c.in_ok-put_either.ensures.rising;
-      numbers = λ h docs is of. (
-          let here = subst (λ (x : List ℕ). IndexSpells x docs) (sym (before.same h)) is in
+      numbers = λ h docs served. (
+          let here = before.served.served h docs served in
           let so_far = map operation_of (take i parts) in
           c.in_ok-put_either.ensures.numbers
-          ∙ ap₂ union (before.numbers h docs is of) (c.deref.ensures.value ∙ c.in_ok-carry_out.ensures.numbers h docs here of)
-          ∙ put_one (operation_of part) so_far docs is.front.spelled.are.rising
+          ∙ ap₂ union (before.numbers h docs served) (c.deref.ensures.value ∙ c.in_ok-carry_out.ensures.numbers h docs here)
+          ∙ put_one (operation_of part) so_far docs served.index.front.spelled.are.rising
           ∙ ap (λ (ops : List Operation). found (either_all ops) docs) (sym (one_more operation_of parts 0 i part (omega arith) (omega arith) c.index.ensures)));
     }

@@ -1,19 +1,20 @@
 -- One word more.
-use Rattle.std.proofs.Common.{◌∙◌, List, ℕ, take, map, refl, sym, ap, ap₂, subst, arith}
+use Rattle.std.proofs.Common.{◌∙◌, List, ℕ, take, map, refl, sym, ap, ap₂, arith}
 use Rattle.pk_plan.specs.Plans.{Both, Operation, both_all, found, holding}
+use Rattle.pk_search.proofs.CacheLemmas.{serves_none, serves_then}
 use Rattle.pk_search.proofs.PlanLemmas.{cut_none, cut_one, one_more}
 use Rattle.pk_segment.specs.Indexed.{list_with}
-use Rattle.pk_segment.specs.Spelling.{IndexSpells}
 use Rattle.pk_sets.specs.Sets.{intersection}
 use Rattle.pk_search.proofs.planned.cut_words.Goals as goal
 
 pub loop-i-init : goal.loop-i-init
 loop-i-init g c = record {
   same = λ h. refl;
+  served = serves_none _ _ _ _;
   kept = g.met.S.ByteSource.keeps_self _;
   failures = refl;
   rising = c.requires;
-  numbers = λ h docs is of o e. e ∙ cut_none o docs is.front.spelled.are.rising;
+  numbers = λ h docs served o e. e ∙ cut_none o docs served.index.front.spelled.are.rising;
 }
 
 pub loop-i-preserved : goal.loop-i-preserved
@@ -24,13 +25,14 @@ loop-i-preserved g c =
     let word = c.index-words-i.result in
     record {
       same = λ h. c.cut_word.ensures.content h ∙ before.same h;
+      served = serves_then _ _ _ _ _ _ _ _ before.served c.cut_word.ensures.served;
       kept = g.met.S.ByteSource.keeps_then _ _ _ before.kept c.cut_word.ensures.keeps;
       failures = c.in_ok-cut_word.ensures.faults.ok ∙ before.failures;
       rising = c.in_ok-cut_word.ensures.rising;
-      numbers = λ h docs is of o e. (
-          let here = subst (λ (x : List ℕ). IndexSpells x docs) (sym (before.same h)) is in
-          c.in_ok-cut_word.ensures.numbers h docs here of
-          ∙ ap₂ (λ (xs w : List ℕ). intersection xs (list_with w docs)) (before.numbers h docs is of o e) c.as_str.ensures.value
-          ∙ cut_one o (holding word) (map holding (take i words)) docs is.front.spelled.are.rising
+      numbers = λ h docs served o e. (
+          let here = before.served.served h docs served in
+          c.in_ok-cut_word.ensures.numbers h docs here
+          ∙ ap₂ (λ (xs w : List ℕ). intersection xs (list_with w docs)) (before.numbers h docs served o e) c.as_str.ensures.value
+          ∙ cut_one o (holding word) (map holding (take i words)) docs served.index.front.spelled.are.rising
           ∙ ap (λ (ops : List Operation). found (Both o (both_all ops)) docs) (sym (one_more holding words 0 i word (omega arith) (omega arith) c.index-words-i.is)));
     }

@@ -3,8 +3,7 @@ use Rattle.std.proofs.Common.{◌≡◌, List, take, map}
 use Rattle.std.specs.List.Sorted.{IsStrictlyIncreasing}
 use Rattle.pk_model.specs.Collection.{Doc}
 use Rattle.pk_plan.specs.Plans.{Both, Operation, both_all, found, holding}
-use Rattle.pk_search.specs.Matching.{AreListsOf}
-use Rattle.pk_segment.specs.Spelling.{IndexSpells}
+use Rattle.pk_search.specs.Cached.{AreServed, Serves}
 use Rattle.pk_search.proofs.planned.cut_words.Given as goal
 
 abbrev pub invariant-loop-i : goal.invariant-loop-i
@@ -12,9 +11,10 @@ invariant-loop-i g l =
     let content = g.S.ByteSource.content in
     record {
       same : g.S.ByteSource.honest → content l.source ≡ content l.fn.source;
+      served : Serves g.S.ByteSource.honest l.lists (content l.fn.source) l.fn.cache (content l.source) l.cache;
       kept : g.S.ByteSource.keeps l.fn.source l.source;
       failures : g.S.ByteSource.failures l.source ≡ g.S.ByteSource.failures l.fn.source;
       rising : IsStrictlyIncreasing l.numbers.items;
-      numbers : g.S.ByteSource.honest → (docs : List Doc) → IndexSpells (content l.fn.source) docs → AreListsOf l.lists docs → (o : Operation) → l.fn.numbers.items ≡ found o docs
+      numbers : g.S.ByteSource.honest → (docs : List Doc) → AreServed (content l.fn.source) l.lists docs l.fn.cache → (o : Operation) → l.fn.numbers.items ≡ found o docs
           → l.numbers.items ≡ found (Both o (both_all (map holding (take l.i l.words)))) docs;
     }

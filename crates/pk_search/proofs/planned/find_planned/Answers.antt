@@ -7,7 +7,7 @@ use Rattle.pk_search.proofs.LiveLemmas.{live_is}
 use Rattle.pk_search.proofs.planned.find_planned.Goals as goal
 
 pub returns-clause-found : goal.returns-clause-found
-returns-clause-found g c = λ h s is of are query means.
-    let hits = c.in_ok-carry_out.ensures.numbers h s.documents is (record { segment = of; entries = are }) ∙ means s.documents is.front.spelled.are.rising in
+returns-clause-found g c = λ h s served query means.
+    let hits = c.in_ok-carry_out.ensures.numbers h s.documents served ∙ means s.documents served.index.front.spelled.are.rising in
     let live = c.in_ok-keep_without.ensures.numbers ∙ ap₂ difference hits c.numbers.ensures.numbers ∙ live_is (with_deleted c.args.opened.now s) query in
     c.in_ok-put_numbers.ensures ∙ ap (λ (ns : List ℕ). numbers_in c.args.found.now.items ++ ns) (c.deref.ensures.value ∙ live)

@@ -4,16 +4,15 @@ use Rattle.pk_plan.specs.Plans.{both_all, found, holding}
 use Rattle.pk_search.proofs.PlanLemmas.{first_slice, nonempty}
 use Rattle.pk_search.specs.Matching.{PutsAs}
 use Rattle.pk_segment.specs.Indexed.{list_with}
-use Rattle.pk_segment.specs.Spelling.{IndexSpells}
 use Rattle.pk_search.proofs.planned.put_words.Goals as goal
 
 pub returns-clause-numbers : goal.returns-clause-numbers
-returns-clause-numbers g c = λ h docs is of.
+returns-clause-numbers g c = λ h docs served.
     let words = c.args.words.now in
     let word = c.index-words-0.result in
     let some : 0 < length words = nonempty words c.is_empty.result c.is_empty.ensures c.if-is_empty.false in
-    let here = subst (λ (x : List ℕ). IndexSpells x docs) (sym (c.in_ok-put_word.ensures.content h)) is in
-    let first = c.in_ok-put_word.ensures.numbers h docs is of ∙ ap (λ (w : List ℕ). list_with w docs) c.as_str.ensures.value in
-    let all = c.cut_words.ensures.numbers h docs here of (holding word) first in
+    let here = c.in_ok-put_word.ensures.served.served h docs served in
+    let first = c.in_ok-put_word.ensures.numbers h docs served ∙ ap (λ (w : List ℕ). list_with w docs) c.as_str.ensures.value in
+    let all = c.cut_words.ensures.numbers h docs here (holding word) first in
     subst (λ (ns : List ℕ). PutsAs ns c.cut_words.new.numbers.items c.cut_words.result)
     (ap (λ (ws : List (String Global)). found (both_all (map holding ws)) docs) (sym (first_slice words word some c.index-words-0.is))) all
