@@ -22,8 +22,9 @@ use Rattle.pk_state.specs.Holds.{HoldsOne}
 use Rattle.pk_state.specs.Kept.{IsKept, claims_of}
 use Rattle.pk_state.proofs.CallerLemmas.{images_left}
 use Rattle.pk_state.proofs.HoldsLemmas.{has_holds}
-use Rattle.pk_store.specs.declared.planning.Plan.{Plan}
-use Rattle.pk_store.specs.Plan.{Carries, Goes, IsPlan}
+use Rattle.pk_layout.specs.declared.planning.Plan.{Plan}
+use Rattle.pk_store.specs.Carrying.{Carries, Goes}
+use Rattle.pk_layout.specs.Plan.{IsPlan}
 use Rattle.pk_store.specs.View.{IsReady, StandFor, VolumeView, committed_by}
 
 -- a flag that is clear is not set
@@ -46,6 +47,17 @@ pieces_of p = map claim_of p.pieces.items
 
 abbrev pub promised_by : Plan → Claim → Type 0
 promised_by p c = IsAmong c (pieces_of p)
+
+-- a volume whose disk was only read
+pub ready_kept : {D : Type 0} (d : Ghosts D) (v : VolumeView D) → IsReady d v → (disk : D) → KeepsDisk d v.disk disk → IsReady d (with_disk v disk)
+ready_kept d v ready disk keeps = record {
+  ends = subst (λ n. bodies_end ≤ n) (sym keeps.size) ready.ends;
+  sound = subst (λ n. IsBody (units_in n) v.body) (sym keeps.size) ready.sound;
+  opened = ready.opened;
+  grown = ready.grown;
+  firm = λ h flag. subst (λ b. IsFirm b (d.is_open disk) v.spare) (sym (keeps.read h).bytes) (subst (λ o. IsFirm (d.content v.disk) o v.spare) (sym (keeps.read h).positions) (ready.firm h flag));
+  in_force = λ h flag. ap (λ b. body_of b (other v.spare)) (keeps.read h).bytes ∙ ready.in_force h flag;
+}
 
 module _ {D : Type 0} (d : Ghosts D) (v : VolumeView D) (p : Plan) (ready : IsReady d v) (clear : v.reopen ≡ false) (plan : IsPlan (length (d.content v.disk)) v.body p) where
   abbrev size : ℕ

@@ -21,8 +21,9 @@ use Rattle.pk_state.specs.Committed.{Stored, Committed, collection_of, has_docum
 use Rattle.pk_state.specs.Holds.{HoldsOne}
 use Rattle.pk_state.specs.Legal.{State, Fails, GoesOn, IsTooLarge, LegalStep, Writes, due, has_work, is_used_up, marked}
 use Rattle.pk_state.specs.Writing.{after_commit, commit_writes, entries_after, is_too_large, new_entry, new_stored, next_body, segment_writes, stored_after, written_kind}
-use Rattle.pk_store.specs.declared.planning.Plan.{Plan}
-use Rattle.pk_store.specs.Plan.{Carries, DueAs, Goes, PlansAs, PlansCommit, commit_bytes, commit_to, new_lists, new_segments, relisted}
+use Rattle.pk_layout.specs.declared.planning.Plan.{Plan}
+use Rattle.pk_store.specs.Carrying.{Carries, Goes}
+use Rattle.pk_layout.specs.Plan.{DueAs, PlansAs, PlansCommit, commit_bytes, commit_to, new_lists, new_segments, relisted}
 use Rattle.pk_posting.specs.Spelling.{spelling as list_spelling}
 use Rattle.pk_search.specs.declared.opened.OpenSegment.{OpenSegment}
 use Rattle.pk_search.specs.Opened.{AreOpenOf, pends, present}
@@ -30,7 +31,7 @@ use Rattle.pk_search.proofs.FindingLemmas.{opened_long}
 use Rattle.pk_segment.proofs.SegmentLemmas.{length_segment}
 use Rattle.pk_state.proofs.StateLemmas.{whole_committed}
 use Rattle.pk_store.proofs.PresentLemmas.{AreAsOpen, any_pending, entries_are, entries_even, is_state, lists_are, settled_present, store_as_open, stored_are}
-use Rattle.pk_store.proofs.RelistLemmas.{all_settled}
+use Rattle.pk_layout.proofs.RelistLemmas.{all_settled}
 use Rattle.std.proofs.Common.{map}
 use Rattle.std.proofs.lemmas.List.{map-append}
 use Rattle.pk_store.specs.Steps.{IsIdle, Steps, StepsTo, is_new}

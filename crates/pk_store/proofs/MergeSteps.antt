@@ -21,9 +21,11 @@ use Rattle.pk_state.specs.Legal.{State, Fails, GoesOn, IsPlaceOf, IsTooLarge, Le
 use Rattle.pk_state.specs.Writing.{IsTidyRun, after_merge, is_merged, is_too_large, run_documents, segment_writes, sizes_of}
 use Rattle.pk_state.proofs.MergeLemmas.{live_merged, one_run}
 use Rattle.pk_state.proofs.StateLemmas.{whole_merged}
-use Rattle.pk_store.specs.declared.planning.Plan.{Plan}
-use Rattle.pk_store.specs.Merging.{PlansMerge, PlansRun}
-use Rattle.pk_store.specs.Plan.{Carries, DueAs, EndsAs, Goes}
+use Rattle.pk_layout.specs.declared.planning.Plan.{Plan}
+use Rattle.pk_layout.specs.Merging.{PlansMerge}
+use Rattle.pk_store.specs.Merging.{PlansRun}
+use Rattle.pk_store.specs.Carrying.{Carries, EndsAs, Goes}
+use Rattle.pk_layout.specs.Plan.{DueAs}
 use Rattle.pk_store.specs.Steps.{HoldsIn, IsIdle, Steps, idle_answer, may_refuse}
 use Rattle.pk_store.specs.View.{KeepsVolume, StandFor, StoreView, VolumeView, committed_by, state_with}
 use Rattle.pk_store.specs.Ways.{IsRunOf, Way, answer_by, of_all, of_run, request_by}

@@ -34,7 +34,8 @@ use Rattle.pk_store.specs.declared.refused.OpenFault.{OpenFault}
 use Rattle.pk_store.specs.declared.refused.OpenFault.TheVariants.{TooSmall, NotAStore, Damaged, Disk, Memory}
 use Rattle.pk_store.specs.Judging.{JudgesFound, IsLarge, IsOpenSoFar, OpensNext, SegmentAs, SegmentsAs, body_fault}
 use Rattle.pk_store.specs.Opening.{ExtentOpensAs, IsFresh, IsNoStoreFault, IsStoreOf, IsUncalled, OnSynced, OpenAsSegments, OpensAsList, OpensAsStore, OpensAsSegment, RefusesOpening, SpellsFew}
-use Rattle.pk_store.specs.View.{FindsIn, IsBuffered, IsGrown, IsReady, StoreView, committed_by, state_with, volume_of}
+use Rattle.pk_store.specs.View.{FindsIn, IsBuffered, IsReady, StoreView, committed_by, state_with, volume_of}
+use Rattle.pk_layout.specs.Plan.{IsGrown}
 use Rattle.pk_store.proofs.StoreSteps.{clear_flag}
 use Rattle.pk_state.specs.Committed.{Names, Stored, all_in, collection_of, lists, live_in, whole_of}
 use Rattle.pk_state.specs.Holds.{Holds, Indexes, IndexesEntries, IndexesEntry, ListSpells, SpellsEntries}

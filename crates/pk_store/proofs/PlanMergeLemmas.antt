@@ -5,8 +5,9 @@ use Rattle.pk_disk.specs.Frames.{KeepsDisk}
 use Rattle.pk_manifest.specs.Spelling.{Body}
 use Rattle.pk_merge.specs.declared.fault.MergeFault.{MergeFault}
 use Rattle.pk_merge.specs.declared.fault.MergeFault.TheVariants as merging
-use Rattle.pk_merge.specs.declared.merging.MergeInput.{MergeInput}
-use Rattle.pk_merge.specs.Merging.{CountsMerge, IsSomeMerged, MergedAs, SpellsInputs}
+use Rattle.pk_join.specs.declared.input.MergeInput.{MergeInput}
+use Rattle.pk_join.specs.Inputs.{SpellsInputs}
+use Rattle.pk_merge.specs.Merging.{CountsMerge, IsSomeMerged, MergedAs}
 use Rattle.pk_model.specs.declared.commands.Refusal.{Refusal}
 use Rattle.pk_model.specs.declared.commands.Refusal.TheVariants.{Reopen, TextTooLong, BufferFull, NumbersUsedUp, NoSuchDocument, TooManySegments, SegmentTooLarge, Memory, Full, Damaged, Disk}
 use Rattle.pk_model.specs.Collection.{IsCollection, numbers_of}
@@ -19,13 +20,14 @@ use Rattle.pk_state.specs.Holds.{SpellsEntries}
 use Rattle.pk_state.specs.Writing.{written_kind}
 use Rattle.pk_state.proofs.HoldsLemmas.{kept_spelled}
 use Rattle.pk_state.proofs.WholeLemmas.{collection_above, increasing}
-use Rattle.pk_store.specs.declared.planning.Plan.{Plan}
-use Rattle.pk_store.specs.Merging.{MergeCause, PlansMerged, PlansRun, run_of}
-use Rattle.pk_store.specs.Plan.{DueAs}
-use Rattle.pk_store.specs.Refusing.{merge_refusal}
+use Rattle.pk_layout.specs.declared.planning.Plan.{Plan}
+use Rattle.pk_store.specs.Merging.{MergeCause, PlansRun}
+use Rattle.pk_layout.specs.Merging.{PlansMerged, run_of}
+use Rattle.pk_layout.specs.Plan.{DueAs}
+use Rattle.pk_layout.specs.Refusing.{merge_refusal}
 use Rattle.pk_store.specs.View.{IsReady, KeepsVolume, StandFor, VolumeView, committed_by}
-use Rattle.pk_store.proofs.MergedLemmas.{fault_answers, fault_rightly, merge_answers, merge_rightly}
-use Rattle.pk_store.proofs.ReplacedLemmas.{above_run, open_run, spelled_run}
+use Rattle.pk_layout.proofs.MergedLemmas.{fault_answers, fault_rightly, merge_answers, merge_rightly}
+use Rattle.pk_layout.proofs.ReplacedLemmas.{above_run, open_run, spelled_run}
 
 -- ---- what failed
 
@@ -48,6 +50,7 @@ fault_cause d old new merging.TooLarge keeps reads = record { reads = reads.too_
 fault_cause d old new merging.Damaged keeps reads = record { reads = reads.damaged refl; writes = keeps.writes }
 fault_cause d old new merging.Disk keeps reads = record { reads = reads.disk refl; writes = keeps.writes }
 fault_cause d old new merging.Memory keeps reads = record { reads = reads.memory refl; writes = keeps.writes }
+fault_cause d old new merging.NotWritten keeps reads = absurd (reads.unwritten refl)
 
 -- ---- the volume after it
 
@@ -91,7 +94,7 @@ module _ {D : Type 0} (d : Ghosts D) (v : VolumeView D) (disk : D) (ready : IsRe
   plans_none fault merged reads = record {
     plans = λ honest stored stand clear numbers. fault_answers v.body v.opened stored from n fault
         (merged_there {T = Result (Option (Vec ℕ Global)) MergeFault} (Err fault) (λ ss x. MergedAs (live_in ss) written_kind x) merged honest stored stand clear numbers);
-    rightly = fault_rightly size v.body fault;
+    rightly = fault_rightly size v.body v.opened fault;
     keeps = kept;
     cause = fault_cause d v.disk disk fault keeps reads;
   }

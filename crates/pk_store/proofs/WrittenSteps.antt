@@ -13,8 +13,8 @@ use Rattle.pk_search.specs.Opened.{AreOpenOf, present}
 use Rattle.pk_state.specs.Committed.{Stored, Committed, collection_of, live_in, whole_of}
 use Rattle.pk_state.specs.Holds.{HoldsOne}
 use Rattle.pk_state.specs.Legal.{State, Fails, LegalStep, flagged, has_work, marked}
-use Rattle.pk_store.specs.declared.planning.Plan.{Plan}
-use Rattle.pk_store.specs.Plan.{Carries, EndsAs, Goes, IsFlagged}
+use Rattle.pk_layout.specs.declared.planning.Plan.{Plan}
+use Rattle.pk_store.specs.Carrying.{Carries, EndsAs, Goes, IsFlagged}
 use Rattle.pk_store.specs.Steps.{HoldsIn, IsIdle, Steps, StepsTo, may_refuse}
 use Rattle.pk_store.specs.View.{KeepsVolume, Means, StandFor, StoreView, VolumeView, committed_by, state_with}
 use Rattle.pk_store.proofs.ReadSteps.{reads_to}

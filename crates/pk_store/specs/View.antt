@@ -1,9 +1,10 @@
 -- A store as callers see it, and which states it means.
 use Rattle.std.specs.Prelude.{◌≡◌, ◌≤◌, ◌<◌, ℕ, Bool, true, false, List, ◌++◌, length, All, sum_by}
-use Rattle.std.specs.Prelude.{Result, Ok, Err}
+use Rattle.std.specs.Prelude.{Option, Result, Ok, Err}
 use Rattle.std.specs.Global.{Vec}
+use Rattle.pk_cache.specs.declared.cache.BlockCache.{BlockCache}
 use Rattle.pk_disk.specs.declared.disk.Disk.{Ghosts}
-use Rattle.pk_disk.specs.Disk.{IsImage}
+use Rattle.pk_disk.specs.Disk.{IsImage, nowhere}
 use Rattle.pk_disk.specs.Frames.{KeepsDisk}
 use Rattle.pk_manifest.specs.declared.half.Half.{Half}
 use Rattle.pk_manifest.specs.Bodies.{bodies_end, body_of, other}
@@ -17,7 +18,9 @@ use Rattle.pk_model.specs.declared.commands.Refusal.TheVariants.{Disk, Memory}
 use Rattle.pk_model.specs.declared.documents.DocNo.{DocNo}
 use Rattle.pk_model.specs.Views.{numbers_in}
 use Rattle.pk_model.specs.Limits.{end_of_numbers, max_buffered_bytes, max_buffered_documents}
+use Rattle.pk_layout.specs.Plan.{IsGrown}
 use Rattle.pk_search.specs.declared.opened.OpenSegment.{OpenSegment}
+use Rattle.pk_search.specs.Cached.{CacheAgrees, KeepsBelow}
 use Rattle.pk_search.specs.Opened.{AreOpenOf, present}
 use Rattle.pk_state.specs.Committed.{Stored, Committed, live_in, whole_of}
 use Rattle.pk_state.specs.Holds.{HoldsOne, IndexesEntries}
@@ -65,10 +68,6 @@ pub record IsBuffered (committed next : ℕ) (buffer : List Doc) : Type 0 where
   pub few : length buffer ≤ max_buffered_documents
   pub small : sum_by (λ (d : Doc). length d.text) buffer ≤ max_buffered_bytes
 
--- no number of its deletion list is forgotten among those that are deleted, as far as counting goes
-abbrev pub IsGrown : OpenSegment → Type 0
-IsGrown o = length o.dead ≤ length o.deleted
-
 -- What is known of a volume, whatever its segments hold: its body is sound there, one open segment
 -- stands for each of its entries, and on an honest disk the body stands fast in the half that isn't
 -- the spare one, unless a write has failed.
@@ -80,6 +79,16 @@ pub record IsReady {D : Type 0} (d : Ghosts D) (v : VolumeView D) : Type 0 where
   pub firm : d.honest → v.reopen ≡ false → IsFirm (d.content v.disk) (d.is_open v.disk) v.spare
   pub in_force : d.honest → v.reopen ≡ false
       → body_of (d.content v.disk) (other v.spare) ≡ spelling v.body
+
+-- What is known of the blocks that are kept, whatever the segments hold: they are of segments whose
+-- ids were given; and on an honest disk, unless a write has failed, nothing is open, and they agree
+-- with the segments.
+pub record IsCached {D : Type 0} (d : Ghosts D) (v : VolumeView D) (cache : Option BlockCache)
+    : Type 0 where
+  pub below : KeepsBelow v.body.next_segment cache
+  pub closed : d.honest → v.reopen ≡ false → d.is_open v.disk ≡ nowhere
+  pub agrees : d.honest → v.reopen ≡ false
+      → CacheAgrees (d.content v.disk) cache v.body.entries v.opened
 
 -- The entries of the volume stand for these: its open segments do, and the disk keeps them.
 pub record StandFor {D : Type 0} (d : Ghosts D) (v : VolumeView D) (stored : List Stored)

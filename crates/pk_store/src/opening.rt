@@ -23,8 +23,9 @@ ghost use Rattle.pk_store.specs.Judging.{JudgesFound, IsLarge, OpensNext, Segmen
 ghost use Rattle.pk_store.specs.Judging.{SegmentCause, SegmentsAs};
 ghost use Rattle.pk_store.specs.Opening.{ExtentOpensAs, OnSynced, OpenCause, Opens, OpensAsList};
 ghost use Rattle.pk_store.specs.Opening.{OpensAsSegment, SpellsFew};
-ghost use Rattle.pk_store.specs.View.{IsGrown};
+ghost use Rattle.pk_layout.specs.Plan.{IsGrown};
 
+use crate::caching::cache_of;
 use crate::refused::{OpenFault, Refused};
 use crate::store::Store;
 use crate::volume::Volume;
@@ -260,12 +261,12 @@ impl<D: Disk> Store<D> {
     /// deletion list is no spelling of a list or has more numbers than its segment has documents,
     /// or the numbers don't rise from segment to segment below the next number; or as memory.
     ///
-    /// No more than `cache_blocks` decoded blocks will be kept, none with 0, at most 65,536. So far
-    /// there are none to keep.
+    /// The store keeps blocks of posting lists that its finds decode: no more than `cache_blocks`
+    /// of them, none with 0, and at most 65,536. No answer depends on it.
     pub fn open_on(
         alloc: Global,
         mut disk: D,
-        _cache_blocks: u32,
+        cache_blocks: u32,
     ) -> Result<Store<D>, Refused<D, OpenFault>>
         ensures { Opens D.Disk disk result }
     {
@@ -278,10 +279,16 @@ impl<D: Disk> Store<D> {
         match judge(alloc, &mut disk) {
             Err(why) => Err(Refused { disk, why }),
             Ok(found) => {
+                let Ok(cache) = cache_of(alloc, cache_blocks) else {
+                    return Err(Refused {
+                        disk,
+                        why: OpenFault::Memory,
+                    });
+                };
                 let next = found.manifest.next_number;
                 let spare = found.half.other();
                 Ok(Store {
-                    volume: Volume::new(disk, found.manifest, found.opened, spare),
+                    volume: Volume::new(disk, found.manifest, found.opened, spare, cache),
                     buffer: Buffer::new(alloc),
                     next,
                 })

@@ -17,14 +17,15 @@ ghost use Rattle.pk_store.specs.Deleting.{DeletesAt, DeletesIn};
 ghost use Rattle.pk_merge.specs.Choosing.{ChoosesAs};
 ghost use Rattle.pk_state.specs.Writing.{is_merged, sizes_of};
 ghost use Rattle.pk_store.specs.Merging.{PlansRun};
-ghost use Rattle.pk_store.specs.Plan.{AreNext, Carries, DueAs, IsPlan, PlansAs};
-ghost use Rattle.pk_store.specs.View.{IsReady, KeepsVolume, StandFor, committed_by, volume_of};
+ghost use Rattle.pk_layout.specs.Plan.{AreNext, DueAs, GoesOn, IsPlan, PlansAs};
+ghost use Rattle.pk_store.specs.Carrying.{Carries};
+ghost use Rattle.pk_store.specs.View.{IsCached, IsReady, KeepsVolume, StandFor, committed_by};
+ghost use Rattle.pk_store.specs.View.{volume_of};
 
-use crate::committing::plan_commit;
-use crate::merging::{MAX_DELETED, inputs_of, plan_merged, refusal_of};
-use crate::planning::{Plan, written_kind};
+use pk_cache::BlockCache;
 use pk_disk::Disk;
 use pk_index::Index;
+use pk_layout::{MAX_DELETED, Plan, inputs_of, plan_commit, plan_merged, refusal_of, written_kind};
 use pk_manifest::{Half, Manifest};
 use pk_merge::{choose, merged};
 use pk_model::limits::{END_OF_IDS, MAX_SEGMENTS};
@@ -49,11 +50,13 @@ pub(crate) struct Volume<D: Disk> {
     spare: Half,
     /// A write or a sync failed: the disk has to be opened again.
     reopen: bool,
+    /// Blocks of posting lists that finds decoded, where some are to be kept. No caller sees them.
+    cache: Option<BlockCache>,
 }
 
 impl<D: Disk> Model for Volume<D> {
     ghost use Rattle.pk_manifest.specs.Spelling.{view as body_of};
-    ghost use Rattle.pk_store.specs.View.{VolumeView, IsReady};
+    ghost use Rattle.pk_store.specs.View.{IsCached, IsReady, VolumeView};
 
     ghost Value = { VolumeView D };
 
@@ -71,18 +74,27 @@ impl<D: Disk> Model for Volume<D> {
       opened = v.opened.items;
       spare = v.spare;
       reopen = v.reopen;
-    }) };
+    }) × IsCached D.Disk (record {
+      disk = v.disk;
+      body = body_of v.manifest;
+      opened = v.opened.items;
+      spare = v.spare;
+      reopen = v.reopen;
+    }) v.cache };
 }
 
 impl<D: Disk> Volume<D> {
-    /// The volume of a disk whose body in force says this, with these segments open.
+    /// The volume of a disk whose body in force says this, with these segments open and this cache.
     pub(crate) fn new(
         disk: D,
         manifest: Manifest,
         opened: Vec<OpenSegment>,
         spare: Half,
+        cache: Option<BlockCache>,
     ) -> Volume<D>
-        requires { IsReady D.Disk (volume_of disk (view manifest) opened.items spare) }
+        requires ready { IsReady D.Disk (volume_of disk (view manifest) opened.items spare) }
+        requires cached { IsCached D.Disk (volume_of disk (view manifest) opened.items spare)
+            cache }
         ensures { result ≡ volume_of disk (view manifest) opened.items spare }
     {
         Volume {
@@ -91,6 +103,7 @@ impl<D: Disk> Volume<D> {
             opened,
             spare,
             reopen: false,
+            cache,
         }
     }
 
@@ -118,7 +131,7 @@ impl<D: Disk> Volume<D> {
     ) -> Result<(), ReadFault>
         ensures found { D.honest → (stored : List Stored)
             → IndexesEntries (D.content self.old.disk) self.old.body.entries stored
-            → AreOpenOf self.old.opened stored
+            → AreOpenOf self.old.opened stored → self.old.reopen ≡ false
             → FoundAs (tree_of query.now) (live_in (present self.old.opened stored)) found.old.items
             found.new.items result }
         ensures keeps { KeepsVolume D.Disk self.old self.new }
@@ -128,6 +141,7 @@ impl<D: Disk> Volume<D> {
         find_stored(
             alloc,
             &mut self.disk,
+            &mut self.cache,
             &self.manifest.entries,
             &self.opened,
             query,
@@ -306,6 +320,7 @@ impl<D: Disk> Volume<D> {
     pub(crate) fn carry_out(&mut self, plan: Plan) -> Result<(), Refusal>
         requires clear { self.old.reopen ≡ false }
         requires planned { IsPlan (length (D.content self.old.disk)) self.old.body plan }
+        requires goes_on { GoesOn self.old.body self.old.opened plan }
         ensures { Carries D.Disk self.old plan result self.new }
     {
         let writer = Pieces(&plan.pieces);

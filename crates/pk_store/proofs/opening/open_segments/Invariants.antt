@@ -3,7 +3,7 @@ use Rattle.std.proofs.Common.{◌≡◌, length, drop}
 use Rattle.std.specs.Prelude.{All}
 use Rattle.pk_disk.specs.Frames.{KeepsDisk}
 use Rattle.pk_store.specs.Judging.{IsOpenSoFar}
-use Rattle.pk_store.specs.View.{IsGrown}
+use Rattle.pk_layout.specs.Plan.{IsGrown}
 use Rattle.pk_store.proofs.opening.open_segments.Given as goal
 
 abbrev pub invariant-loop-entry : goal.invariant-loop-entry

@@ -3,11 +3,12 @@ use Rattle.std.proofs.Common.{◌≡◌, ◌∙◌, ℕ, List, true, false, [], 
 use Rattle.std.proofs.lemmas.Result.{err_from_is_err_and}
 use Rattle.pk_manifest.specs.Spelling.{Body}
 use Rattle.pk_model.specs.Collection.{Doc}
-use Rattle.pk_store.specs.Plan.{AreNext, DueAs, PlansAs}
+use Rattle.pk_layout.specs.Plan.{AreNext, DueAs, PlansAs}
 use Rattle.pk_store.specs.Steps.{is_new}
 use Rattle.pk_store.specs.View.{IsBuffered}
 use Rattle.pk_store.proofs.CommitSteps.{done_steps, due_steps, failed_steps, flag_steps, news_is, nothing_steps, unplanned_steps}
-use Rattle.pk_store.proofs.PlanLemmas.{as_many, none_buffered}
+use Rattle.pk_layout.proofs.PlanLemmas.{as_many}
+use Rattle.pk_store.proofs.BufferLemmas.{none_buffered}
 use Rattle.pk_store.proofs.StoreSteps.{view_of}
 use Rattle.pk_store.proofs.WrittenSteps.{failed_body}
 use Rattle.pk_store.proofs.store.Store.commit.Goals as goal
@@ -54,6 +55,9 @@ carry_out-requires-clause-clear g c = (sym c.must_reopen.ensures ∙ c.if-must_r
 
 pub carry_out-requires-clause-planned : goal.carry_out-requires-clause-planned
 carry_out-requires-clause-planned g c = c.in_ok-plan.ensures.0
+
+pub carry_out-requires-clause-goes_on : goal.carry_out-requires-clause-goes_on
+carry_out-requires-clause-goes_on g c = c.in_ok-plan.ensures.1.goes_on
 
 pub invariant_of-self : goal.invariant_of-self
 invariant_of-self g c =

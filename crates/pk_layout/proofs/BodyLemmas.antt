@@ -1,0 +1,171 @@
+-- The body that follows another one, and the claims of entries.
+use Rattle.std.proofs.Common.{◌≡◌, ℕ, ◌+◌, ◌<◌, ◌≤◌, ◌^◌, true, false, ◌&&◌, eqb, leb, ltb, List, [], ◌∷◌, ◌++◌, length, Option, Some, None, refl, sym, ◌∙◌, ap, subst, arith, append-nil, append_assoc}
+use Rattle.std.specs.List.{flat_map, list_all, list_any}
+use Rattle.std.proofs.lemmas.Bool.{and_from, and_parts, eqb-true, leb-true, le-leb, ltb-true, lt-ltb}
+use Rattle.std.proofs.lemmas.Bool.Decides.{nat_tests}
+use Rattle.std.proofs.lemmas.List.Concat.{flat_map-cons}
+use Rattle.pk_disk.proofs.Ranges.{or_both}
+use Rattle.pk_disk.specs.Units.{IsFitted, apart, lies_within, overlap, start_of}
+use Rattle.pk_disk.specs.declared.units.Extent.{Extent}
+use Rattle.pk_manifest.specs.declared.manifest.Part.{Part as Entry}
+use Rattle.pk_manifest.specs.Sound.{IsBody, dead_extents, extents_of, is_dead, is_extent, is_part, is_sound, named, same_segment}
+use Rattle.pk_manifest.specs.Spelling.{Body}
+use Rattle.pk_model.specs.Limits.{end_of_ids, end_of_numbers}
+use Rattle.pk_posting.specs.Spelling.{spelling}
+use Rattle.pk_posting.proofs.SpellingLemmas.{length_spelling}
+use Rattle.pk_replace.specs.Claims.{Claim}
+use Rattle.pk_segment.proofs.SegmentLemmas.{length_segment}
+use Rattle.pk_state.specs.Committed.{Stored}
+use Rattle.pk_state.specs.Kept.{AreEntries, IsList, claims_in, claims_of, list_claims, segment_claim}
+use Rattle.pk_state.specs.Writing.{new_entry, next_body, written_kind}
+use Rattle.pk_state.proofs.HoldsLemmas.{fitted_entry, fitted_list}
+use Rattle.pk_state.proofs.KindLemmas.{kind_within, written_is_kind}
+use Rattle.pk_layout.specs.Placed.{AreLaid}
+use Rattle.pk_layout.proofs.ApartLemmas.{in_by}
+use Rattle.pk_layout.proofs.ExtentLemmas.{laid_append, lies_in}
+
+-- an entry stays sound when ids go on
+part_later : (units next : ℕ) (p : Entry) → is_part units next p ≡ true → is_part units (next + 1) p ≡ true
+part_later units next p h =
+    let a = and_parts (leb 1 p.segment && ltb p.segment next && leb 1 p.kind && leb p.kind 2 && is_extent units 1 p.extent) (is_dead units p.dead) h in
+    let b = and_parts (leb 1 p.segment && ltb p.segment next && leb 1 p.kind && leb p.kind 2) (is_extent units 1 p.extent) a.0 in
+    let c = and_parts (leb 1 p.segment && ltb p.segment next && leb 1 p.kind) (leb p.kind 2) b.0 in
+    let d = and_parts (leb 1 p.segment && ltb p.segment next) (leb 1 p.kind) c.0 in
+    let e = and_parts (leb 1 p.segment) (ltb p.segment next) d.0 in
+    let lt : p.segment < next = ltb-true _ _ e.1 in
+    and_from _ _ (and_from _ _ (and_from _ _ (and_from _ _ (and_from _ _ e.0 (lt-ltb p.segment (next + 1) (omega (arith, lt)))) d.1) c.1) b.1) a.1
+
+pub parts_later : (units next : ℕ) (ps : List Entry) → list_all (is_part units next) ps ≡ true → list_all (is_part units (next + 1)) ps ≡ true
+parts_later units next [] h = refl
+parts_later units next (p ∷ ps) h =
+    let parts = and_parts (is_part units next p) (list_all (is_part units next) ps) h in
+    and_from (is_part units (next + 1) p) (list_all (is_part units (next + 1)) ps) (part_later units next p parts.0) (parts_later units next ps parts.1)
+
+-- its id is above the others'
+pub part_below : (units next : ℕ) (p : Entry) → is_part units next p ≡ true → p.segment < next
+part_below units next p h =
+    let a = and_parts (leb 1 p.segment && ltb p.segment next && leb 1 p.kind && leb p.kind 2 && is_extent units 1 p.extent) (is_dead units p.dead) h in
+    let b = and_parts (leb 1 p.segment && ltb p.segment next && leb 1 p.kind && leb p.kind 2) (is_extent units 1 p.extent) a.0 in
+    let c = and_parts (leb 1 p.segment && ltb p.segment next && leb 1 p.kind) (leb p.kind 2) b.0 in
+    let d = and_parts (leb 1 p.segment && ltb p.segment next) (leb 1 p.kind) c.0 in
+    ltb-true _ _ (and_parts (leb 1 p.segment) (ltb p.segment next) d.0).1
+
+pub new_id : (units : ℕ) (n : Entry) (ps : List Entry) → list_all (is_part units n.segment) ps ≡ true → list_any (same_segment n) ps ≡ false
+new_id units n [] all = refl
+new_id units n (p ∷ ps) all =
+    let parts = and_parts (is_part units n.segment p) (list_all (is_part units n.segment) ps) all in
+    let lt = part_below units n.segment p parts.0 in
+    let other : eqb n.segment p.segment ≡ false = grind (arith, nat_tests, lt) in
+    or_both (same_segment n p) (list_any (same_segment n) ps) other (new_id units n ps parts.1)
+
+pub segments_turned : (p q : Entry) → same_segment p q ≡ false → same_segment q p ≡ false
+segments_turned p q h = grind (arith, nat_tests, h)
+
+pub ids_apart : (units : ℕ) (n : Entry) (ps : List Entry) → list_all (is_part units n.segment) ps ≡ true → apart same_segment ps ≡ true → apart same_segment (ps ++ n ∷ []) ≡ true
+ids_apart units n ps all h =
+    let same : ps ++ [] ≡ ps = append-nil ps in
+    in_by same_segment segments_turned ps [] n (ap (list_any (same_segment n)) same ∙ new_id units n ps all) (ap (apart same_segment) same ∙ h)
+
+-- what a sound body says, part by part
+pub record SaysSound (units : ℕ) (b : Body) : Type 0 where
+  pub generation : 1 ≤ b.generation
+  pub of_disk : b.units ≡ units
+  pub next_number : 1 ≤ b.next_number
+  pub next_segment : 1 ≤ b.next_segment
+  pub few : length b.entries ≤ 64
+  pub parts : list_all (is_part units b.next_segment) b.entries ≡ true
+  pub ids : apart same_segment b.entries ≡ true
+  pub places : apart overlap (named b) ≡ true
+
+pub says_sound : (units : ℕ) (b : Body) → is_sound units b ≡ true → SaysSound units b
+says_sound units b h =
+    let a = and_parts (leb 1 b.generation && eqb b.units units && leb 1 b.next_number && leb 1 b.next_segment && leb (length b.entries) 64 && list_all (is_part units b.next_segment) b.entries && apart same_segment b.entries) (apart overlap (named b)) h in
+    let c = and_parts (leb 1 b.generation && eqb b.units units && leb 1 b.next_number && leb 1 b.next_segment && leb (length b.entries) 64 && list_all (is_part units b.next_segment) b.entries) (apart same_segment b.entries) a.0 in
+    let d = and_parts (leb 1 b.generation && eqb b.units units && leb 1 b.next_number && leb 1 b.next_segment && leb (length b.entries) 64) (list_all (is_part units b.next_segment) b.entries) c.0 in
+    let e = and_parts (leb 1 b.generation && eqb b.units units && leb 1 b.next_number && leb 1 b.next_segment) (leb (length b.entries) 64) d.0 in
+    let f = and_parts (leb 1 b.generation && eqb b.units units && leb 1 b.next_number) (leb 1 b.next_segment) e.0 in
+    let g = and_parts (leb 1 b.generation && eqb b.units units) (leb 1 b.next_number) f.0 in
+    let k = and_parts (leb 1 b.generation) (eqb b.units units) g.0 in
+    record { generation = leb-true _ _ k.0; of_disk = eqb-true _ _ k.1; next_number = leb-true _ _ g.1; next_segment = leb-true _ _ f.1; few = leb-true _ _ e.1; parts = d.1; ids = c.1; places = a.1 }
+
+pub eqb_same : (a b : ℕ) → a ≡ b → eqb a b ≡ true
+eqb_same a b h = grind (arith, nat_tests, h)
+
+pub is_sound_by : (units : ℕ) (b : Body) → SaysSound units b → is_sound units b ≡ true
+is_sound_by units b s =
+    and_from _ _ (and_from _ _ (and_from _ _ (and_from _ _ (and_from _ _ (and_from _ _ (and_from _ _ (le-leb _ _ s.generation) (eqb_same _ _ s.of_disk)) (le-leb _ _ s.next_number)) (le-leb _ _ s.next_segment)) (le-leb _ _ s.few)) s.parts) s.ids) s.places
+
+-- ---- a body that follows is sound
+
+pub no_more : (n : ℕ) → n + 0 ≡ n
+no_more n = omega arith
+
+-- with these entries, a generation later
+pub next_sound : (units : ℕ) (b : Body) (next given : ℕ) (entries : List Entry) → IsBody units b → b.generation < end_of_ids → b.next_segment + given < 2 ^ 64 → 1 ≤ next → next ≤ end_of_numbers → length entries ≤ 64
+    → list_all (is_part units (b.next_segment + given)) entries ≡ true → apart same_segment entries ≡ true → apart overlap (flat_map extents_of entries) ≡ true → IsBody units (next_body b next given entries)
+next_sound units b next given entries is left ids some most few parts own places =
+    let s = says_sound units b is.sound in
+    let one : 1 ≤ b.next_segment = s.next_segment in
+    record {
+      generation = omega (arith, left);
+      units = is.units;
+      next_number = omega (arith, most);
+      next_segment = ids;
+      sound = is_sound_by units (next_body b next given entries) (record {
+        generation = omega arith;
+        of_disk = s.of_disk;
+        next_number = some;
+        next_segment = omega (arith, one);
+        few = few;
+        parts = parts;
+        ids = own;
+        places = places;
+      });
+    }
+
+-- the entry of a new segment in an extent of the disk
+pub new_part : (units : ℕ) (b : Body) (e : Extent) → 1 ≤ b.next_segment → 1 ≤ e.bytes → e.bytes ≤ 1073741824 → IsFitted e → lies_within units e ≡ true → is_part units (b.next_segment + 1) (new_entry b e) ≡ true
+new_part units b e id least most fitted within =
+    let kind = kind_within written_kind written_is_kind in
+    and_from _ _ (and_from _ _ (and_from _ _ (and_from _ _ (and_from _ _ (le-leb _ _ id) (lt-ltb b.next_segment (b.next_segment + 1) (omega arith))) (le-leb _ _ kind.0)) (le-leb _ _ kind.1))
+    (and_from _ _ (and_from _ _ (and_from _ _ (le-leb _ _ least) (le-leb _ _ most)) (eqb_same _ _ fitted)) within)) refl
+
+-- that of a new list
+pub list_extent : (units : ℕ) (e : Extent) → 5 ≤ e.bytes → e.bytes ≤ 1073741824 → IsFitted e → lies_within units e ≡ true → is_extent units 5 e ≡ true
+list_extent units e least most fitted within = and_from _ _ (and_from _ _ (and_from _ _ (le-leb _ _ least) (le-leb _ _ most)) (eqb_same _ _ fitted)) within
+
+-- ---- what entries and segments stand for, with one more
+pub entries_append : (es fs : List Entry) (xs ys : List Stored) → AreEntries es xs → AreEntries fs ys → AreEntries (es ++ fs) (xs ++ ys)
+entries_append [] fs [] ys a b = b
+entries_append [] fs (x ∷ xs) ys a b = absurd a
+entries_append (e ∷ es) fs [] ys a b = absurd a
+entries_append (e ∷ es) fs (x ∷ xs) ys a b = (a.0, entries_append es fs xs ys a.1 b)
+
+pub claims_append : (es fs : List Entry) (xs ys : List Stored) → AreEntries es xs → claims_of (es ++ fs) (xs ++ ys) ≡ claims_of es xs ++ claims_of fs ys
+claims_append [] fs [] ys a = refl
+claims_append [] fs (x ∷ xs) ys a = absurd a
+claims_append (e ∷ es) fs [] ys a = absurd a
+claims_append (e ∷ es) fs (x ∷ xs) ys a = ap (λ cs. claims_in e x ++ cs) (claims_append es fs xs ys a.1) ∙ sym (append_assoc (claims_in e x) (claims_of es xs) (claims_of fs ys))
+
+-- ---- the claims of entries lie in the extents that they name
+pub list_of_part : (units next : ℕ) (e : Entry) → is_part units next e ≡ true → is_dead units e.dead ≡ true
+list_of_part units next e h = (and_parts (leb 1 e.segment && ltb e.segment next && leb 1 e.kind && leb e.kind 2 && is_extent units 1 e.extent) (is_dead units e.dead) h).1
+
+abbrev list_claim : Extent → List ℕ → Claim
+list_claim e dead = record { at = start_of e; bytes = spelling dead }
+
+list_laid : (units : ℕ) (list : Option Extent) (s : Stored) → is_dead units list ≡ true → IsList list s → AreLaid (dead_extents list) (list_claims list s.dead)
+list_laid units None s h is = tt
+list_laid units (Some e) s h is = (lies_in e (list_claim e s.dead) (fitted_list units e h) refl (length_spelling s.dead ∙ sym is.long), tt)
+
+pub entries_laid : (units next : ℕ) (es : List Entry) (stored : List Stored) → list_all (is_part units next) es ≡ true → AreEntries es stored → AreLaid (flat_map extents_of es) (claims_of es stored)
+entries_laid units next [] [] h are = tt
+entries_laid units next [] (x ∷ stored) h are = absurd are
+entries_laid units next (e ∷ es) [] h are = absurd are
+entries_laid units next (e ∷ es) (x ∷ stored) h are =
+    let both = and_parts (is_part units next e) (list_all (is_part units next) es) h in
+    let segment = are.0.segment in
+    subst (λ (xs : List Extent). AreLaid xs (claims_of (e ∷ es) (x ∷ stored))) (sym (flat_map-cons extents_of e es))
+    (laid_append (extents_of e) (flat_map extents_of es) (claims_in e x) (claims_of es stored)
+    (lies_in e.extent (segment_claim e x) (fitted_entry units next e both.0).0 refl (length_segment x.documents e.kind ∙ sym segment.long), list_laid units e.dead x (list_of_part units next e both.0) are.0.list)
+    (entries_laid units next es stored both.1 are.1))

@@ -1,0 +1,260 @@
+-- What is going to be written, and what is committed once it is.
+use Rattle.std.specs.Prelude.{◌≡◌, ◌+◌, ◌≤◌, ◌<◌, ◌⊎◌, ◌&&◌, ℕ, Bool, true, false, not, List}
+use Rattle.std.specs.Prelude.{[], ◌∷◌, ◌++◌, if◌then◌else◌}
+use Rattle.std.specs.Prelude.{get_or, map, length, All, Option, Some, None, Result, Ok, Err}
+use Rattle.std.specs.Global.{Vec}
+use Rattle.std.specs.List.Sorted.{IsStrictlyIncreasing}
+use Rattle.pk_disk.specs.Disk.{in_range}
+use Rattle.pk_disk.specs.Units.{IsFitted, start_of, units_for, units_in}
+use Rattle.pk_disk.specs.declared.units.Extent.{Extent}
+use Rattle.pk_manifest.specs.declared.half.Half.{Half}
+use Rattle.pk_manifest.specs.Sound.{IsBody, named, segment_limit}
+use Rattle.pk_manifest.specs.declared.manifest.Part.{Part as Entry}
+use Rattle.pk_manifest.specs.Spelling.{Body, spelling, view}
+use Rattle.pk_model.specs.Collection.{Doc, numbers_of}
+use Rattle.pk_model.specs.Limits.{end_of_ids, end_of_numbers, max_segments}
+use Rattle.pk_model.specs.declared.commands.Refusal.{Refusal}
+use Rattle.pk_model.specs.declared.commands.Refusal.TheVariants.{NumbersUsedUp, TooManySegments}
+use Rattle.pk_model.specs.declared.commands.Refusal.TheVariants.{SegmentTooLarge, Full, Memory}
+use Rattle.pk_replace.specs.Claims.{AreApart, Claim, Each, IsAmong, IsInside, IsUntouched}
+use Rattle.pk_replace.specs.Claims.{claim_of, places}
+use Rattle.pk_replace.specs.Course.{touched_by}
+use Rattle.pk_segment.specs.declared.segment.Segment.{Segment}
+use Rattle.pk_segment.specs.Opened.{IsSegmentOf}
+use Rattle.pk_posting.specs.Spelling.{spelling as list_spelling}
+use Rattle.pk_search.specs.declared.opened.OpenSegment.{OpenSegment}
+use Rattle.pk_search.specs.Opened.{AreOpenOf, pends, present}
+use Rattle.pk_segment.specs.Spelling.{SegmentSpells, longest}
+use Rattle.pk_segment.specs.Spelling.{segment_length, segment_spelling}
+use Rattle.pk_space.specs.declared.runs.Full.{Full as NoRoom}
+use Rattle.pk_space.specs.Free.{IsFirstFit, IsFullAt}
+use Rattle.pk_space.specs.Places.{PlacedAs, FullAs}
+use Rattle.pk_state.specs.Committed.{Stored, Committed}
+use Rattle.pk_state.specs.Kept.{AreEntries, claims_of}
+use Rattle.pk_state.specs.Writing.{is_too_large, new_entry, new_stored, next_body, written_kind}
+use Rattle.pk_layout.specs.declared.planning.Plan.{Plan}
+use Rattle.pk_layout.specs.Placed.{AreLaid}
+
+-- the entry with a list in this extent
+abbrev pub with_list : Entry → Extent → Entry
+with_list e x = record { segment = e.segment; extent = e.extent; kind = e.kind; dead = Some x }
+
+-- the entries, those with a pending deletion with their new lists in these extents, one after the
+-- other
+abbrev pub relisted : List Entry → List OpenSegment → List Extent → List Entry
+relisted [] opened extents = []
+relisted (e ∷ es) [] extents = e ∷ es
+relisted (e ∷ es) (o ∷ opened) [] = e ∷ es
+relisted (e ∷ es) (o ∷ opened) (x ∷ extents) =
+    if pends o then with_list e x ∷ relisted es opened extents
+    else e ∷ relisted es opened (x ∷ extents)
+
+-- the bytes of the new lists
+abbrev pub new_lists : List OpenSegment → List (List ℕ)
+new_lists [] = []
+new_lists (o ∷ opened) =
+    if pends o then list_spelling o.deleted ∷ new_lists opened else new_lists opened
+
+-- and of a segment of these documents, none for no document
+abbrev pub new_segments : List Doc → List (List ℕ)
+new_segments [] = []
+new_segments (d ∷ docs) = segment_spelling (d ∷ docs) written_kind ∷ []
+
+-- all that a commit writes besides the body
+abbrev pub commit_bytes : List OpenSegment → List Doc → List (List ℕ)
+commit_bytes opened docs = new_segments docs ++ new_lists opened
+
+-- an open segment whose deletions are committed
+abbrev pub settled : OpenSegment → OpenSegment
+settled o = record { segment = o.segment; dead = o.deleted; deleted = o.deleted }
+
+abbrev pub AreSettled : List OpenSegment → Type 0
+AreSettled [] = Unit {0}
+AreSettled (o ∷ opened) = (o.deleted ≡ o.dead) × AreSettled opened
+
+-- what is committed after a commit of these documents and of all that is deleted
+abbrev pub commit_to : Committed → List OpenSegment → List Doc → ℕ → List Extent → Committed
+commit_to c opened [] next extents = record {
+  body = next_body c.body next 0 (relisted c.body.entries opened extents);
+  stored = present opened c.stored;
+}
+commit_to c opened (d ∷ docs) next [] = record {
+  body = next_body c.body next 0 (relisted c.body.entries opened []);
+  stored = present opened c.stored;
+}
+commit_to c opened (d ∷ docs) next (e ∷ extents) = record {
+  body = next_body c.body next 1
+      (relisted c.body.entries opened extents ++ new_entry c.body e ∷ []);
+  stored = present opened c.stored ++ new_stored (d ∷ docs) ∷ [];
+}
+
+-- no number of its deletion list is forgotten among those that are deleted, as far as counting goes
+abbrev pub IsGrown : OpenSegment → Type 0
+IsGrown o = length o.dead ≤ length o.deleted
+
+-- bytes, each from the start of the extent at its place
+abbrev pub laid_in : List Extent → List (List ℕ) → List Claim
+laid_in [] writes = []
+laid_in (e ∷ extents) [] = []
+laid_in (e ∷ extents) (w ∷ writes) =
+    record { at = start_of e; bytes = w } ∷ laid_in extents writes
+
+-- the plan puts that body in force, with these open segments and these bytes in those extents
+pub record IsPlanOf (b : Body) (opened : List OpenSegment) (extents : List Extent)
+    (writes : List (List ℕ)) (p : Plan) : Type 0 where
+  pub manifest_is : view p.manifest ≡ b
+  pub opened_is : p.opened.items ≡ opened
+  pub pieces_are : map claim_of p.pieces.items ≡ laid_in extents writes
+  pub body_is : p.body.items ≡ spelling (view p.manifest)
+
+-- A PLAN FOR A BODY, on a disk of so many bytes: the body that follows is sound, a generation
+-- later, with one open segment for each entry; the pieces lie on the disk and are apart.
+pub record IsPlan (size : ℕ) (b : Body) (p : Plan) : Type 0 where
+  pub generation : b.generation < end_of_ids
+  pub later : (view p.manifest).generation ≡ b.generation + 1
+  pub sound : IsBody (units_in size) (view p.manifest)
+  pub body_is : p.body.items ≡ spelling (view p.manifest)
+  pub opened : length p.opened.items ≡ length (view p.manifest).entries
+  pub grown : All IsGrown p.opened.items
+  pub inside : Each (IsInside size) (map claim_of p.pieces.items)
+  pub apart : AreApart (map claim_of p.pieces.items)
+
+-- The entry and its open segment are those at a place, but for what is deleted.
+pub record IsTakenFrom (entries : List Entry) (opened : List OpenSegment) (e : Entry)
+    (o : OpenSegment) : Type 0 where
+  pub place : ℕ
+  pub entry : Entry
+  pub was : OpenSegment
+  pub in_entries : place < length entries
+  pub in_opened : place < length opened
+  pub entry_is : entry ≡ get_or entries place entry
+  pub was_is : was ≡ get_or opened place was
+  pub id : e.segment ≡ entry.segment
+  pub extent : e.extent ≡ entry.extent
+  pub segment : o.segment ≡ was.segment
+
+-- each of the new entries with its open segment is taken from the old ones, or has an id that was
+-- not given before
+abbrev pub AreTaken : ℕ → List Entry → List OpenSegment → List Entry → List OpenSegment → Type 0
+AreTaken next entries opened [] os = Unit {0}
+AreTaken next entries opened (e ∷ es) [] = Unit {0}
+AreTaken next entries opened (e ∷ es) (o ∷ os) =
+    ((next ≤ e.segment) ⊎ IsTakenFrom entries opened e o) × AreTaken next entries opened es os
+
+-- The plan goes on with the segments of a body: each that it leaves stays as it is, the others have
+-- new ids, and no piece touches an extent that the body names.
+pub record GoesOn (b : Body) (opened : List OpenSegment) (p : Plan) : Type 0 where
+  pub ids : b.next_segment ≤ (view p.manifest).next_segment
+  pub taken : AreTaken b.next_segment b.entries opened (view p.manifest).entries p.opened.items
+  pub missed : (claims : List Claim) → AreLaid (named b) claims
+      → Each (IsUntouched (places (map claim_of p.pieces.items))) claims
+
+-- The plan takes what is committed over to this: the pieces touch no claim of what was, and each
+-- claim of what follows is one of these or a piece.
+pub record GoesTo (p : Plan) (old new : Committed) : Type 0 where
+  pub body : new.body ≡ view p.manifest
+  pub entries : AreEntries new.body.entries new.stored
+  pub opened : AreOpenOf p.opened.items new.stored
+  pub untouched : (spare : Half)
+      → Each (IsUntouched (touched_by spare (places (map claim_of p.pieces.items))))
+      (claims_of old.body.entries old.stored)
+  pub among : Each (λ c. IsAmong c (claims_of old.body.entries old.stored)
+      ⊎ IsAmong c (map claim_of p.pieces.items)) (claims_of new.body.entries new.stored)
+
+-- documents and a next number that may follow a body
+pub record AreNext (b : Body) (docs : List Doc) (next : ℕ) : Type 0 where
+  pub rising : IsStrictlyIncreasing (numbers_of docs)
+  pub least : All (λ (d : Doc). 1 ≤ d.number) docs
+  pub some : 1 ≤ next
+  pub most : next ≤ end_of_numbers
+
+-- WHAT PLANNING ANSWERS. Either the first run that fits so many bytes is answered, and free no
+-- more; or none is that long.
+abbrev pub IsTaken : (ℕ → Bool) → (ℕ → Bool) → ℕ → Result Extent NoRoom → Type 0
+IsTaken free free' bytes (Ok e) = (e.bytes ≡ bytes) × IsFitted e × IsFirstFit free e.units e.first
+    × ((u : ℕ) → free' u ≡ (free u && not (in_range e.first e.units u)))
+IsTaken free free' bytes (Err full) =
+    (full.need ≡ units_for bytes) × IsFullAt free full.need full.largest
+
+-- So many bytes each are placed, or why they are not.
+abbrev pub PlacesAs : Body → List ℕ → Result (Vec Extent) Refusal → Type 0
+PlacesAs b lengths (Ok extents) = PlacedAs b.units (named b) lengths extents.items
+PlacesAs b lengths (Err (Full need largest)) = FullAs b.units (named b) lengths need largest
+PlacesAs b lengths (Err Memory) = Unit {0}
+PlacesAs b lengths (Err why) = ⊥
+
+-- a segment is built and open, or why it is not
+abbrev pub BuildsAs : List Doc → Result (Vec ℕ × Segment) Refusal → Type 0
+BuildsAs docs (Ok built) = SegmentSpells built.0.items docs written_kind × IsSegmentOf built.1 docs
+BuildsAs docs (Err SegmentTooLarge) = longest < segment_length docs written_kind
+BuildsAs docs (Err Memory) = Unit {0}
+BuildsAs docs (Err why) = ⊥
+
+-- what may be written: at least five bytes each, and no more than a segment has
+abbrev pub CanBeWritten : List (List ℕ) → Type 0
+CanBeWritten writes = All (λ w. (5 ≤ length w) × (length w ≤ segment_limit)) writes
+
+-- a plan that writes these bytes at the first fit, and puts the body of their extents in force with
+-- these open segments, or why there is none
+abbrev pub PlansWith : Body → List (List ℕ) → List OpenSegment → (List Extent → Body)
+    → Result Plan Refusal → Type 0
+PlansWith b writes opened body (Ok p) =
+    (extents : List Extent) × PlacedAs b.units (named b) (map length writes) extents
+    × IsPlanOf (body extents) opened extents writes p
+PlansWith b writes opened body (Err (Full need largest)) =
+    FullAs b.units (named b) (map length writes) need largest
+PlansWith b writes opened body (Err Memory) = Unit {0}
+PlansWith b writes opened body (Err why) = ⊥
+
+-- an open segment just built
+abbrev pub fresh_segment : Segment → OpenSegment
+fresh_segment s = record { segment = s; dead = []; deleted = [] }
+
+-- the body after a commit without a document, and with a segment in the first of the extents
+abbrev pub body_with_lists : Body → List OpenSegment → ℕ → List Extent → Body
+body_with_lists b opened next extents = next_body b next 0 (relisted b.entries opened extents)
+
+abbrev pub body_with_segment : Body → List OpenSegment → ℕ → List Extent → Body
+body_with_segment b opened next [] = body_with_lists b opened next []
+body_with_segment b opened next (e ∷ extents) =
+    next_body b next 1 (relisted b.entries opened extents ++ new_entry b e ∷ [])
+
+-- the entries of a segment that there may be, and how many ids they take
+abbrev pub entry_in : Body → Option Extent → List Entry
+entry_in b None = []
+entry_in b (Some e) = new_entry b e ∷ []
+
+abbrev pub ids_in : Option Extent → ℕ
+ids_in None = 0
+ids_in (Some e) = 1
+
+-- the plan is one of a commit of these documents and of all that is deleted, placed at the first fit
+pub record PlansCommit (b : Body) (opened : List OpenSegment) (docs : List Doc) (next : ℕ) (p : Plan)
+    : Type 0 where
+  pub next_is : (view p.manifest).next_number ≡ next
+  pub settled : AreSettled p.opened.items
+  pub extents : List Extent
+  pub placed : PlacedAs b.units (named b) (map length (commit_bytes opened docs)) extents
+  pub fits : is_too_large docs ≡ false
+  pub goes_on : GoesOn b opened p
+  pub goes : (stored : List Stored) → AreEntries b.entries stored → AreOpenOf opened stored
+      → GoesTo p (record { body = b; stored = stored })
+      (commit_to (record { body = b; stored = stored }) opened docs next extents)
+
+-- a plan, or why there is none
+abbrev pub PlansAs : ℕ → Body → List OpenSegment → List Doc → ℕ → Result Plan Refusal → Type 0
+PlansAs size b opened docs next (Ok p) = IsPlan size b p × PlansCommit b opened docs next p
+PlansAs size b opened docs next (Err SegmentTooLarge) = is_too_large docs ≡ true
+PlansAs size b opened docs next (Err (Full need largest)) = (is_too_large docs ≡ false)
+    × FullAs b.units (named b) (map length (commit_bytes opened docs)) need largest
+PlansAs size b opened docs next (Err Memory) = Unit {0}
+PlansAs size b opened docs next (Err why) = ⊥
+
+-- the refusal that a body and so many documents fix, if any: no id is left, or no entry for them
+abbrev pub DueAs : Body → ℕ → Option Refusal → Type 0
+DueAs b n None = (b.generation < end_of_ids) × (b.next_segment < end_of_ids)
+    × (0 < n → length b.entries < max_segments)
+DueAs b n (Some NumbersUsedUp) = (b.generation ≡ end_of_ids) ⊎ (b.next_segment ≡ end_of_ids)
+DueAs b n (Some TooManySegments) = (b.generation < end_of_ids) × (b.next_segment < end_of_ids)
+    × (max_segments ≤ length b.entries) × (0 < n)
+DueAs b n (Some why) = ⊥

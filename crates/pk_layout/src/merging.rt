@@ -1,0 +1,211 @@
+//! What a merge writes: one segment of the documents that the deletion lists leave, in the place of
+//! a run of segments, or none.
+//!
+//! What is uncommitted stays so: deletions that no commit has taken are pending ones of the new
+//! segment.
+ghost use Rattle.std.specs.Prelude.{◌≡◌, ◌≤◌, ◌<◌, ◌+◌, List, ℕ, All, Some, None, Ok, length};
+ghost use Rattle.std.specs.Prelude.{IfOk};
+ghost use Rattle.pk_layout.specs.Merging.{PlansMerged, PutsPending, TakesPending, body_merged};
+ghost use Rattle.pk_layout.specs.Merging.{opened_in};
+ghost use Rattle.pk_layout.specs.Refusing.{merge_refusal};
+ghost use Rattle.pk_manifest.specs.Sound.{IsBody};
+ghost use Rattle.pk_manifest.specs.Spelling.{view};
+ghost use Rattle.pk_join.specs.Inputs.{HasKind, LiesInside, SpellsInputs};
+ghost use Rattle.pk_merge.specs.Merging.{IsSomeMerged};
+ghost use Rattle.pk_model.specs.Limits.{end_of_ids};
+ghost use Rattle.pk_search.specs.Opened.{AreOpenOf};
+ghost use Rattle.pk_state.specs.Committed.{Stored};
+ghost use Rattle.pk_state.specs.Holds.{SpellsEntries};
+ghost use Rattle.pk_state.specs.Kept.{HaveKinds, LieInside};
+ghost use Rattle.pk_state.specs.Writing.{replaced, written_kind};
+
+use crate::following::{next_manifest, put_copies};
+use crate::placing::place_all;
+use crate::planning::{Plan, one_write, open_built, plan_for};
+use pk_dead::Dead;
+use pk_disk::Extent;
+use pk_manifest::{Manifest, Part};
+use pk_merge::{MergeFault, MergeInput};
+use pk_model::Refusal;
+use pk_search::OpenSegment;
+use std::alloc::{AllocError, Global};
+
+/// The most numbers of a deletion list.
+pub const MAX_DELETED: u32 = 134_217_728;
+
+/// What a fault of a merge refuses a command as.
+pub fn refusal_of(fault: MergeFault) -> Refusal
+    ensures { result ≡ merge_refusal fault }
+{
+    match fault {
+        MergeFault::TooLarge => Refusal::SegmentTooLarge,
+        MergeFault::Damaged => Refusal::Damaged,
+        MergeFault::Disk | MergeFault::NotWritten => Refusal::Disk,
+        MergeFault::Memory => Refusal::Memory,
+    }
+}
+
+/// The segments as inputs of a merge, with the deletions that are committed.
+pub fn inputs_of<'a>(
+    alloc: Global,
+    entries: &[Part],
+    opened: &'a [OpenSegment],
+) -> Result<Vec<MergeInput<'a>>, AllocError>
+    ensures spelled { IfOk result (λ v. (bytes : List ℕ) (stored : List Stored)
+        → SpellsEntries bytes entries.now stored → AreOpenOf opened.now stored
+        → SpellsInputs bytes v.items stored) }
+    ensures inside { IfOk result (λ v. (size : ℕ) → LieInside size entries.now
+        → All (LiesInside size) v.items) }
+    ensures kinds { IfOk result (λ v. HaveKinds entries.now → All HasKind v.items) }
+{
+    let mut inputs = Vec::with_capacity(alloc, entries.len())?;
+    for (entry, segment) in entries.iter().zip(opened) {
+        inputs.push(MergeInput {
+            extent: entry.extent,
+            kind: entry.kind,
+            dead: &segment.dead,
+        })?;
+    }
+    Ok(inputs)
+}
+
+// Puts the numbers whose deletion in the segment is not committed among the others.
+fn put_pending(segment: &OpenSegment, pending: &mut Dead) -> Result<(), Refusal>
+    ensures { PutsPending segment.now pending.old result pending.new }
+{
+    for number in segment.deleted.numbers() {
+        if !segment.dead.contains(*number) {
+            if pending.numbers().len() >= MAX_DELETED as usize {
+                return Err(Refusal::Damaged);
+            }
+            pending.add(*number)?;
+        }
+    }
+    Ok(())
+}
+
+// The numbers whose deletion no commit has taken, of all segments.
+fn pending_of(alloc: Global, opened: &[OpenSegment]) -> Result<Dead, Refusal>
+    ensures { TakesPending opened.now result }
+{
+    let mut pending = Dead::new(alloc);
+    for segment in opened {
+        put_pending(segment, &mut pending)?;
+    }
+    Ok(pending)
+}
+
+// The open segments with this one, if there is one, in the place of a run of them.
+fn opened_merged(
+    alloc: Global,
+    opened: &[OpenSegment],
+    from: usize,
+    count: usize,
+    segment: Option<OpenSegment>,
+) -> Result<Vec<OpenSegment>, AllocError>
+    requires within { from + count ≤ length opened.now }
+    ensures { IfOk result (λ v. v.items ≡ replaced from count (opened_in segment) opened.now) }
+{
+    let mut kept = Vec::new(alloc);
+    put_copies(alloc, &mut kept, &opened[..from])?;
+    if let Some(segment) = segment {
+        kept.push(segment)?;
+    }
+    put_copies(alloc, &mut kept, &opened[from + count..])?;
+    Ok(kept)
+}
+
+// The body with the segment in this extent, if there is one, in the place of a run of its entries.
+fn manifest_merged(
+    alloc: Global,
+    manifest: &Manifest,
+    from: usize,
+    count: usize,
+    segment: Option<Extent>,
+) -> Result<Manifest, AllocError>
+    requires generation { manifest.now.generation < end_of_ids }
+    requires id { manifest.now.next_segment < end_of_ids }
+    requires within { from + count ≤ length manifest.now.entries.items }
+    ensures { IfOk result (λ m. view m ≡ body_merged (view manifest.now) from count segment) }
+{
+    let mut entries = Vec::new(alloc);
+    entries.extend_from_slice(&manifest.entries[..from])?;
+    let behind = &manifest.entries[from + count..];
+    next_manifest(manifest, manifest.next_number, entries, segment, behind)
+}
+
+// The plan of a merge of a run that leaves no document.
+fn plan_none(
+    alloc: Global,
+    manifest: &Manifest,
+    opened: &[OpenSegment],
+    from: usize,
+    count: usize,
+) -> Result<Plan, AllocError>
+    requires sound { IsBody manifest.now.units (view manifest.now) }
+    requires generation { manifest.now.generation < end_of_ids }
+    requires id { manifest.now.next_segment < end_of_ids }
+    requires same { length opened.now ≡ length manifest.now.entries.items }
+    requires within { from + count ≤ length opened.now }
+    ensures { IfOk result (λ p. PlansMerged (view manifest.now) opened.now from count None (Ok p)) }
+{
+    let next = manifest_merged(alloc, manifest, from, count, None)?;
+    let kept = opened_merged(alloc, opened, from, count, None)?;
+    plan_for(alloc, next, kept, Vec::new(alloc), &[])
+}
+
+// The plan of a merge of a run into a segment of these bytes.
+fn plan_one(
+    alloc: Global,
+    manifest: &Manifest,
+    opened: &[OpenSegment],
+    from: usize,
+    count: usize,
+    bytes: Vec<u8>,
+) -> Result<Plan, Refusal>
+    requires sound { IsBody manifest.now.units (view manifest.now) }
+    requires generation { manifest.now.generation < end_of_ids }
+    requires id { manifest.now.next_segment < end_of_ids }
+    requires same { length opened.now ≡ length manifest.now.entries.items }
+    requires some { 1 ≤ count }
+    requires within { from + count ≤ length opened.now }
+    requires spelled { IsSomeMerged written_kind (Some bytes) }
+    ensures { PlansMerged (view manifest.now) opened.now from count (Some bytes) result }
+{
+    let segment = open_built(&bytes);
+    let deleted = pending_of(alloc, &opened[from..from + count])?;
+    let extents = place_all(alloc, manifest, &[bytes.len() as u32])?;
+    let next = manifest_merged(alloc, manifest, from, count, Some(extents[0]))?;
+    let merged = OpenSegment {
+        segment,
+        dead: Dead::new(alloc),
+        deleted,
+    };
+    let kept = opened_merged(alloc, opened, from, count, Some(merged))?;
+    let writes = one_write(alloc, bytes)?;
+    Ok(plan_for(alloc, next, kept, writes, &extents)?)
+}
+
+/// The plan of a merge of a run into the segment of these bytes, or into none.
+pub fn plan_merged(
+    alloc: Global,
+    manifest: &Manifest,
+    opened: &[OpenSegment],
+    from: usize,
+    count: usize,
+    bytes: Option<Vec<u8>>,
+) -> Result<Plan, Refusal>
+    requires sound { IsBody manifest.now.units (view manifest.now) }
+    requires generation { manifest.now.generation < end_of_ids }
+    requires id { manifest.now.next_segment < end_of_ids }
+    requires same { length opened.now ≡ length manifest.now.entries.items }
+    requires some { 1 ≤ count }
+    requires within { from + count ≤ length opened.now }
+    requires spelled { IsSomeMerged written_kind bytes }
+    ensures { PlansMerged (view manifest.now) opened.now from count bytes result }
+{
+    match bytes {
+        Some(bytes) => plan_one(alloc, manifest, opened, from, count, bytes),
+        None => Ok(plan_none(alloc, manifest, opened, from, count)?),
+    }
+}

@@ -1,0 +1,146 @@
+//! The plan: the bytes of what is going to be written, each at its place, and what is kept once it
+//! is. All its memory is taken, and nothing of the disk was touched.
+ghost use Rattle.std.specs.Prelude.{◌≡◌, ◌≤◌, ◌++◌, ◌∷◌, [], List, length, map, All};
+ghost use Rattle.std.specs.Prelude.{IfOk, OnOk};
+ghost use Rattle.pk_layout.specs.Plan.{CanBeWritten, IsGrown, IsPlanOf, laid_in, new_lists};
+ghost use Rattle.pk_manifest.specs.Sound.{entry_limit};
+ghost use Rattle.pk_manifest.specs.Spelling.{view};
+ghost use Rattle.pk_model.specs.Collection.{Doc};
+ghost use Rattle.pk_replace.specs.Claims.{claim_of};
+ghost use Rattle.pk_segment.specs.Opened.{IsSegmentOf};
+ghost use Rattle.pk_segment.specs.Spelling.{IsKind, SegmentSpells};
+ghost use Rattle.pk_state.specs.Writing.{written_kind};
+
+use pk_disk::Extent;
+use pk_manifest::Manifest;
+use pk_posting::SliceSource;
+use pk_replace::Piece;
+use pk_search::OpenSegment;
+use pk_segment::Segment;
+use std::alloc::{AllocError, Global};
+
+/// What is written, and what is kept after it.
+#[derive(Drop)]
+pub struct Plan {
+    /// The bytes of what is new, each at its place on the disk.
+    pub pieces: Vec<Piece>,
+    /// The bytes of the next body.
+    pub body: Vec<u8>,
+    /// What that body says.
+    pub manifest: Manifest,
+    /// The segments that it names, open, each at the place of its entry.
+    pub opened: Vec<OpenSegment>,
+}
+
+/// The kind of the segments that are written.
+#[tactic(auto, unfolding(pk_state::specs::Writing::written_kind))]
+pub fn written_kind() -> u32
+    ensures is { result ≡ written_kind }
+    ensures kind { IsKind result }
+{
+    2
+}
+
+/// The segment that these bytes spell, open.
+pub(crate) fn open_built(bytes: &[u8]) -> Segment
+    requires { (docs : List Doc) × SegmentSpells bytes.now docs written_kind }
+    ensures { (docs : List Doc) → SegmentSpells bytes.now docs written_kind
+        → IsSegmentOf result docs }
+{
+    let mut source = SliceSource::new(bytes);
+    let Ok(segment) = Segment::open(&mut source, bytes.len() as u32, written_kind()) else {
+        unreachable!()
+    };
+    segment
+}
+
+/// Puts the bytes of the new lists behind what is to be written.
+pub(crate) fn put_lists(
+    alloc: Global,
+    opened: &[OpenSegment],
+    writes: &mut Vec<Vec<u8>>,
+) -> Result<(), AllocError>
+    requires grown { All IsGrown opened.now }
+    ensures lists { OnOk result (map (λ w. w.items) writes.new.items
+        ≡ map (λ w. w.items) writes.old.items ++ new_lists opened.now) }
+    ensures sizes { OnOk result (CanBeWritten (new_lists opened.now)) }
+{
+    let Some((segment, others)) = opened.split_first() else {
+        return Ok(());
+    };
+    if segment.is_pending() {
+        let bytes = segment.deleted.spell(alloc)?;
+        writes.push(bytes)?;
+    }
+    put_lists(alloc, others, writes)
+}
+
+/// The lengths of what is to be written.
+pub(crate) fn lengths_of(alloc: Global, writes: &[Vec<u8>]) -> Result<Vec<u32>, AllocError>
+    requires { CanBeWritten (map (λ w. w.items) writes.now) }
+    ensures { IfOk result (λ v. v.items ≡ map length (map (λ w. w.items) writes.now)) }
+{
+    let mut lengths = Vec::with_capacity(alloc, writes.len())?;
+    for bytes in writes {
+        lengths.push(bytes.len() as u32)?;
+    }
+    Ok(lengths)
+}
+
+// Puts the bytes behind the other pieces, each at the start of its extent.
+fn put_pieces(
+    pieces: &mut Vec<Piece>,
+    mut writes: Vec<Vec<u8>>,
+    extents: &[Extent],
+) -> Result<(), AllocError>
+    requires { length writes.items ≡ length extents.now }
+    ensures { OnOk result (map claim_of pieces.new.items ≡ map claim_of pieces.old.items
+        ++ laid_in extents.now (map (λ w. w.items) writes.items)) }
+{
+    let Some((extent, others)) = extents.split_last() else {
+        return Ok(());
+    };
+    let Some(bytes) = writes.pop() else {
+        return Ok(());
+    };
+    put_pieces(pieces, writes, others)?;
+    pieces.push(Piece {
+        at: extent.start(),
+        bytes,
+    })?;
+    Ok(())
+}
+
+/// The plan that puts this body in force, with these open segments and these bytes in the extents
+/// at their places.
+pub(crate) fn plan_for(
+    alloc: Global,
+    manifest: Manifest,
+    opened: Vec<OpenSegment>,
+    writes: Vec<Vec<u8>>,
+    extents: &[Extent],
+) -> Result<Plan, AllocError>
+    requires few { length manifest.entries.items ≤ entry_limit }
+    requires same { length writes.items ≡ length extents.now }
+    ensures { IfOk result (IsPlanOf (view manifest) opened.items extents.now
+        (map (λ w. w.items) writes.items)) }
+{
+    let body = manifest.spell(alloc)?;
+    let mut pieces = Vec::with_capacity(alloc, extents.len())?;
+    put_pieces(&mut pieces, writes, extents)?;
+    Ok(Plan {
+        pieces,
+        body,
+        manifest,
+        opened,
+    })
+}
+
+/// These bytes alone, to be written.
+pub(crate) fn one_write(alloc: Global, bytes: Vec<u8>) -> Result<Vec<Vec<u8>>, AllocError>
+    ensures { IfOk result (λ v. v.items ≡ bytes ∷ []) }
+{
+    let mut writes = Vec::with_capacity(alloc, 1)?;
+    writes.push(bytes)?;
+    Ok(writes)
+}

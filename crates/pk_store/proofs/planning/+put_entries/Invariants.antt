@@ -1,6 +1,0 @@
--- There are fewer entries each time.
-use Rattle.std.proofs.Common.{length}
-use Rattle.pk_store.proofs.planning.«+put_entries».Given as goal
-
-abbrev pub decreases-put_entries : goal.decreases-put_entries
-decreases-put_entries l = length l.entries.now
