@@ -1,6 +1,7 @@
 //! The reply that is being built.
 
-ghost use Rattle.std.specs.Prelude.{◌≡◌, ◌≤◌, ◌<◌, ◌++◌, [], length, take, IfOk};
+ghost use Rattle.std.specs.Prelude.{◌≡◌, ◌≤◌, ◌<◌, ◌++◌, [], length, take, codes};
+ghost use Rattle.std.specs.Prelude.{IfOk, IsTrue, IsFalse};
 
 use std::alloc::{AllocError, Global};
 use std::marker::Model;
@@ -49,6 +50,21 @@ impl Outbox {
             unreachable!()
         };
         filled
+    }
+
+    /// Puts a space and the digits at the end, where there is room for all of them; whether there
+    /// was.
+    pub fn fill_spaced(&mut self, digits: &[u8]) -> bool
+        ensures filled { IsTrue result → self.new ≡ self.old ++ codes " " ++ digits.now }
+        ensures full { IsFalse result → self.new ≡ self.old }
+    {
+        if OUTBOX_BYTES - self.bytes.len() <= digits.len() {
+            return false;
+        }
+        let (Ok(()), Ok(())) = (self.bytes.push(b' '), self.bytes.extend_from_slice(digits)) else {
+            unreachable!()
+        };
+        true
     }
 
     /// The bytes that wait.

@@ -95,6 +95,20 @@ fn put_pair<W: Write>(
     put_number(outbox, writer, then, other)
 }
 
+/// Puts a number in decimal behind a space.
+fn put_spaced<W: Write>(outbox: &mut Outbox, writer: &mut W, number: u32) -> Result<(), Unwritten>
+    ensures { Puts outbox.old (W.contents writer.old) result outbox.new (W.contents writer.new)
+        (spaced number) }
+{
+    let mut buffer = Buffer::new();
+    let digits = buffer.format(number).as_bytes();
+    if outbox.fill_spaced(digits) {
+        return Ok(());
+    }
+    put(outbox, writer, b" ")?;
+    put(outbox, writer, digits)
+}
+
 /// Puts the numbers, each behind a space.
 fn put_numbers<W: Write>(
     outbox: &mut Outbox,
@@ -105,7 +119,7 @@ fn put_numbers<W: Write>(
         (flat_map spaced (numbers_in numbers.now)) }
 {
     for number in numbers {
-        put_number(outbox, writer, b" ", number.0 as u64)?;
+        put_spaced(outbox, writer, number.0)?;
     }
     Ok(())
 }

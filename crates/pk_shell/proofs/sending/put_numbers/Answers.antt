@@ -9,12 +9,12 @@ loop-number-init g c = put_none _ _
 
 pub loop-number-preserved : goal.loop-number-preserved
 loop-number-preserved g c =
-    put_item _ _ _ _ _ _ (λ n. spaced n.0) c.args.numbers.now c.loop-number.number-index (record { 0 = 0 }) c.loop-number-test.true c.loop-number.invariant c.in_ok-put_number.ensures
+    put_item _ _ _ _ _ _ (λ n. spaced n.0) c.args.numbers.now c.loop-number.number-index (record { 0 = 0 }) c.loop-number-test.true c.loop-number.invariant c.in_ok-put_spaced.ensures
 
-pub returns-in_err-put_number : goal.returns-in_err-put_number
-returns-in_err-put_number g c =
+pub returns-in_err-put_spaced : goal.returns-in_err-put_spaced
+returns-in_err-put_spaced g c =
     stopped_by c.from_residual.result _ _ _ _ _ _ c.from_residual.ensures.1 (rw (flat_map-map spaced (λ n. n.0) c.args.numbers.now)
-    (item_stops _ _ _ _ _ (λ n. spaced n.0) c.args.numbers.now c.loop-number.number-index (record { 0 = 0 }) c.loop-number-test.true c.loop-number.invariant c.in_err-put_number.ensures))
+    (item_stops _ _ _ _ _ (λ n. spaced n.0) c.args.numbers.now c.loop-number.number-index (record { 0 = 0 }) c.loop-number-test.true c.loop-number.invariant c.in_err-put_spaced.ensures))
 
 pub returns : goal.returns
 returns g c = rw (flat_map-map spaced (λ n. n.0) c.args.numbers.now) (rw (take_all c.loop-number.number-index c.args.numbers.now c.loop-number-test.false) at c.loop-number.invariant)
