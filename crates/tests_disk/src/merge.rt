@@ -1,14 +1,16 @@
 //! Segments merged: what their deletion lists leave, damage, reads that fail, and little memory.
 
-ghost use Rattle.std.specs.Prelude.{◌≡◌, ◌≤◌, ◌<◌, length, All, IfOk};
+ghost use Rattle.std.specs.Prelude.{◌≡◌, ◌≤◌, ◌<◌, ℕ, length, All, IfOk};
 ghost use Rattle.std.specs.List.Sorted.{IsStrictlyIncreasing};
+ghost use Rattle.pk_join.specs.Inputs.{HasKind, LiesInside};
+ghost use Rattle.pk_merge.specs.Output.{LiesApart};
 ghost use Rattle.pk_model.specs.Collection.{numbers_of};
 ghost use Rattle.pk_segment.specs.Spelling.{IsKind, docs_of};
 
 use crate::segment::{ROW, document};
 use pk_dead::Dead;
 use pk_disk::{Disk, Extent, FaultDisk, MemoryDisk};
-use pk_merge::{MergeFault, MergeInput, choose, merged};
+use pk_merge::{MergeFault, MergeInput, choose, merged, prepare};
 use pk_model::Document;
 use pk_segment::build;
 use std::alloc::{AllocError, Global};
@@ -46,13 +48,13 @@ const FIRST_PLACE: usize = 512;
 
 const THIRD_PLACE: usize = 1024;
 
-// A disk with the segment of documents 1 and 2 in unit 1, and that of document 3 in unit 2; one
-// byte is another.
+// A disk of four units with the segment of documents 1 and 2 in unit 1, and that of document 3 in
+// unit 2; one byte is another.
 fn disk(alloc: Global, at: usize, byte: u8) -> Result<MemoryDisk, AllocError>
-    requires { at < 1536 }
-    ensures { IfOk result (λ d. length (⟦<MemoryDisk as Disk>⟧.content d) ≡ 1536) }
+    requires { at < 2048 }
+    ensures { IfOk result (λ d. length (⟦<MemoryDisk as Disk>⟧.content d) ≡ 2048) }
 {
-    let mut bytes = vec![in alloc; 0u8; 1536]?;
+    let mut bytes = vec![in alloc; 0u8; 2048]?;
     bytes[FIRST_PLACE..FIRST_PLACE + 52].copy_from_slice(&ROW);
     bytes[THIRD_PLACE..THIRD_PLACE + 37].copy_from_slice(&THIRD);
     bytes[at] = byte;
@@ -78,7 +80,7 @@ fn merge<D: Disk>(
     kind: u32,
 ) -> Result<Option<Vec<u8>>, MergeFault>
     requires kind { IsKind kind }
-    requires size { length (D.content disk.old) ≡ 1536 }
+    requires size { length (D.content disk.old) ≡ 2048 }
     ensures { length (D.content disk.new) ≡ length (D.content disk.old) }
 {
     let inputs = [
@@ -235,4 +237,139 @@ fn the_least_run_is_chosen(rt: HostRuntime) {
     for (sizes, place) in RUNS {
         assert_eq!(rt; choose(sizes), place);
     }
+}
+
+// The two segments as inputs.
+fn inputs<'a>(first: &'a Dead, third: &'a Dead) -> [MergeInput<'a>; 2]
+    ensures kinds { All HasKind result }
+    ensures inside { All (LiesInside 2048) result }
+    ensures apart { (end : ℕ) → All (LiesApart 1536 end) result }
+{
+    [
+        MergeInput {
+            extent: Extent::of_bytes(1, 52),
+            kind: 1,
+            dead: first,
+        },
+        MergeInput {
+            extent: Extent::of_bytes(2, 37),
+            kind: 1,
+            dead: third,
+        },
+    ]
+}
+
+// How long the segment of kind 2 is that is prepared of what is left.
+fn prepared_size<D: Disk>(
+    alloc: Global,
+    disk: &mut D,
+    first: &Dead,
+    third: &Dead,
+) -> Result<Option<u32>, MergeFault>
+    requires { length (D.content disk.old) ≡ 2048 }
+    ensures { length (D.content disk.new) ≡ length (D.content disk.old) }
+{
+    match prepare(alloc, disk, &inputs(first, third))? {
+        Some(prepared) => Ok(Some(prepared.size())),
+        None => Ok(None),
+    }
+}
+
+// Writes that segment into unit 3, and answers how long it is.
+fn merge_into<D: Disk>(
+    alloc: Global,
+    disk: &mut D,
+    first: &Dead,
+    third: &Dead,
+) -> Result<Option<u32>, MergeFault>
+    requires { length (D.content disk.old) ≡ 2048 }
+    ensures { length (D.content disk.new) ≡ length (D.content disk.old) }
+{
+    let inputs = inputs(first, third);
+    let Some(prepared) = prepare(alloc, disk, &inputs)? else {
+        return Ok(None);
+    };
+    let size = prepared.size();
+    if size > 512 {
+        return Ok(None);
+    }
+    prepared.merge_into(disk, &inputs, 3)?;
+    Ok(Some(size))
+}
+
+// What is prepared is as long as what is built, and there is none where nothing is left.
+#[test]
+fn what_is_prepared_is_as_long(rt: HostRuntime) -> Result<(), Fail> {
+    let mut disk = disk(rt.alloc(), 0, 0)?;
+    let first = dead(rt.alloc(), 1)?;
+    let none = Dead::new(rt.alloc());
+    let built = build(rt.alloc(), &left(rt.alloc())?, 2)?;
+    let size = prepared_size(rt.alloc(), &mut disk, &first, &none)?;
+    assert!(rt; size.is_some_and(|size| size as usize == built.len()));
+    let mut both = dead(rt.alloc(), 1)?;
+    assert!(rt; both.len() < 134_217_728);
+    both.add(2)?;
+    let third = dead(rt.alloc(), 3)?;
+    assert_eq!(rt; prepared_size(rt.alloc(), &mut disk, &both, &third)?, None);
+    Ok(())
+}
+
+// What is merged into unit 3 is what is merged in memory, and no other byte is written.
+#[test]
+fn a_merge_is_written_to_its_place(rt: HostRuntime) -> Result<(), Fail> {
+    let mut disk = disk(rt.alloc(), 0, 0)?;
+    let first = dead(rt.alloc(), 1)?;
+    let none = Dead::new(rt.alloc());
+    let mut bytes = vec![in rt.alloc(); 0u8; 2048]?;
+    assert!(rt; disk.read(0, &mut bytes).is_ok());
+    let merged = merge(rt.alloc(), &mut disk, &first, &none, 2)?;
+    assert_eq!(rt; merged.as_deref(), Some(LEFT_INDEXED.as_slice()));
+    let size = merge_into(rt.alloc(), &mut disk, &first, &none)?;
+    assert_eq!(rt; size, Some(75));
+    bytes[1536..1611].copy_from_slice(&LEFT_INDEXED);
+    let mut now = vec![in rt.alloc(); 0u8; 2048]?;
+    assert!(rt; disk.read(0, &mut now).is_ok());
+    assert_eq!(rt; now, bytes);
+    Ok(())
+}
+
+// What a merge to unit 3 answers where one call of the device fails.
+fn told(alloc: Global, k: u64) -> Result<Option<MergeFault>, AllocError>
+    requires { 1 ≤ k }
+{
+    let first = dead(alloc, 1)?;
+    let mut disk = FaultDisk::once(disk(alloc, 0, 0)?, k);
+    Ok(merge_into(alloc, &mut disk, &first, &Dead::new(alloc)).err())
+}
+
+// How many calls of the device it takes to prepare the merge.
+fn calls_to_prepare(alloc: Global) -> Result<u64, AllocError>
+    ensures { IfOk result (λ n. n < 100) }
+{
+    let first = dead(alloc, 1)?;
+    for k in 1..100u64 {
+        let mut disk = FaultDisk::once(disk(alloc, 0, 0)?, k);
+        if prepared_size(alloc, &mut disk, &first, &Dead::new(alloc)).is_ok() {
+            return Ok(k - 1);
+        }
+    }
+    Ok(0)
+}
+
+// Each call fails in turn. The last one that prepares is a read, and so are the two that copy the
+// texts. Then all bytes are written at once, and there is no further call.
+#[test]
+fn each_failing_call_of_a_written_merge_is_told(rt: HostRuntime) -> Result<(), Fail> {
+    let calls = calls_to_prepare(rt.alloc())?;
+    assert!(rt; 0 < calls);
+    for (more, fault) in [
+        (0, Some(MergeFault::Disk)),
+        (1, Some(MergeFault::Disk)),
+        (2, Some(MergeFault::Disk)),
+        (3, Some(MergeFault::NotWritten)),
+        (4, None),
+    ] {
+        assert_eq!(rt; told(rt.alloc(), calls + more)?, fault);
+    }
+    Ok(())
 }

@@ -1,16 +1,11 @@
 //! Sessions in which committed documents are deleted, and segments merged.
 
-use crate::script::play_parts;
+use crate::script::play_in_each_setting;
+use crate::sessions::SMALL;
 use std::test::Fail;
 
-/// A new store on a disk of 64 units, of which 30 are for segments and lists.
-const SMALL: &str = "
-    !disk 32768
-    !create => created
-";
-
 /// What stores answer.
-const SESSIONS: [&str; 10] = [
+pub const SESSIONS: [&str; 10] = [
     // A deletion that no commit has taken is gone with a crash.
     "
     add x => added 1
@@ -287,7 +282,7 @@ const SESSIONS: [&str; 10] = [
 ];
 
 /// What is written where. The first segment lies at unit 34, which is byte 17,408.
-const PLACES: [&str; 6] = [
+pub const PLACES: [&str; 6] = [
     // A commit with deletions alone writes no segment, and the next segment id stays. Its list goes
     // to unit 35, the first free one; the next list to 36, beside the one in force; the next
     // segment to 35, which is free again.
@@ -475,10 +470,10 @@ const PLACES: [&str; 6] = [
 #[test]
 fn deletions_and_merges_go_as_written(rt: HostRuntime) -> Result<(), Fail> {
     for session in SESSIONS {
-        play_parts(rt.alloc(), &[SMALL, session])?;
+        play_in_each_setting(rt.alloc(), &[SMALL, session])?;
     }
     for session in PLACES {
-        play_parts(rt.alloc(), &[SMALL, session])?;
+        play_in_each_setting(rt.alloc(), &[SMALL, session])?;
     }
     Ok(())
 }

@@ -1,6 +1,6 @@
 //! Sessions in which a call of the device fails, and what a crash leaves of them.
 
-use crate::script::play_parts;
+use crate::script::play_in_each_setting;
 use crate::sweeps::{EITHER, ON, ONCE, Sweep, play_sweep};
 use std::test::Fail;
 
@@ -580,7 +580,7 @@ fn each_call_that_fails_is_answered(rt: HostRuntime) -> Result<(), Fail> {
 #[test]
 fn documents_are_found_and_shown(rt: HostRuntime) -> Result<(), Fail> {
     for answers in ANSWERS {
-        play_parts(rt.alloc(), &[READ, answers])?;
+        play_in_each_setting(rt.alloc(), &[READ, answers])?;
     }
     Ok(())
 }

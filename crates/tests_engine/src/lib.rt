@@ -8,6 +8,8 @@
 #[cfg(test)]
 mod buffer;
 #[cfg(test)]
+mod cached;
+#[cfg(test)]
 mod calls;
 #[cfg(test)]
 mod deletions;
@@ -23,6 +25,8 @@ mod lying;
 mod memory;
 #[cfg(test)]
 mod opening;
+#[cfg(test)]
+mod paged;
 #[cfg(test)]
 mod player;
 #[cfg(test)]

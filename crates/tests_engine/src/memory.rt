@@ -209,3 +209,46 @@ fn deletions_short_of_memory(rt: HostRuntime) {
     let second = is_answered_in_full(&rt, rt.alloc());
     assert!(rt; first || second);
 }
+
+/// Finds 130 documents that a store has committed which keeps one decoded block; whether memory was
+/// there for all that was asked.
+fn is_found_by_a_block(rt: &impl Abort, alloc: Global) -> bool {
+    let Ok(zeros) = vec![in alloc; 0u8; 32_768] else {
+        return false;
+    };
+    let Ok(mut store) = Store::create(alloc, MemoryDisk::of_bytes(alloc, zeros), 1) else {
+        return false;
+    };
+    let Ok(query) = parse(alloc, "a") else {
+        return false;
+    };
+    for _ in 0..130 {
+        if store.add(alloc, "a").is_err() {
+            return false;
+        }
+    }
+    if store.commit(alloc).is_err() {
+        return false;
+    }
+    let first = store.find(alloc, &query);
+    let again = store.find(alloc, &query);
+    match (first, again) {
+        (Ok(first), Ok(again)) => {
+            assert!(rt; first.len() == 130 && again.len() == 130);
+            true
+        }
+        (Ok(found), Err(why)) | (Err(why), Ok(found)) => {
+            assert!(rt; why == Refusal::Memory && found.len() == 130);
+            false
+        }
+        (Err(_), Err(_)) => panic!(rt; "both finds are refused"),
+    }
+}
+
+/// Run as the other one: of two sessions the one that was refused no memory is answered in full.
+#[test]
+fn blocks_short_of_memory(rt: HostRuntime) {
+    let first = is_found_by_a_block(&rt, rt.alloc());
+    let second = is_found_by_a_block(&rt, rt.alloc());
+    assert!(rt; first || second);
+}

@@ -1,6 +1,7 @@
 //! What scripts are played on: a disk in memory, and the store that was opened on it.
 
 use pk_disk::{Disk, FaultDisk, MemoryDisk};
+use pk_pages::PageCache;
 use pk_shell::serve;
 use pk_store::{CreateFault, OpenFault, Refused, Store};
 use std::alloc::{AllocError, Global};
@@ -12,6 +13,13 @@ const MOST_BYTES: u64 = 1_048_576;
 /// A disk in memory of which a call can fail.
 type Device = FaultDisk<MemoryDisk>;
 
+/// A store on a device, or on a page cache over one.
+#[derive(Drop)]
+enum OpenStore {
+    Bare(Store<Device>),
+    Paged(Store<PageCache<Device>>),
+}
+
 /// A disk, or the store that is open on it.
 #[derive(Drop)]
 pub struct Player {
@@ -19,11 +27,15 @@ pub struct Player {
     /// The disk, where no store is open.
     disk: Option<MemoryDisk>,
     /// The open store.
-    store: Option<Store<Device>>,
+    store: Option<OpenStore>,
     /// The call that fails once the next store is opened or created.
     failing: u64,
     /// Whether that one fails alone, or all later ones too.
     is_once: bool,
+    /// How many decoded blocks the next store keeps at most.
+    blocks: u32,
+    /// How many pages the page cache keeps at most that the next store is on; 0 where it is on none.
+    pages: usize,
     /// How many bytes were read between the last opening and the closing behind it.
     bytes_read: u64,
 }
@@ -99,6 +111,25 @@ fn opening_word(why: OpenFault) -> &'static str {
     }
 }
 
+/// Makes a store on a disk, or opens the one there. Where there is none, the disk and why.
+fn store_on<D: Disk>(
+    alloc: Global,
+    disk: D,
+    blocks: u32,
+    is_new: bool,
+) -> Result<Store<D>, (D, &'static str)> {
+    if is_new {
+        return match Store::create(alloc, disk, blocks) {
+            Ok(store) => Ok(store),
+            Err(Refused { disk, why }) => Err((disk, creating_word(why))),
+        };
+    }
+    match Store::open_on(alloc, disk, blocks) {
+        Ok(store) => Ok(store),
+        Err(Refused { disk, why }) => Err((disk, opening_word(why))),
+    }
+}
+
 /// What the shell answers a line, which it gets alone.
 pub fn told<D: Disk>(
     alloc: Global,
@@ -127,6 +158,8 @@ impl Player {
             store: None,
             failing: u64::MAX,
             is_once: true,
+            blocks: 0,
+            pages: 0,
             bytes_read: 0,
         }
     }
@@ -147,9 +180,11 @@ impl Player {
     fn take_step(&mut self, step: &str, rest: &str) -> Result<&'static str, AllocError> {
         match step {
             "!disk" => self.put_disk(size(rest)),
-            "!create" => Ok(self.create()),
-            "!open" => Ok(self.open()),
+            "!create" => Ok(self.put_store(true)),
+            "!open" => Ok(self.put_store(false)),
             "!close" => Ok(self.close()),
+            "!blocks" => Ok(self.set_blocks(number(rest))),
+            "!pages" => Ok(self.set_pages(number(rest))),
             "!fail" => Ok(self.plan(rest)),
             "!crash" => self.crash(rest),
             "!set" => self.set(rest),
@@ -162,7 +197,8 @@ impl Player {
     /// What the shell answers a line.
     fn ask(&mut self, line: &str) -> Result<String, AllocError> {
         match &mut self.store {
-            Some(store) => told(self.alloc, store, line),
+            Some(OpenStore::Bare(store)) => told(self.alloc, store, line),
+            Some(OpenStore::Paged(store)) => told(self.alloc, store, line),
             None => String::from_str(self.alloc, "no store"),
         }
     }
@@ -173,6 +209,18 @@ impl Player {
         self.store = None;
         self.disk = Some(MemoryDisk::of_bytes(self.alloc, bytes));
         Ok("")
+    }
+
+    /// How many decoded blocks the stores keep that are opened or created from now on.
+    fn set_blocks(&mut self, blocks: u64) -> &'static str {
+        self.blocks = blocks.min(65_536) as u32;
+        ""
+    }
+
+    /// How many pages the page cache keeps that stores are on from now on.
+    fn set_pages(&mut self, pages: u64) -> &'static str {
+        self.pages = pages.min(MOST_BYTES) as usize;
+        ""
     }
 
     /// Which call fails of those that begin with the next opening: the number of it, and `once`
@@ -194,34 +242,31 @@ impl Player {
         FaultDisk::new(disk, call)
     }
 
-    /// Makes a store on the disk.
-    fn create(&mut self) -> &'static str {
+    /// Makes a store on the disk, or opens the one there.
+    fn put_store(&mut self, is_new: bool) -> &'static str {
         let Some(disk) = self.disk.take() else {
             return "no disk";
         };
         let device = self.device(disk);
-        match Store::create(self.alloc, device, 0) {
-            Ok(store) => self.keep(store, "created"),
-            Err(Refused { disk, why }) => self.take_back(disk, creating_word(why)),
-        }
-    }
-
-    /// Opens the store of the disk.
-    fn open(&mut self) -> &'static str {
-        let Some(disk) = self.disk.take() else {
-            return "no disk";
+        let made = if self.pages == 0 {
+            match store_on(self.alloc, device, self.blocks, is_new) {
+                Ok(store) => Ok(OpenStore::Bare(store)),
+                Err(refused) => Err(refused),
+            }
+        } else {
+            let cache = PageCache::new(self.alloc, device, self.pages);
+            match store_on(self.alloc, cache, self.blocks, is_new) {
+                Ok(store) => Ok(OpenStore::Paged(store)),
+                Err((cache, why)) => Err((cache.into_inner(), why)),
+            }
         };
-        let device = self.device(disk);
-        match Store::open_on(self.alloc, device, 0) {
-            Ok(store) => self.keep(store, "opened"),
-            Err(Refused { disk, why }) => self.take_back(disk, opening_word(why)),
+        match made {
+            Ok(store) => {
+                self.store = Some(store);
+                if is_new { "created" } else { "opened" }
+            }
+            Err((device, why)) => self.take_back(device, why),
         }
-    }
-
-    /// Keeps the store; the answer is `done`.
-    fn keep(&mut self, store: Store<Device>, done: &'static str) -> &'static str {
-        self.store = Some(store);
-        done
     }
 
     /// Keeps the disk that was handed back; the answer is `why`.
@@ -235,10 +280,18 @@ impl Player {
         let Some(store) = self.store.take() else {
             return "no store";
         };
-        let device = store.close();
+        let device = match store {
+            OpenStore::Bare(store) => store.close(),
+            OpenStore::Paged(store) => store.close().into_inner(),
+        };
         self.bytes_read = device.bytes_read();
         self.disk = Some(device.into_inner());
         ""
+    }
+
+    /// How many bytes were read between the last opening and the closing behind it.
+    pub fn bytes_read(&self) -> u64 {
+        self.bytes_read
     }
 
     /// Whether no more bytes were read than these.

@@ -9,6 +9,8 @@
 //! | `!disk N` | a new disk of `N` zero bytes | |
 //! | `!create`, `!open` | a store on the disk | `created`, `opened`, or why not |
 //! | `!close` | the disk of the store | |
+//! | `!blocks N` | stores keep `N` decoded blocks at most, from the next opening on; 0 at first | |
+//! | `!pages N` | stores are on a page cache of `N` pages, from the next opening on; on none for 0 |
 //! | `!fail K` | of the calls from the next opening on, the `K`th and all later ones fail | |
 //! | `!fail K once` | of those calls the `K`th fails, alone | |
 //! | `!crash B` | a crash that leaves the byte `B` at all open positions | |
@@ -70,6 +72,38 @@ pub fn play(alloc: Global, script: &str) -> Result<(), ScriptFault> {
             let line = index.saturating_add(1);
             return Err(ScriptFault::Answer { line, answer });
         }
+    }
+    Ok(())
+}
+
+/// What changes no answer: how many decoded blocks stores keep, and how many pages a page cache below
+/// them keeps.
+const SETTINGS: [&str; 6] = [
+    "",
+    "!blocks 1\n",
+    "!blocks 2\n",
+    "!blocks 256\n",
+    "!pages 1\n",
+    "!blocks 2\n!pages 64\n",
+];
+
+/// Whether a call of the device is to fail in one of the parts. On a page cache it is another call.
+pub fn has_failing_call(parts: &[&str]) -> bool {
+    parts.iter().any(|part| part.contains("!fail"))
+}
+
+/// Plays parts of a script that follow one another, once for each of the settings; without those of
+/// page caches where a call of the device is to fail.
+pub fn play_in_each_setting(alloc: Global, parts: &[&str]) -> Result<(), ScriptFault> {
+    for setting in SETTINGS {
+        if setting.contains("!pages") && has_failing_call(parts) {
+            continue;
+        }
+        let mut script = String::from_str(alloc, setting)?;
+        for part in parts {
+            script.push_str(part)?;
+        }
+        play(alloc, script.as_str())?;
     }
     Ok(())
 }

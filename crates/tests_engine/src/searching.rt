@@ -2,7 +2,7 @@
 
 ghost use Rattle.std.specs.Prelude.{◌<◌};
 
-use crate::script::play;
+use crate::script::play_in_each_setting;
 use std::alloc::{AllocError, Global};
 use std::test::Fail;
 
@@ -127,6 +127,6 @@ fn each_query_finds_its_documents(rt: HostRuntime) -> Result<(), Fail> {
     for place in 0..12 {
         ask(alloc, &mut script, place)?;
     }
-    play(alloc, script.as_str())?;
+    play_in_each_setting(alloc, &[script.as_str()])?;
     Ok(())
 }

@@ -1,11 +1,11 @@
 //! Worked sessions, and the limits of texts, lines, queries, numbers and stores.
 
-use crate::script::{ScriptFault, play, play_parts};
+use crate::script::{ScriptFault, play, play_in_each_setting, play_parts};
 use std::alloc::{AllocError, Global};
 use std::test::Fail;
 
 /// A new store on a disk of 64 units, of which 30 are for segments.
-const SMALL: &str = "
+pub const SMALL: &str = "
     !disk 32768
     !create => created
 ";
@@ -17,7 +17,7 @@ const LARGE: &str = "
 ";
 
 /// What stores answer. Scripts begin with a new store of 64 units.
-const SESSIONS: [&str; 17] = [
+pub const SESSIONS: [&str; 17] = [
     // The four documents on schizophrenia of Manning, Raghavan, Schütze 2008, exercise 1.2.
     "
     add breakthrough drug for schizophrenia => added 1
@@ -246,7 +246,7 @@ fn for_each(alloc: Global, last: u32, lines: &str) -> Result<String, AllocError>
 #[test]
 fn sessions_go_as_written(rt: HostRuntime) -> Result<(), Fail> {
     for session in SESSIONS {
-        play_parts(rt.alloc(), &[SMALL, session])?;
+        play_in_each_setting(rt.alloc(), &[SMALL, session])?;
     }
     Ok(())
 }

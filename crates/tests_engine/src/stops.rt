@@ -5,6 +5,7 @@ use crate::calls::new_store;
 use crate::player::told;
 use pk_disk::{Disk, FaultDisk, MemoryDisk};
 use pk_model::{Command, DocNo, Refusal, Reply};
+use pk_pages::PageCache;
 use pk_query::parse;
 use pk_store::{OpenFault, Refused, Store};
 use std::alloc::{AllocError, Global};
@@ -228,7 +229,7 @@ fn open_in_the_end(alloc: Global, mut disk: MemoryDisk) -> Result<MemoryDisk, Fa
 }
 
 /// Runs the script on a device; none where it wasn't opened.
-fn run_on(alloc: Global, device: FaultDisk<MemoryDisk>) -> Result<Option<(Run, MemoryDisk)>, Fail> {
+fn run_on<D: Disk + Drop>(alloc: Global, device: D) -> Result<Option<(Run, D)>, Fail> {
     let mut store = match Store::open_on(alloc, device, 0) {
         Ok(store) => store,
         Err(
@@ -244,7 +245,7 @@ fn run_on(alloc: Global, device: FaultDisk<MemoryDisk>) -> Result<Option<(Run, M
     for (line, reply) in LINES.iter().zip(replies.iter()) {
         run.take(line, reply)?;
     }
-    Ok(Some((run, store.close().into_inner())))
+    Ok(Some((run, store.close())))
 }
 
 /// Whether what is left of a run is a prefix as it should be.
@@ -264,10 +265,10 @@ fn a_run_is_stopped_at_each_call(rt: HostRuntime) -> Result<(), Fail> {
         let mut whole = false;
         for call in 1..MOST_CALLS {
             let device = FaultDisk::new(new_store(alloc)?.close(), call);
-            let Some((run, disk)) = run_on(alloc, device)? else {
+            let Some((run, device)) = run_on(alloc, device)? else {
                 continue;
             };
-            let mut disk = crashed(alloc, disk, byte)?;
+            let mut disk = crashed(alloc, device.into_inner(), byte)?;
             if byte == Some(0xA7) {
                 disk = open_in_the_end(alloc, disk)?;
             }
@@ -289,11 +290,35 @@ fn a_run_goes_past_each_call(rt: HostRuntime) -> Result<(), Fail> {
     let mut whole = false;
     for call in 1..MOST_CALLS {
         let device = FaultDisk::once(new_store(alloc)?.close(), call);
-        let Some((run, disk)) = run_on(alloc, device)? else {
+        let Some((run, device)) = run_on(alloc, device)? else {
             continue;
         };
         assert!(rt; run.is_told_once(), "{call}");
-        assert!(rt; is_left(alloc, &run, disk)?, "{call}");
+        assert!(rt; is_left(alloc, &run, device.into_inner())?, "{call}");
+        whole = run.faults == 0;
+        if whole {
+            break;
+        }
+    }
+    assert!(rt; whole);
+    Ok(())
+}
+
+// The same on a page cache over the device.
+#[test]
+fn a_run_on_a_page_cache_goes_past_each_call(rt: HostRuntime) -> Result<(), Fail> {
+    let alloc = rt.alloc();
+    let mut whole = false;
+    for call in 1..MOST_CALLS {
+        let device = FaultDisk::once(new_store(alloc)?.close(), call);
+        let Some((run, cache)) = run_on(alloc, PageCache::new(alloc, device, 2))? else {
+            continue;
+        };
+        assert!(rt; run.is_told_once(), "{call}");
+        assert!(rt;
+            is_left(alloc, &run, cache.into_inner().into_inner())?,
+            "{call}"
+        );
         whole = run.faults == 0;
         if whole {
             break;
