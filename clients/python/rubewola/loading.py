@@ -6,10 +6,11 @@ import os
 import sys
 import time
 from collections.abc import Iterator
+from contextlib import closing
 from itertools import islice
 
 from .sources import Item, Source
-from .store import Full, NoSuchDocument, Store, StoreError, TooManySegments, Unknown
+from .store import Full, NoSuchDocument, Store, StoreError, TooManySegments
 
 BATCH_DOCUMENTS, BATCH_BYTES = 4_096, 16_777_216
 """A commit comes after so many documents, or so many bytes of their texts."""
@@ -18,45 +19,34 @@ LEAST_UNITS, MOST_UNITS = 131_072, 2_147_483_648
 """The sizes of new stores: from 64 MiB to 1 TiB."""
 
 
-class Progress:
-    """A bar on a terminal, with the rate and the time left; nothing elsewhere."""
+def bar(source: Source, items: int, rate: float) -> str:
+    """How far a load is, its rate in bytes a second, and the time left."""
+    done, left = source.read / max(source.size, 1), source.size - source.read
+    seconds = max(int(left / max(rate, 1)), 0)
+    return (f"[{'#' * int(done * 24):.<24}] {done:4.0%}  {items:,} {source.noun}  "
+            f"{rate / 1e6:.1f} MB/s  {seconds // 60}:{seconds % 60:02} left")
 
-    def __init__(self, source: Source) -> None:
-        self.source, self.items, self.drawn = source, 0, 0.0
-        self.start, self.before = time.monotonic(), source.read
 
-    def step(self) -> None:
-        """Counts an item, and draws the bar anew ten times a second."""
-        self.items += 1
-        if sys.stderr.isatty() and time.monotonic() - self.drawn > 0.1:
-            self.drawn = time.monotonic()
-            print(f"\r{self.bar()} ", end="", file=sys.stderr, flush=True)
-
-    def bar(self) -> str:
-        """How far it is, at which rate, and the time left."""
-        read, size = self.source.read, max(self.source.size, 1)
-        rate = (read - self.before) / max(time.monotonic() - self.start, 0.001)
-        left = max(int((size - read) / max(rate, 1)), 0)
-        return (f"[{'#' * (read * 24 // size):.<24}] {read / size:4.0%}  {self.items:,} "
-                f"{self.source.noun}  {rate / 1e6:.1f} MB/s  {left // 60}:{left % 60:02} left")
-
-    def clear(self) -> None:
-        """Takes the bar away."""
-        if self.drawn:
+def with_bar(items: Iterator[Item], source: Source) -> Iterator[Item]:
+    """The items, with a bar on a terminal, drawn anew ten times a second; with none elsewhere."""
+    start, before, drawn = time.monotonic(), source.read, 0.0
+    try:
+        for count, item in enumerate(items, 1):
+            yield item
+            if sys.stderr.isatty() and (now := time.monotonic()) - drawn > 0.1:
+                rate, drawn = (source.read - before) / max(now - start, 0.001), now
+                print(f"\r{bar(source, count, rate)} ", end="", file=sys.stderr, flush=True)
+    finally:
+        if drawn:
             print("\r\x1b[K", end="", file=sys.stderr, flush=True)
 
 
-def units_for(size: int) -> int:
-    """The units of a new store for so many bytes of input: eight times their room. The file is
-    sparse, so what is never written takes none."""
-    return max(LEAST_UNITS, min(MOST_UNITS, size // 64))
-
-
 def opened(path: str, source: Source, units: int | None) -> Store:
-    """The store at a path, made where there is none."""
-    if not os.path.exists(path):
-        return Store.create(path, units or units_for(source.size))
-    return Store(path, wait=2)
+    """The store at a path, made where there is none: with so many units, or with eight times the
+    room of the source. The file is sparse, so what is never written takes none."""
+    if os.path.exists(path):
+        return Store(path, wait=2)
+    return Store.create(path, units or max(LEAST_UNITS, min(MOST_UNITS, source.size // 64)))
 
 
 def missing(store: Store, source: Source) -> Iterator[Item]:
@@ -71,34 +61,22 @@ def missing(store: Store, source: Source) -> Iterator[Item]:
     return source.behind(number, last)
 
 
-def make_room(store: Store, refused: Full | TooManySegments) -> None:
-    """Answers a commit that found no room, where the program can."""
-    ways = [store.merge] if isinstance(refused, Full) else [store.tidy, store.merge]
-    for way in ways:
-        try:
-            return way()
-        except Unknown:
-            pass
-    raise StoreError(refused.reason, "the program has no `merge`; what is committed stays. "
-                     "Load the rest into another store")
-
-
 def commit(store: Store) -> None:
     """Commits, with room made where there was none."""
     try:
         store.commit()
     except (Full, TooManySegments) as refused:
-        make_room(store, refused)
+        make_room = store.merge if isinstance(refused, Full) else store.tidy
+        make_room()
         store.commit()
 
 
-def batch(items: Iterator[Item], source: Source, progress: Progress) -> Iterator[str]:
+def batch(items: Iterator[Item], source: Source) -> Iterator[str]:
     """The documents of the next items, as many as a commit takes."""
     size = 0
     for item in islice(items, BATCH_DOCUMENTS):
-        text = source.make(item.raw)
+        text = source.document(*item)
         yield text
-        progress.step()
         size += len(text.encode())
         if size >= BATCH_BYTES:
             return
@@ -107,12 +85,8 @@ def batch(items: Iterator[Item], source: Source, progress: Progress) -> Iterator
 def load(path: str, source: Source, units: int | None = None) -> int:
     """Loads what the store at the path lacks of the source, and gives how many items that was."""
     with opened(path, source, units) as store:
-        items, more = missing(store, source), True
-        progress = Progress(source)
-        try:
-            while more:
-                more = sum(1 for _ in store.add_all(batch(items, source, progress)))
+        first = store.count().next
+        with closing(with_bar(missing(store, source), source)) as items:
+            while list(store.add_all(batch(items, source))):
                 commit(store)
-        finally:
-            progress.clear()
-    return progress.items
+        return store.count().next - first

@@ -8,13 +8,14 @@ from __future__ import annotations
 
 import html
 import re
+from contextlib import suppress
 from email import message_from_bytes
 from email.errors import MessageError
 from email.header import decode_header
 from email.message import Message
 from email.utils import parsedate_to_datetime
 
-from .texts import document, fields, identity
+from .texts import date_words, document, fields, identity
 
 HEAD = ("from", "to", "cc", "subject", "date", "attached")
 """The lines of a mail's head."""
@@ -27,11 +28,9 @@ _UNSEEN = re.compile(r"<(/?)(script|style)\b", re.IGNORECASE)
 
 def decoded(data: bytes, charset: str | None) -> str:
     """Bytes as text: by their charset, or else as UTF-8, or else as Latin-1."""
-    for name in (charset, "utf-8"):
-        try:
-            return data.decode(name or "utf-8")
-        except (LookupError, ValueError):
-            pass
+    for name in (charset or "utf-8", "utf-8"):
+        with suppress(LookupError, ValueError):
+            return data.decode(name)
     return data.decode("latin-1")
 
 
@@ -100,6 +99,5 @@ def mail_document(raw: bytes, path: str | None = None, with_parts: bool = True) 
     except Exception as error:  # Mails are broken in more ways than the parser names.
         head, text, tail = [""] * len(HEAD), f"[not stored: {type(error).__name__}]", []
         known.insert(0, identity("id", ""))
-    day = re.match(r"(\d{4})-(\d\d)-(\d\d) ", head[4])
-    days = ["_".join(("date",) + day.groups()[:n]) for n in (1, 2, 3)] if day else []
-    return document("\n".join(head + ["", text]), known + days + tail, with_parts)
+    tail = known + date_words(head[4]) + tail
+    return document("\n".join(head + ["", text]), tail, with_parts)

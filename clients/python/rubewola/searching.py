@@ -4,7 +4,6 @@ from __future__ import annotations
 
 import json
 import re
-import sys
 import unicodedata
 from collections.abc import Iterator
 from email.utils import parseaddr
@@ -13,7 +12,8 @@ from .mail import HEAD
 from .store import QueryRefused, Store
 from .texts import fields, identities, identity, plain, split
 
-_FIELD = re.compile(r"(?<![^\s()])(from|to|cc|subject|date|id|path):([^\s()]+)")
+_TOKEN = re.compile(r"(?<![^\s()])(from|to|cc|subject|date|id|path):([^\s()]+)|.", re.DOTALL)
+"""A field of a query, or else a character."""
 
 
 def field_words(name: str, value: str) -> str:
@@ -28,17 +28,12 @@ def field_words(name: str, value: str) -> str:
 
 def translated(query: str) -> tuple[str, list[int]]:
     """The query as the program reads it, and for each of its bytes the character that was typed."""
-    pieces: list[str] = []
-    typed: list[int] = []
-    at = 0
-    for match in _FIELD.finditer(query):
-        pieces += [*query[at:match.start()], field_words(match[1], match[2])]
-        typed += [*range(at, match.start()), match.start()]
-        at = match.end()
-    pieces += query[at:]
-    typed += range(at, len(query))
-    places = [place for place, piece in zip(typed, pieces) for _ in piece.encode()]
-    return "".join(pieces), places + [len(query)]
+    text, places = "", []
+    for token in _TOKEN.finditer(query):
+        piece = field_words(token[1], token[2]) if token[1] else token[0]
+        text += piece
+        places += [token.start()] * len(piece.encode())
+    return text, places + [len(query)]
 
 
 def find(store: Store, query: str) -> list[int]:
@@ -93,15 +88,3 @@ def results(store: Store, numbers: list[int], form: str) -> Iterator[str]:
     """The documents of these numbers, a line each."""
     for number, stored in zip(numbers, store.show_all(numbers)):
         yield FORMATS[form](parsed(number, stored))
-
-
-def search(store: Store, query: str, limit: int | None, form: str) -> int:
-    """Prints what is found, the newest last, and gives the status: 0, or 1 where nothing is."""
-    numbers = find(store, query)
-    if form == "count":
-        print(len(numbers))
-    else:
-        kept = numbers if limit is None else numbers[max(len(numbers) - limit, 0):]
-        for line in results(store, kept, form):
-            sys.stdout.buffer.write(line.encode("utf-8", "surrogateescape") + b"\n")
-    return 0 if numbers else 1

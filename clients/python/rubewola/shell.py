@@ -8,7 +8,7 @@ import sys
 from contextlib import suppress
 
 from .searching import caret, find, results
-from .store import Failed, QueryRefused, Store, StoreError
+from .store import QueryRefused, Refused, Store
 from .texts import plain, split
 
 try:
@@ -50,11 +50,9 @@ class Shell(cmd.Cmd):
         """Does a command, and tells a refusal."""
         try:
             return bool(super().onecmd(line))
-        except Failed:
-            raise
-        except (StoreError, ValueError) as refused:
+        except (Refused, ValueError) as refused:
             print(f"refused {refused}")
-        return False
+            return False
 
     def default(self, line: str) -> bool:
         """Asks the program itself."""

@@ -7,9 +7,9 @@ import re
 import subprocess
 import time
 from collections import deque
-from collections.abc import Iterable, Iterator
-from contextlib import closing
-from typing import NamedTuple
+from collections.abc import Callable, Iterable, Iterator
+from contextlib import closing, suppress
+from typing import Any, NamedTuple
 
 IN_FLIGHT = 4_096
 """Bytes of commands sent before their replies are read. So few fit into every pipe: sending them
@@ -65,7 +65,7 @@ class Full(Refused):
 
     def __init__(self, reason: str) -> None:
         super().__init__(reason, "the store has no room for it")
-        self.need, self.largest = (int(number) for number in re.findall(r"\d+", reason))
+        self.need, self.largest = map(int, re.findall(r"\d+", reason))
 
 
 class QueryRefused(Refused):
@@ -73,23 +73,26 @@ class QueryRefused(Refused):
 
     def __init__(self, reason: str) -> None:
         super().__init__(reason)
-        last = reason.split()[-1]
-        self.place = int(last) if last.isdigit() else None
+        place = re.search(r"\d+$", reason)
+        self.place = int(place[0]) if place else None
 
 
-REFUSALS: dict[str, type[Refused]] = {
-    "unknown": Unknown,
-    "no such document": NoSuchDocument,
+REFUSALS = {
     "buffer full": BufferFull,
-    "too many segments": TooManySegments,
+    "full": Full,
+    "no such document": NoSuchDocument,
+    "query": QueryRefused,
     "reopen": Reopen,
+    "too many segments": TooManySegments,
+    "unknown": Unknown,
 }
+"""The exceptions by the words that their reasons begin with."""
 
 
 def refusal(reason: str) -> Refused:
     """The exception for a reason."""
-    first = {"full": Full, "query": QueryRefused}.get(reason.split()[0])
-    return (first or REFUSALS.get(reason, Refused))(reason)
+    kinds = (kind for words, kind in REFUSALS.items() if reason.startswith(words))
+    return next(kinds, Refused)(reason)
 
 
 class Counts(NamedTuple):
@@ -99,28 +102,32 @@ class Counts(NamedTuple):
     next: int
 
 
-def program() -> str:
-    """The program: what RUBEWOLA_PROGRAM names, or `pk_find` of the PATH."""
-    return os.environ.get("RUBEWOLA_PROGRAM") or "pk_find"
+def start(*words: str) -> subprocess.Popen[bytes]:
+    """Starts the program: what RUBEWOLA_PROGRAM names, or `pk_find` of the PATH."""
+    name, pipe = os.environ.get("RUBEWOLA_PROGRAM") or "pk_find", subprocess.PIPE
+    try:
+        # A session of its own, so that the terminal's interrupt does not end it.
+        return subprocess.Popen([name, *words], stdin=pipe, stdout=pipe, stderr=pipe,
+                                start_new_session=True)
+    except OSError as error:
+        raise Failed("no program", f"{name}: {error.strerror}") from error
+
+
+def failure(told: bytes) -> Failed:
+    """The exception for what the program told on standard error."""
+    reason = told.decode(errors="replace").strip().removeprefix("pk_find: ")
+    return Failed(reason or "the program was ended", HINTS.get(reason, ""))
 
 
 def run_program(*words: str) -> str:
     """What the program prints for a command line."""
-    try:
-        ran = subprocess.run([program(), *words], capture_output=True, text=True, check=False)
-    except OSError as error:
-        raise Failed("no program", f"{program()}: {error.strerror}") from error
-    if ran.returncode == 2:
-        raise Unknown("unknown", ran.stderr.partition("\n")[0])
-    if ran.returncode:
-        raise failure(ran.stderr)
-    return ran.stdout.rstrip("\n")
-
-
-def failure(told: str) -> Failed:
-    """The exception for what the program told on standard error."""
-    reason = told.strip().removeprefix("pk_find: ") or "the program was ended"
-    return Failed(reason, HINTS.get(reason, ""))
+    process = start(*words)
+    printed, told = process.communicate()
+    if process.returncode == 2:
+        raise Unknown("unknown", told.decode(errors="replace").partition("\n")[0])
+    if process.returncode:
+        raise failure(told)
+    return printed.decode().rstrip("\n")
 
 
 class Store:
@@ -135,23 +142,14 @@ class Store:
         """Opens the store; one that another program has is tried again for `wait` seconds."""
         self._busy, ends = False, time.monotonic() + wait
         while True:
+            self._process = start("run", os.path.abspath(path))
             try:
-                self._open(os.path.abspath(path))
+                self.count()
                 return
             except Failed as failed:
                 if failed.reason != "disk" or time.monotonic() >= ends:
                     raise
                 time.sleep(0.05)
-
-    def _open(self, path: str) -> None:
-        pipe = subprocess.PIPE
-        try:
-            # A session of its own, so that the terminal's interrupt does not end it.
-            self._process = subprocess.Popen([program(), "run", path], stdin=pipe, stdout=pipe,
-                                             stderr=pipe, start_new_session=True)
-        except OSError as error:
-            raise Failed("no program", f"{program()}: {error.strerror}") from error
-        self.count()
 
     @classmethod
     def create(cls, path: str | os.PathLike[str], units: int) -> Store:
@@ -176,19 +174,19 @@ class Store:
             self._process.communicate()
 
     def _send(self, line: bytes) -> None:
-        try:
+        # Where the program has ended, the reply that does not come tells why.
+        with suppress(BrokenPipeError, ValueError):
             self._process.stdin.write(line)
             self._process.stdin.flush()
-        except (BrokenPipeError, ValueError):
-            pass  # The program has ended, and the reply that does not come tells why.
 
-    def _reply(self) -> str:
+    def _reply(self) -> str | Refused:
         if self._process.returncode is not None:
             raise Failed("closed")
-        reply = self._process.stdout.readline()
-        if not reply.endswith(b"\n"):
-            raise failure(self._process.communicate()[1].decode(errors="replace"))
-        return reply[:-1].decode()
+        line = self._process.stdout.readline()
+        if not line.endswith(b"\n"):
+            raise failure(self._process.communicate()[1])
+        reply = line[:-1].decode()
+        return refusal(reply[len("refused "):]) if reply.startswith("refused ") else reply
 
     def ask_all(self, commands: Iterable[str]) -> Iterator[str | Refused]:
         """The replies to many commands, or their refusals, in turn. Commands are sent ahead of the
@@ -200,36 +198,46 @@ class Store:
         self._busy = True
         try:
             for command in commands:
-                line = one_line(command)
+                if "\n" in command:
+                    raise ValueError("a line feed in a command")
+                line = command.encode() + b"\n"
                 while sent and sum(sent) + len(line) > IN_FLIGHT:
                     sent.popleft()
-                    yield told(self._reply())
+                    yield self._reply()
                 self._send(line)
                 sent.append(len(line))
             while sent:
                 sent.popleft()
-                yield told(self._reply())
+                yield self._reply()
         finally:
             while sent and self._process.returncode is None:
                 sent.popleft()
                 self._process.stdout.readline()
             self._busy = False
 
+    def _accepted(self, commands: Iterable[str], read: Callable[[str], Any]) -> Iterator[Any]:
+        """What is read out of the replies to many commands, up to a refusal, which is raised."""
+        with closing(self.ask_all(commands)) as replies:
+            for reply in replies:
+                if isinstance(reply, Refused):
+                    raise reply
+                yield read(reply)
+
     def ask(self, command: str) -> str:
         """The reply to a command, or its refusal as an exception."""
-        (reply,) = self.ask_all([command])
-        return accepted(reply)
+        (reply,) = self._accepted([command], str)
+        return reply
 
     def add(self, text: str) -> int:
         """Adds a document, and gives its number."""
-        return int(self.ask(add_command(text)).split()[1])
+        (number,) = self.add_all([text])
+        return number
 
     def add_all(self, texts: Iterable[str]) -> Iterator[int]:
         """Adds documents, many on their way at once, and gives their numbers. Where one is refused,
         some behind it may have been added."""
-        with closing(self.ask_all(map(add_command, texts))) as replies:
-            for reply in replies:
-                yield int(accepted(reply).split()[1])
+        commands = ("add " + text.replace("\n", "\v") for text in texts)
+        return self._accepted(commands, lambda reply: int(reply.split()[1]))
 
     def delete(self, number: int) -> None:
         """Deletes a document."""
@@ -237,17 +245,16 @@ class Store:
 
     def find(self, query: str) -> list[int]:
         """The numbers of the documents that satisfy a query, rising."""
-        return [int(number) for number in self.ask(f"find {query}").split(":")[1].split()]
+        return [int(number) for number in self.ask(f"find {query}").split()[2:]]
 
     def show(self, number: int) -> str:
         """The text of a document."""
-        return shown_text(self.ask(f"show {number}"))
+        (text,) = self.show_all([number])
+        return text
 
     def show_all(self, numbers: Iterable[int]) -> Iterator[str]:
         """The texts of documents, many on their way at once."""
-        with closing(self.ask_all(f"show {number}" for number in numbers)) as replies:
-            for reply in replies:
-                yield shown_text(accepted(reply))
+        return self._accepted((f"show {number}" for number in numbers), shown_text)
 
     def commit(self) -> None:
         """Writes what is uncommitted to the disk. Once this returns, it stays."""
@@ -263,32 +270,8 @@ class Store:
 
     def count(self) -> Counts:
         """How many documents live, and the number of the next."""
-        words = self.ask("count").split()
-        return Counts(int(words[1]), int(words[3]))
-
-
-def one_line(command: str) -> bytes:
-    """A command as the line that is sent."""
-    if "\n" in command:
-        raise ValueError("a line feed in a command")
-    return command.encode() + b"\n"
-
-
-def told(reply: str) -> str | Refused:
-    """A reply, or its refusal."""
-    return refusal(reply.removeprefix("refused ")) if reply.startswith("refused ") else reply
-
-
-def accepted(reply: str | Refused) -> str:
-    """A reply that is no refusal."""
-    if isinstance(reply, Refused):
-        raise reply
-    return reply
-
-
-def add_command(text: str) -> str:
-    """The command that adds a text."""
-    return "add " + text.replace("\n", "\v")
+        _, live, _, following = self.ask("count").split()
+        return Counts(int(live), int(following))
 
 
 def shown_text(reply: str) -> str:

@@ -40,6 +40,12 @@ def fields(name: str, text: str) -> list[str]:
     return [f"{name}_{word}" for word in words(text)]
 
 
+def date_words(text: str) -> list[str]:
+    """The words of the day that begins a text: `date_2010`, `date_2010_05`, `date_2010_05_14`."""
+    day = re.match(r"(\d{4})-(\d\d)-(\d\d) ", text)
+    return ["_".join(("date",) + day.groups()[:n]) for n in (1, 2, 3)] if day else []
+
+
 def parts(text: str) -> list[str]:
     """The parts of a text's joined words: those of two characters or more that hold a letter."""
     odd = " ".join(word for word in dict.fromkeys(text.split()) if not word.isalnum())

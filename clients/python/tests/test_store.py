@@ -9,12 +9,15 @@ import tempfile
 import time
 import unicodedata
 import unittest
+from contextlib import suppress
 from pathlib import Path
 from unittest import mock
 
 TOP = Path(__file__).resolve().parents[3]
 PACKAGE = str(TOP / "clients/python")
+COMMAND = [sys.executable, "-m", "rubewola"]
 os.environ.setdefault("RUBEWOLA_PROGRAM", str(TOP / "crates/pk_find/out/pk_find"))
+os.environ.update(PYTHONPATH=PACKAGE, PYTHONUTF8="1")
 sys.path.insert(0, PACKAGE)
 
 from rubewola import (Failed, Full, NoSuchDocument, QueryRefused, Refused, Store,  # noqa: E402
@@ -36,10 +39,25 @@ class Stores(unittest.TestCase):
         path.write_bytes(data)
         return str(path)
 
+    def mailbox(self, *mails):
+        return self.write("mbox", b"".join(b"From x Fri May 14 23:30:00 2010\n" + mail + b"\n"
+                                           for mail in mails))
+
+    def caught(self, kind, call, *given):
+        with self.assertRaises(kind) as caught:
+            call(*given)
+        return caught.exception
+
     def run_line(self, *words, **settings):
-        environment = {**os.environ, "PYTHONPATH": PACKAGE, "PYTHONUTF8": "1"}
-        return subprocess.run([sys.executable, "-m", "rubewola", *map(str, words)], text=True,
-                              capture_output=True, env=environment, check=False, **settings)
+        return subprocess.run(COMMAND + list(map(str, words)), text=True, capture_output=True,
+                              check=False, **settings)
+
+    def load(self, source):
+        return loading.load(self.store, source)
+
+    def found(self, *queries):
+        with Store(self.store) as store:
+            return [searching.find(store, query) for query in queries]
 
 
 class Sessions(Stores):
@@ -53,51 +71,39 @@ class Sessions(Stores):
         del some["Cs"]
         wanted = ["a" + "b".join(chars[:300] + chars[-300:]) for chars in some.values()]
         wanted += ["", " ", "\\", "\\n", "a\\\\n\nb\n", "\r\n", "\0", "x" * 1_048_576]
+        numbers, after = list(range(1, len(wanted) + 1)), len(wanted) + 1
         with Store.create(self.store, 16_384) as store:
-            self.assertEqual(list(store.add_all(wanted)), list(range(1, len(wanted) + 1)))
+            self.assertEqual(list(store.add_all(wanted)), numbers)
             store.commit()
-            self.assertEqual(list(store.show_all(range(1, len(wanted) + 1))), wanted)
-            store.add("one\ntwo\vthree")
-            self.assertEqual(store.show(len(wanted) + 1), "one\ntwo\nthree")
-            self.assertEqual(store.find("one two three"), [len(wanted) + 1])
-            with self.assertRaises(UnicodeEncodeError):
-                store.add("\ud800")
-            with self.assertRaises(ValueError):
-                store.find("a\ncommit")
-            self.assertEqual(store.count().next, len(wanted) + 2)
+            self.assertEqual(list(store.show_all(numbers)), wanted)
+            self.assertEqual(store.add("one\ntwo\vthree"), after)
+            self.assertEqual(store.show(after), "one\ntwo\nthree")
+            self.assertEqual(store.find("one two three"), [after])
+            self.assertRaises(UnicodeEncodeError, store.add, "\ud800")
+            self.assertRaises(ValueError, store.find, "a\ncommit")
+            self.assertEqual(store.count().next, after + 1)
 
     def test_refusals_have_their_fields(self):
         with Store.create(self.store, 64) as store:
-            with self.assertRaises(QueryRefused) as caught:
-                store.find("a AND --")
-            self.assertEqual((caught.exception.place, caught.exception.reason),
-                             (6, "query no word at 6"))
-            with self.assertRaises(NoSuchDocument):
-                store.show(1)
+            fault = self.caught(QueryRefused, store.find, "a AND --")
+            self.assertEqual((fault.place, fault.reason), (6, "query no word at 6"))
+            self.assertRaises(NoSuchDocument, store.show, 1)
             # The word stands in the text and in the dictionary: 80,051 bytes in all.
             store.add("x" * 40_000)
-            with self.assertRaises(Full) as caught:
-                store.commit()
-            self.assertEqual((caught.exception.need, caught.exception.largest), (157, 30))
-            with self.assertRaises(Refused):
-                store.add("x" * 1_048_577)
+            full = self.caught(Full, store.commit)
+            self.assertEqual((full.need, full.largest), (157, 30))
+            self.assertRaises(Refused, store.add, "x" * 1_048_577)
             store.delete(1)
             store.commit()
             self.assertEqual(tuple(store.count()), (0, 2))
-            try:
-                list(store.show_all([1] * 1_000))
-            except NoSuchDocument:
-                self.assertEqual(store.find("x"), [])
-            with self.assertRaises(Unknown):
-                store.ask("Count")
+            self.assertRaises(NoSuchDocument, list, store.show_all([1] * 1_000))
+            self.assertEqual(store.find("x"), [])
+            self.assertRaises(Unknown, store.ask, "Count")
         self.assertIsInstance(refusal("too many segments"), TooManySegments)
-        with self.assertRaises(Failed) as caught:
-            store.count()
-        with self.assertRaises(Failed) as caught:
-            Store(self.folder / "none")
-        self.assertEqual(caught.exception.reason, "missing")
+        self.assertRaises(Failed, store.count)
+        self.assertEqual(self.caught(Failed, Store, self.folder / "none").reason, "missing")
 
-    def test_merge_and_tidy(self):
+    def test_merge_tidy_and_check(self):
         with Store.create(self.store, 256) as store:
             for _ in range(9):
                 store.add("kept")
@@ -105,13 +111,8 @@ class Sessions(Stores):
             for way in (store.tidy, store.merge):
                 way()
                 self.assertEqual(store.find("kept"), list(range(1, 10)))
-
-    def test_check_where_the_program_has_it(self):
-        Store.create(self.store, 256).close()
-        try:
+        with suppress(Unknown):  # Where the program has no check.
             Store.check(self.store)
-        except Unknown:
-            pass
 
     def test_fifty_thousand_shows_on_their_way(self):
         with Store.create(self.store, 64) as store:
@@ -127,16 +128,13 @@ class Sessions(Stores):
 
     def test_one_program_at_a_time(self):
         with Store.create(self.store, 64) as store:
-            with self.assertRaises(Failed) as caught:
-                Store(self.store)
-            self.assertEqual(caught.exception.reason, "disk")
+            self.assertEqual(self.caught(Failed, Store, self.store).reason, "disk")
             self.assertEqual(self.run_line("search", self.store, "x").returncode, 2)
             store.add("kept")
             store.commit()
             store.add("lost")
             store._process.kill()
-            with self.assertRaises(Failed):
-                store.count()
+            self.assertRaises(Failed, store.count)
         with Store(self.store, wait=5) as store:
             self.assertEqual(tuple(store.count()), (1, 2))
 
@@ -159,37 +157,26 @@ class Loading(Stores):
         "large": b"Subject: large\nMessage-ID: <6.a@x.org>\n\n" + b"many words \xff\n" * 160_000,
     }
 
-    def mbox(self, copies=1):
-        mails = list(self.MAILS.values())[:None if copies == 1 else 5] * copies
-        return self.write("mbox", b"".join(b"From x Fri May 14 23:30:00 2010\n" + mail + b"\n"
-                                           for mail in mails))
-
-    def found(self, query):
-        with Store(self.store) as store:
-            return searching.find(store, query)
-
     def test_a_mailbox_of_all_sorts(self):
-        loaded = self.run_line("load-mbox", self.store, self.mbox())
+        loaded = self.run_line("load-mbox", self.store, self.mailbox(*self.MAILS.values()))
         self.assertEqual((loaded.returncode, loaded.stdout), (0, ""))
         self.assertNotIn("\r", loaded.stderr)
-        for query, numbers in [
-                ("straße", [1]), ("café naïve", [1]), ("from:jörg", [1]), ("from:gag.com", [1]),
-                ("subject:naïve", [1]), ("date:2010-05-14", [1]), ("date:2010", [1]),
-                ("date:2010-5", [1]), ("date:2011", []), ("id:<1.a@x.org>", [1]),
-                ("éléphant to:bo", [2]), ("from:bo", [3]), ("naïf debian", [3]), ("hidden", []),
-                ("body", [4]), ("subject", []), ("many subject:large", [6]),
-                ("NOT large", [1, 2, 3, 4, 5])]:
-            self.assertEqual(self.found(query), numbers, query)
+        wanted = {
+            "straße": [1], "café naïve": [1], "from:jörg": [1], "from:gag.com": [1],
+            "subject:naïve": [1], "date:2010-05-14": [1], "date:2010": [1], "date:2010-5": [1],
+            "date:2011": [], "id:<1.a@x.org>": [1], "éléphant to:bo": [2], "from:bo": [3],
+            "naïf debian": [3], "hidden": [], "body": [4], "subject": [],
+            "many subject:large": [6], "NOT large": [1, 2, 3, 4, 5]}
+        self.assertEqual(dict(zip(wanted, self.found(*wanted))), wanted)
         with Store(self.store) as store:
             text, tail = texts.split(store.show(6))
         self.assertTrue(text.endswith(texts.CUT))
         self.assertIn("subject_large", tail)
 
     def test_a_killed_loader_goes_on_to_the_same_store(self):
-        path, other = self.mbox(2_000), self.folder / "t"
-        environment = {**os.environ, "PYTHONPATH": PACKAGE}
-        line = [sys.executable, "-m", "rubewola", "load-mbox", self.store, path]
-        loader = subprocess.Popen(line, env=environment, stderr=subprocess.DEVNULL)
+        path = self.mailbox(*list(self.MAILS.values())[:5] * 2_000)
+        loader = subprocess.Popen([*COMMAND, "load-mbox", self.store, path],
+                                  stderr=subprocess.DEVNULL)
         while loader.poll() is None and not (self.store.exists()
                                              and self.store.stat().st_blocks * 512 > 100_000):
             time.sleep(0.002)
@@ -198,59 +185,55 @@ class Loading(Stores):
         with Store(self.store, wait=5) as store:
             left = store.count().live
         self.assertTrue(4_096 <= left < 10_000, left)
-        self.assertEqual(loading.load(self.store, sources.mboxes([path], True)), 10_000 - left)
-        self.assertEqual(loading.load(other, sources.mboxes([path], True)), 10_000)
-        numbers = range(1, 10_001)
-        with Store(self.store) as one, Store(other) as two:
+        mails, numbers = sources.Mailboxes(path), range(1, 10_001)
+        self.assertEqual(self.load(mails), 10_000 - left)
+        self.assertEqual(loading.load(self.folder / "t", mails), 10_000)
+        with Store(self.store) as one, Store(self.folder / "t") as two:
             self.assertEqual(one.count(), two.count())
             self.assertEqual(list(one.show_all(numbers)), list(two.show_all(numbers)))
-        self.assertEqual(loading.load(self.store, sources.mboxes([path], True)), 0)
-        with self.assertRaises(StoreError):
-            loading.load(self.store, sources.mboxes([self.mbox()], True))
+        self.assertEqual(self.load(mails), 0)
+        other = sources.Mailboxes(self.mailbox(*self.MAILS.values()))
+        self.assertRaises(StoreError, self.load, other)
 
-    def test_room_is_made_where_the_program_can(self):
+    def test_room_is_made(self):
         store = mock.Mock()
-        store.commit.side_effect = [TooManySegments("too many segments"), None] * 2
-        store.tidy.side_effect = [None, Unknown("unknown")]
-        loading.commit(store)
-        store.merge.assert_not_called()
-        loading.commit(store)
-        store.merge.assert_called_once_with()
-        store.commit.side_effect = Full("full need 79 largest 30")
-        store.merge.side_effect = Unknown("unknown")
-        with self.assertRaisesRegex(StoreError, "no `merge`"):
+        for refused, way in [(TooManySegments("too many segments"), store.tidy),
+                             (Full("full need 79 largest 30"), store.merge)]:
+            store.commit.side_effect = [refused, None]
             loading.commit(store)
+            way.assert_called_once_with()
+        store.tidy.assert_called_once_with()
 
     def test_a_bar_on_a_terminal(self):
         terminal, other = os.openpty()
-        line = [sys.executable, "-m", "rubewola", "load-mbox", self.store, self.mbox()]
-        subprocess.run(line, env={**os.environ, "PYTHONPATH": PACKAGE}, stderr=other, check=True)
+        path = self.mailbox(*self.MAILS.values())
+        subprocess.run([*COMMAND, "load-mbox", self.store, path], stderr=other, check=True)
         os.close(other)
         told = os.read(terminal, 65_536)
         os.close(terminal)
         self.assertRegex(told.decode(), r"\r\[[#.]{24}\] .* mails .* MB/s .* left")
 
     def test_a_maildir_whose_flags_change(self):
+        top = self.folder / "m"
         for part in ("cur", "new", ".Sent/cur"):
-            (self.folder / "m" / part).mkdir(parents=True)
+            (top / part).mkdir(parents=True)
         self.write("m/new/1000.a", self.MAILS["latin"])
         self.write("m/.Sent/cur/1001.b:2,S", self.MAILS["base64"])
-        self.assertEqual(loading.load(self.store, sources.maildir(self.folder / "m", True)), 2)
-        (self.folder / "m/.Sent/cur/1001.b:2,S").rename(self.folder / "m/cur/1001.b:2,RS")
-        (self.folder / "m/new/1000.a").unlink()
+        self.assertEqual(self.load(sources.Maildir(top)), 2)
+        (top / ".Sent/cur/1001.b:2,S").rename(top / "cur/1001.b:2,RS")
+        (top / "new/1000.a").unlink()
         self.write("m/new/1002.c", self.MAILS["quoted"])
-        self.assertEqual(loading.load(self.store, sources.maildir(self.folder / "m", True)), 1)
+        self.assertEqual(self.load(sources.Maildir(top)), 1)
         paths = self.run_line("search", self.store, "from:bo", "--format", "paths")
-        self.assertEqual(paths.stdout, f"{self.folder}/m/new/1002.c\n")
+        self.assertEqual(paths.stdout, f"{top}/new/1002.c\n")
 
     def test_a_log_and_its_joined_words(self):
-        path = self.write("log", b"installed openssl:amd64 3.0.15\n\nfr\xfchling foo_bar\r\n")
-        loading.load(self.store, sources.log(path, True))
-        self.assertEqual([self.found("openssl"), self.found("bar"), self.found("frühling")],
-                         [[1], [3], [3]])
-        self.write("log", b"installed openssl:amd64 3.0.15\n\nfr\xfchling foo_bar\r\nx.y\n")
-        self.assertEqual(loading.load(self.store, sources.log(path, False)), 1)
-        self.assertEqual([self.found("x"), self.found("x.y")], [[], [4]])
+        lines = b"installed openssl:amd64 3.0.15\n\nfr\xfchling foo_bar\r\n"
+        self.load(sources.Log(self.write("log", lines)))
+        self.assertEqual(self.found("openssl", "bar", "frühling"), [[1], [3], [3]])
+        path = self.write("log", lines + b"x.y\n")
+        self.assertEqual(self.load(sources.Log(path, with_parts=False)), 1)
+        self.assertEqual(self.found("x", "x.y"), [[], [4]])
         self.write("log", b"another log\n")
         self.assertEqual(self.run_line("load-log", self.store, path).returncode, 2)
 
@@ -258,24 +241,21 @@ class Loading(Stores):
         entry = ('{"__CURSOR":"s=1;i=%d","__REALTIME_TIMESTAMP":"1273879800000000","_HOSTNAME":"h",'
                  '"SYSLOG_IDENTIFIER":"sshd","_PID":"7","MESSAGE":%s}\n')
         lines = [entry % (1, '"login failed"'), entry % (2, "[104, 195, 169]"), "broken\n"]
-        path = self.write("j", "".join(lines).encode())
-        self.assertEqual(loading.load(self.store, sources.journal(path, True)), 3)
-        for tail in (lines[1:] + [entry % (3, "null")], [entry % (4, '"new"')]):
-            path = self.write("j", "".join(tail).encode())
-            self.assertEqual(loading.load(self.store, sources.journal(path, True)), 1)
-        self.assertEqual([self.found("login"), self.found("hé"), self.found("date:2010-05"),
-                          self.found("new")], [[1], [2], [1, 2, 4, 5], [5]])
+        for entries, new in [(lines, 3), (lines[1:] + [entry % (3, "null")], 1),
+                             ([entry % (4, '"new"')], 1)]:
+            path = self.write("j", "".join(entries).encode())
+            self.assertEqual(self.load(sources.Journal(path)), new)
+        self.assertEqual(self.found("login", "hé", "date:2010-05", "new"),
+                         [[1], [2], [1, 2, 4, 5], [5]])
 
 
 class Searching(Stores):
     """`search` and its statuses."""
 
     def test_formats_and_statuses(self):
-        path = self.write("mbox", b"".join(
-            b"From x Fri May 14 23:30:00 2010\nFrom: Ada <a@x.org>\nMessage-ID: <%d@x>\n"
-            b"Date: Fri, 14 May 2010 23:30:00 +0000\nSubject: s\x1b[2J\n\nred\n\n" % n
-            for n in (1, 2)))
-        self.run_line("load-mbox", self.store, path)
+        mail = (b"From: Ada <a@x.org>\nMessage-ID: <%d@x>\nSubject: s\x1b[2J\n"
+                b"Date: Fri, 14 May 2010 23:30:00 +0000\n\nred\n")
+        self.load(sources.Mailboxes(self.mailbox(mail % 1, mail % 2)))
         for words, status, output in [
                 (["red", "--limit", "1"], 0, "2: 2010-05-14  Ada  s [2J  <2@x>\n"),
                 (["red", "--format", "paths"], 0, "<1@x>\n<2@x>\n"),
@@ -297,8 +277,7 @@ class Searching(Stores):
         ran = self.run_line("shell", self.store, input=lines)
         for part in ("added 1", "1: red apple", "committed", "query unexpected at 7", "found 1"):
             self.assertIn(part, ran.stdout)
-        with Store(self.store) as store:
-            self.assertEqual(store.find("apple"), [1])
+        self.assertEqual(self.found("apple"), [[1]])
 
 
 class Documents(Stores):
@@ -312,7 +291,7 @@ class Documents(Stores):
         guide = (TOP / "docs/GUIDE.md").read_text(encoding="utf-8")
         script = re.search(r"```python\n(\"\"\"Carries.*?)```", guide, re.DOTALL)[1]
         subprocess.run([sys.executable, "-", self.store, self.folder / "t", "512"], text=True,
-                       input=script, env={**os.environ, "PYTHONPATH": PACKAGE}, check=True)
+                       input=script, check=True)
         with Store(self.folder / "t") as store:
             self.assertEqual((tuple(store.count()), store.show(1), store.find("three")),
                              ((2, 4), "one\ntwo", [3]))
