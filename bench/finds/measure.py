@@ -23,8 +23,10 @@ import unicodedata
 sys.path.insert(0, str(pathlib.Path(__file__).parent.parent / "store"))
 from peers import BATCH, Fts5, Program  # noqa: E402
 
+# How long a query is asked before it is timed and, 51 times at least, while it is.
+WARM = 0.05
+TIMED = 0.2
 TIMES = 51
-WARM = 5
 
 
 class Peer:
@@ -133,12 +135,15 @@ def merge(program, folder):
 
 def timed(peer, line):
     """The median microseconds of an answer, and the answer."""
+    begin = time.perf_counter()
+    while time.perf_counter() < begin + WARM:
+        peer.ask(line)
+    begin = time.perf_counter()
     seconds = []
-    for turn in range(WARM + TIMES):
+    while len(seconds) < TIMES or time.perf_counter() < begin + TIMED:
         start = time.perf_counter()
         answer = peer.ask(line)
-        if turn >= WARM:
-            seconds.append(time.perf_counter() - start)
+        seconds.append(time.perf_counter() - start)
     return 1e6 * statistics.median(seconds), answer
 
 
@@ -217,6 +222,10 @@ def main():
     show(f"As they were filled, by {-(-len(texts) // BATCH)} commits:", ask_all(program, folder, finds, "database"), least, folder)
     merge(program, folder)
     show("Merged into one:", ask_all(program, folder, finds, "compact"), least, folder)
+    pipe = Peer("cat")
+    spent, _ = timed(pipe, f"find {finds[0][1]}\n".encode())
+    pipe.close()
+    print(f"\nThe pipe alone, by a line that cat sends back: {spent:.1f} µs")
 
 
 if __name__ == "__main__":

@@ -20,7 +20,7 @@ import time
 
 from rubewola import Store
 from rubewola.mail import mail_document
-from rubewola.sources import maildir
+from rubewola.sources import Maildir
 
 LOADS = 3
 ASKED = 9
@@ -99,12 +99,12 @@ def fts(what, path, argument):
         return
     base.execute("CREATE VIRTUAL TABLE IF NOT EXISTS mails USING fts5(text, detail=none)")
     done = base.execute("SELECT count(*) FROM mails").fetchone()[0]
-    rows = [(item.raw,) for item in maildir(argument, False).items()][done:]
-    for first in range(0, len(rows), 4_096):
+    paths = [pathlib.Path(path) for path in Maildir(argument).paths[done:]]
+    for first in range(0, len(paths), 4_096):
         base.execute("BEGIN")
         base.executemany("INSERT INTO mails VALUES (?)",
-                         ((mail_document(raw.read_bytes(), None, False),)
-                          for raw, in rows[first:first + 4_096]))
+                         ((mail_document(path.read_bytes(), None, False),)
+                          for path in paths[first:first + 4_096]))
         base.execute("COMMIT")
 
 
