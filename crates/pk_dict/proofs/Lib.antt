@@ -7,6 +7,7 @@ pub mod Ends
 pub mod EntriesLaw
 pub mod Growing
 pub mod Halving
+pub mod Holding
 pub mod LookUpLaw
 pub mod Narrowing
 pub mod Numbers

@@ -75,11 +75,3 @@ four (a ∷ b ∷ c ∷ d ∷ e ∷ p) h = absurd (omega arith)
 pub whole_at : (content : List ℕ) (place : DictPlace) → place.at ≡ 0 → place.bytes ≡ length content → bytes_at content place ≡ content
 unfolding bytes_at
 whole_at content place z n = ap (λ (k : ℕ). take place.bytes (drop k content)) z ∙ take_all place.bytes content (omega arith)
-
-within : (l : List ℕ) (held n from : ℕ) → from + n ≤ held → take n (drop from (take held l)) ≡ take n (drop from l)
-within l held n from h = sym (drop-take from n (take held l)) ∙ ap (drop from) (take-take (from + n) held l h) ∙ drop-take from n l
-
--- a part of what a window holds
-pub held_part : (content buffer : List ℕ) (held start n from : ℕ) → take held buffer ≡ take held (drop start content) → from + n ≤ held → take n (drop from buffer) ≡ take n (drop (start + from) content)
-held_part content buffer held start n from h lt =
-    sym (within buffer held n from lt) ∙ ap (λ (l : List ℕ). take n (drop from l)) h ∙ within (drop start content) held n from lt ∙ ap (take n) (drop-drop from start content)

@@ -1,10 +1,10 @@
 -- How long a dictionary is at least.
-use Rattle.std.proofs.Common.{arith, refl, ap, ◌∙◌, ◌≡◌, ◌≤◌, ◌+◌, ◌-◌, ◌/◌, ◌*◌, ◌%◌, ◌==◌, ◌++◌, ◌∷◌, [], ℕ, zero, suc, List, length, drop, true, false, Bool, cond}
+use Rattle.std.proofs.Common.{arith, ap, ◌≤◌, ◌+◌, ◌-◌, ◌%◌, ◌==◌, ◌++◌, ◌∷◌, [], ℕ, suc, List, length, drop, true, false, Bool, cond}
 use Rattle.std.specs.List.{AllByRecursion}
 use Rattle.std.proofs.lemmas.List.{length-append, length-drop}
 use Rattle.pk_vbyte.specs.VariableByte.{vbyte}
 use Rattle.pk_vbyte.proofs.Prefix.{length_vbyte}
-use Rattle.pk_dict.specs.Dictionary.{Item, rest_of, numbers, shared, spelled_item, spelled_items, groups, group_count, spelling}
+use Rattle.pk_dict.specs.Dictionary.{Item, rest_of, numbers, shared, spelled_item, spelled_items, groups, spelling}
 use Rattle.pk_dict.specs.Lists.{last_of}
 use Rattle.pk_dict.proofs.Bounds.{pieces_append}
 use Rattle.pk_dict.proofs.Growing.{size_is}

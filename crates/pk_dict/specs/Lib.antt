@@ -8,5 +8,5 @@ pub mod Place
 pub mod Reading
 pub mod Search
 pub mod Source
-pub mod Window
+pub mod Windows
 pub mod Writer

@@ -27,8 +27,8 @@
 //! - [`Dict`] reads a dictionary in memory; [`look_up_in`] and [`entries_in`] read one that lies
 //!   in a source, by short stretches. Both go by the same steps: a slice is a source that lends
 //!   itself.
-//! - [`Window`] is a source over a source that reads 4,096 bytes at once, so that few of the
-//!   stretches of a look-up reach what lies below.
+//! - [`Windows`] are a source over a source with two buffers, one for the offsets and one for the
+//!   groups. They read 128 bytes at once, so few of the stretches of a look-up reach what lies below.
 //!
 //! Bytes that are no dictionary of that many terms are refused as Damaged wherever a reader sees
 //! it: a number that ends too early or is too large, a part past the end, a term that keeps more
@@ -40,7 +40,7 @@
 //!
 //! The words of the contracts are in `specs`: `Dictionary` has the format, `Writer` what was
 //! added, `LookUp` and `Entries` what any bytes say of a term and of a prefix, `Dict` the same of a
-//! slice, `Window` what a window holds, `Place` and `Source` what a source has to do with it,
+//! slice, `Windows` what windows hold, `Place` and `Source` what a source has to do with it,
 //! `Reading` and `Search` what each private step finds.
 #![tactic(auto)]
 
@@ -53,12 +53,12 @@ pub(crate) mod head;
 pub mod laws;
 pub mod look_up;
 pub(crate) mod steps;
-pub mod window;
+pub mod windows;
 pub mod writer;
 
 pub use dict::Dict;
 pub use entries::entries_in;
 pub use entry::{DictFault, DictPlace, EntriesFault, Entry};
 pub use look_up::look_up_in;
-pub use window::Window;
+pub use windows::Windows;
 pub use writer::DictWriter;

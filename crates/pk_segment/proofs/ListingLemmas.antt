@@ -7,6 +7,7 @@ use Rattle.pk_dict.specs.declared.entry.EntriesFault.TheVariants as entries
 use Rattle.pk_dict.specs.declared.entry.Entry.{Entry}
 use Rattle.pk_dict.specs.Dictionary.{DictSpells, entry_of}
 use Rattle.pk_dict.specs.Place.{bytes_at}
+use Rattle.pk_dict.specs.Windows.{AsksNoMore}
 use Rattle.pk_model.specs.Collection.{Doc}
 use Rattle.pk_model.specs.Terms.{terms_of}
 use Rattle.pk_posting.proofs.SpellingLemmas.{spelling_spells}
@@ -126,3 +127,7 @@ pub list_spelled : (bytes : List ℕ) (docs : List Doc) (word list : List ℕ) �
 list_spelled bytes docs word list is same =
     subst (λ (l : List ℕ). Spells l (list_with word docs)) (sym same)
     (spelling_spells (list_with word docs) (list_posting word docs is.front.spelled.are (omega (arith, most bytes docs is))))
+
+-- a source is asked at most as often as the windows over it, which were not asked before
+pub asks_most : (asked asked_now below below_now before n : ℕ) → AsksNoMore asked asked_now below below_now → asked ≡ 0 → asked_now ≤ asked + n → below ≤ before → below_now ≤ before + n
+asks_most asked asked_now below below_now before n no_more none few first = grind (arith, no_more.few, no_more.most, none, few, first)

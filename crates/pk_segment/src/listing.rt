@@ -12,7 +12,7 @@ ghost use Rattle.pk_segment.specs.Spelling.{IndexSpells};
 use crate::fault::ReadFault;
 use crate::header::header_of;
 use crate::segment::Segment;
-use pk_dict::{DictPlace, Entry, entries_in, look_up_in};
+use pk_dict::{DictPlace, Entry, Windows, entries_in, look_up_in};
 use pk_posting::{ByteSource, SourceFault};
 use std::alloc::Global;
 
@@ -58,7 +58,8 @@ impl Segment {
         ensures faults { CountsReads (S.failures source.old) (S.failures source.new) result }
     {
         let place = dictionary_of(self, source)?;
-        let entry = look_up_in(source, place, word)?;
+        let mut windows = Windows::on(source, place);
+        let entry = look_up_in(&mut windows, place, word)?;
         Ok(entry)
     }
 

@@ -3,7 +3,7 @@
 
 use crate::failing::Failing;
 use pk_dict::{
-    Dict, DictFault, DictPlace, DictWriter, EntriesFault, Entry, Window, entries_in, look_up_in,
+    Dict, DictFault, DictPlace, DictWriter, EntriesFault, Entry, Windows, entries_in, look_up_in,
 };
 use pk_posting::{ByteSource, ListPlace, SliceSource, SourceFault};
 use std::alloc::Global;
@@ -118,7 +118,7 @@ fn whole(bytes: &[u8], terms: u32) -> DictPlace {
 }
 
 // That each way of reading gives the same for a term: the slice, a source where the dictionary
-// lies in the midst, and a window over it.
+// lies in the midst, and windows over it.
 fn looks_up(
     rt: &impl Abort,
     bytes: &[u8],
@@ -137,9 +137,9 @@ fn looks_up(
     assert_eq!(rt; look_up_in(&mut source, place, term), Ok(wanted));
     let asked = source.asked();
     let mut below = SliceSource::new(amid);
-    let mut window = Window::on(&mut below);
-    assert_eq!(rt; look_up_in(&mut window, place, term), Ok(wanted));
-    assert_eq!(rt; window.asked(), asked);
+    let mut windows = Windows::on(&mut below, place);
+    assert_eq!(rt; look_up_in(&mut windows, place, term), Ok(wanted));
+    assert_eq!(rt; windows.asked(), asked);
     assert!(rt; below.asked() <= asked);
     Ok(())
 }
@@ -280,24 +280,71 @@ fn damage_is_answered(rt: HostRuntime) -> Result<(), Fail> {
     Ok(())
 }
 
-// Of 17 terms the second group is read: one piece of 4,096 bytes holds the whole dictionary.
+// Of 17 terms the second group is read: the offsets are asked for once, and each group.
 #[test]
-fn a_window_asks_once(rt: HostRuntime) -> Result<(), Fail> {
+fn windows_ask_once(rt: HostRuntime) -> Result<(), Fail> {
     let alloc = rt.alloc();
     let bytes = written(&rt, alloc, &words(alloc, 17)?)?;
     assert!(rt; bytes.len() < 4096);
+    let place = whole(&bytes, 17);
     let mut source = SliceSource::new(&bytes);
-    let mut window = Window::on(&mut source);
-    assert_eq!(rt; window.len() as usize, bytes.len());
-    let found = look_up_in(&mut window, whole(&bytes, 17), b"aaadc");
+    let mut windows = Windows::on(&mut source, place);
+    assert_eq!(rt; windows.len() as usize, bytes.len());
+    let found = look_up_in(&mut windows, place, b"aaadc");
     assert_eq!(rt; found, Ok(Some(entry_at(16))));
-    assert!(rt; window.asked() > 5);
-    assert!(rt; source.asked() <= 3);
+    assert_eq!(rt; windows.asked(), 6);
+    assert_eq!(rt; source.asked(), 2);
+    Ok(())
+}
+
+// The bytes of a source by their places, over windows of which the first has the first 8 of them:
+// how often the source was asked after each stretch.
+#[test]
+fn each_window_keeps_its_bytes(rt: HostRuntime) -> Result<(), Fail> {
+    let alloc = rt.alloc();
+    let mut bytes = Vec::new(alloc);
+    for i in 0..1_000u32 {
+        bytes.push((i % 251) as u8)?;
+    }
+    assert!(rt; bytes.len() == 1_000);
+    // Of 32 terms there are two offsets, which begin at place 0.
+    let place = whole(&bytes, 32);
+    let stretches: [(u32, u32, u64); 12] = [
+        (4, 4, 1),
+        (4, 4, 1),
+        (500, 100, 2),
+        (6, 2, 2),
+        (528, 100, 2),
+        (528, 101, 3),
+        (4, 128, 3),
+        (4, 129, 4),
+        (528, 4, 4),
+        (5, 3, 4),
+        (990, 10, 5),
+        (0, 4, 6),
+    ];
+    for (count, (at, n, asked)) in stretches.iter().enumerate() {
+        let mut source = SliceSource::new(&bytes);
+        let mut windows = Windows::on(&mut source, place);
+        for (at, n, _) in stretches.iter().take(count) {
+            assert!(rt; windows.lend(*at, (*n).min(4096)).is_ok());
+        }
+        let start = (*at).min(1_000) as usize;
+        let n = (*n).min(4096);
+        let wanted = bytes.get(start..start + n as usize);
+        assert_eq!(rt; windows.lend(*at, n).ok(), wanted);
+        assert_eq!(rt; source.asked(), *asked);
+    }
+    let mut source = SliceSource::new(&bytes);
+    let mut windows = Windows::on(&mut source, place);
+    assert_eq!(rt; windows.lend(999, 2).err(), Some(SourceFault::Damaged));
+    assert_eq!(rt; windows.lend(500, 501).err(), Some(SourceFault::Damaged));
+    assert_eq!(rt; source.asked(), 0);
     Ok(())
 }
 
 // Each call below fails in turn: the look-up answers Disk, and the next one finds the term; a list
-// of entries ends with Disk. Through a window too: what a failed call leaves is not lent.
+// of entries ends with Disk. Through windows too: what a failed call leaves is not lent.
 #[test]
 fn each_failed_read_is_answered(rt: HostRuntime) -> Result<(), Fail> {
     let alloc = rt.alloc();
@@ -325,11 +372,11 @@ fn each_failed_read_is_answered(rt: HostRuntime) -> Result<(), Fail> {
         assert_eq!(rt; listed.err(), Some(EntriesFault::Disk));
     }
     let mut below = Failing::after(&bytes, 0);
-    let mut window = Window::on(&mut below);
+    let mut windows = Windows::on(&mut below, place);
     assert_eq!(rt;
-        look_up_in(&mut window, place, term),
+        look_up_in(&mut windows, place, term),
         Err(SourceFault::Disk)
     );
-    assert_eq!(rt; look_up_in(&mut window, place, term), wanted);
+    assert_eq!(rt; look_up_in(&mut windows, place, term), wanted);
     Ok(())
 }
