@@ -16,10 +16,10 @@ has ns k = list_any (λ m. m == k) ns
 pub eq_same : (x y : ℕ) → x ≡ y → (x == y) ≡ true
 eq_same x y h = grind (arith, nat_tests)
 
-eq_less : (x y : ℕ) → x < y → (x == y) ≡ false
+pub eq_less : (x y : ℕ) → x < y → (x == y) ≡ false
 eq_less x y h = grind (arith, nat_tests)
 
-eq_more : (x y : ℕ) → y < x → (x == y) ≡ false
+pub eq_more : (x y : ℕ) → y < x → (x == y) ≡ false
 eq_more x y h = grind (arith, nat_tests)
 
 eq_turned : (x y : ℕ) → (x == y) ≡ (y == x)

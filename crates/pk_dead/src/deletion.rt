@@ -1,6 +1,7 @@
 //! The list of the deleted numbers of a segment.
 
-ghost use Rattle.std.specs.Prelude.{◌≡◌, ◌↔◌, ◌==◌, ◌<◌, ◌≤◌, ℕ, List, [], length};
+ghost use Rattle.std.specs.Prelude.{◌≡◌, ◌↔◌, ◌==◌, ◌+◌, ◌<◌, ◌≤◌, ℕ, List, [], length};
+ghost use Rattle.std.specs.Prelude.{slice_index};
 ghost use Rattle.std.specs.Prelude.{IsOk, IsTrue, IfOk, IfErr, OnOk, OnErr, MatchResult};
 ghost use Rattle.std.specs.List.{list_any};
 ghost use Rattle.pk_posting.specs.Posting.{IsPosting, Spells};
@@ -37,6 +38,36 @@ fn place_of(numbers: &[u32], n: u32) -> Result<usize, usize>
     numbers.binary_search(&n)
 }
 
+// How far a search goes on from a place where m stands so far ahead: as far where m is not above
+// n, else not at all. It is computed, since a branch on m is foreseen wrongly every other time.
+#[inline(always)]
+fn step_to(m: u32, n: u32, ahead: usize) -> usize
+    ensures reached { m ≤ n → result ≡ ahead }
+    ensures above { n < m → result ≡ 0 }
+{
+    let reached = (n as u64 + 4_294_967_296 - m as u64) >> 32;
+    reached as usize * ahead
+}
+
+// The index of the last number that is not above n; 0 where all are.
+#[inline(always)]
+fn last_upto(numbers: &[u32], n: u32) -> usize
+    requires posting { IsPosting numbers.now }
+    requires some { 0 < length numbers.now }
+    ensures within { result < length numbers.now }
+    ensures upto { 0 < result → slice_index numbers.now result ≤ n }
+    ensures above { result + 1 < length numbers.now → n < slice_index numbers.now (result + 1) }
+{
+    let mut at = 0;
+    let mut size = numbers.len();
+    'halves: while 1 < size {
+        let half = size / 2;
+        at += step_to(numbers[at + half], n, half);
+        size -= half;
+    }
+    at
+}
+
 impl Dead {
     /// A list without a number. It takes no memory; its later calls take theirs from `alloc`.
     pub fn new(alloc: Global) -> Self
@@ -59,10 +90,14 @@ impl Dead {
     }
 
     /// Whether the number is in the list, by halving.
+    #[tactic(auto, using(crate::proofs::SearchLemmas::only_there))]
     pub fn contains(&self, n: u32) -> bool
         ensures { result ≡ list_any (λ m. m == n) self.now }
     {
-        place_of(&self.numbers, n).is_ok()
+        if self.numbers.is_empty() {
+            return false;
+        }
+        self.numbers[last_upto(&self.numbers, n)] == n
     }
 
     /// How many numbers there are.
