@@ -1,17 +1,17 @@
 -- The plan of a merge.
-use Rattle.std.proofs.Common.{◌≡◌, ℕ, ◌≤◌, List, [], ◌∷◌, get_or, length, sym, ◌∙◌, ap, subst, Err, Some, Vec, Global}
+use Rattle.std.proofs.Common.{◌≡◌, ℕ, ◌≤◌, List, [], ◌∷◌, get_or, sym, ◌∙◌, ap, Err, Some}
 use Rattle.std.specs.Prelude.{All}
 use Rattle.std.proofs.lemmas.List.Elements.{All-cons, All-nil}
 use Rattle.pk_disk.specs.declared.units.Extent.{Extent}
-use Rattle.pk_manifest.specs.Sound.{named}
 use Rattle.pk_manifest.specs.Spelling.{Body}
 use Rattle.pk_model.specs.declared.commands.Refusal.{Refusal}
 use Rattle.pk_model.specs.declared.commands.Refusal.TheVariants.{Reopen, TextTooLong, BufferFull, NumbersUsedUp, NoSuchDocument, TooManySegments, SegmentTooLarge, Memory, Full, Damaged, Disk}
 use Rattle.pk_search.specs.declared.opened.OpenSegment.{OpenSegment}
-use Rattle.pk_space.specs.Places.{FullAs, PlacedAs}
+use Rattle.pk_space.specs.Places.{PlacedAs}
+use Rattle.pk_layout.specs.declared.merging.NewSegment.{NewSegment}
 use Rattle.pk_layout.specs.declared.planning.Plan.{Plan}
 use Rattle.pk_layout.specs.Merging.{PlansMerged, TakesPending, run_of}
-use Rattle.pk_layout.specs.Plan.{IsPlanOf, PlacesAs, laid_in}
+use Rattle.pk_layout.specs.Plan.{IsPlanOf, PlacesAs}
 
 -- ---- the plan is made
 
@@ -25,38 +25,37 @@ one_extent units taken n [] e placed at = absurd placed
 one_extent units taken n (x ∷ []) e placed at = ap (λ y. y ∷ []) (sym at)
 one_extent units taken n (x ∷ y ∷ es) e placed at = absurd placed.1
 
-pub plan_same : (b b' : Body) (os os' : List OpenSegment) (es es' : List Extent) (ws ws' : List (List ℕ)) (p : Plan) → b ≡ b' → os ≡ os' → es ≡ es' → ws ≡ ws' → IsPlanOf b os es ws p → IsPlanOf b' os' es' ws' p
-plan_same b b' os os' es es' ws ws' p body opened extents writes is = record {
+pub plan_same : (b b' : Body) (os os' : List OpenSegment) (p : Plan) → b ≡ b' → os ≡ os' → IsPlanOf b os p → IsPlanOf b' os' p
+plan_same b b' os os' p body opened is = record {
   manifest_is = is.manifest_is ∙ body;
   opened_is = is.opened_is ∙ opened;
-  pieces_are = is.pieces_are ∙ (λ i. laid_in (extents i) (writes i));
   body_is = is.body_is;
 }
 
 -- where one length finds no place
-pub not_placed : (b : Body) (opened : List OpenSegment) (from count : ℕ) (bytes : Vec ℕ Global) (n : ℕ) (why : Refusal) → n ≡ length bytes.items → PlacesAs b (n ∷ []) (Err why) → PlansMerged b opened from count (Some bytes) (Err why)
-not_placed b opened from count bytes n (Full need largest) long is = subst (λ m. FullAs b.units (named b) (m ∷ []) need largest) long is
-not_placed b opened from count bytes n Memory long is = tt
-not_placed b opened from count bytes n SegmentTooLarge long is = absurd is
-not_placed b opened from count bytes n Reopen long is = absurd is
-not_placed b opened from count bytes n TextTooLong long is = absurd is
-not_placed b opened from count bytes n BufferFull long is = absurd is
-not_placed b opened from count bytes n NumbersUsedUp long is = absurd is
-not_placed b opened from count bytes n NoSuchDocument long is = absurd is
-not_placed b opened from count bytes n TooManySegments long is = absurd is
-not_placed b opened from count bytes n Damaged long is = absurd is
-not_placed b opened from count bytes n Disk long is = absurd is
+pub not_placed : (b : Body) (opened : List OpenSegment) (from count : ℕ) (new : NewSegment) (why : Refusal) → PlacesAs b (new.bytes ∷ []) (Err why) → PlansMerged b opened from count (Some new) (Err why)
+not_placed b opened from count new (Full need largest) is = is
+not_placed b opened from count new Memory is = tt
+not_placed b opened from count new SegmentTooLarge is = absurd is
+not_placed b opened from count new Reopen is = absurd is
+not_placed b opened from count new TextTooLong is = absurd is
+not_placed b opened from count new BufferFull is = absurd is
+not_placed b opened from count new NumbersUsedUp is = absurd is
+not_placed b opened from count new NoSuchDocument is = absurd is
+not_placed b opened from count new TooManySegments is = absurd is
+not_placed b opened from count new Damaged is = absurd is
+not_placed b opened from count new Disk is = absurd is
 
 -- or the pending numbers are none
-pub not_pending : (b : Body) (opened : List OpenSegment) (from count : ℕ) (bytes : Vec ℕ Global) (why : Refusal) → TakesPending (run_of from count opened) (Err why) → PlansMerged b opened from count (Some bytes) (Err why)
-not_pending b opened from count bytes Memory is = tt
-not_pending b opened from count bytes Damaged is = is
-not_pending b opened from count bytes (Full need largest) is = absurd is
-not_pending b opened from count bytes SegmentTooLarge is = absurd is
-not_pending b opened from count bytes Reopen is = absurd is
-not_pending b opened from count bytes TextTooLong is = absurd is
-not_pending b opened from count bytes BufferFull is = absurd is
-not_pending b opened from count bytes NumbersUsedUp is = absurd is
-not_pending b opened from count bytes NoSuchDocument is = absurd is
-not_pending b opened from count bytes TooManySegments is = absurd is
-not_pending b opened from count bytes Disk is = absurd is
+pub not_pending : (b : Body) (opened : List OpenSegment) (from count : ℕ) (new : NewSegment) (why : Refusal) → TakesPending (run_of from count opened) (Err why) → PlansMerged b opened from count (Some new) (Err why)
+not_pending b opened from count new Memory is = tt
+not_pending b opened from count new Damaged is = is
+not_pending b opened from count new (Full need largest) is = absurd is
+not_pending b opened from count new SegmentTooLarge is = absurd is
+not_pending b opened from count new Reopen is = absurd is
+not_pending b opened from count new TextTooLong is = absurd is
+not_pending b opened from count new BufferFull is = absurd is
+not_pending b opened from count new NumbersUsedUp is = absurd is
+not_pending b opened from count new NoSuchDocument is = absurd is
+not_pending b opened from count new TooManySegments is = absurd is
+not_pending b opened from count new Disk is = absurd is

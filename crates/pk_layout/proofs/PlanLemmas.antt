@@ -32,13 +32,14 @@ use Rattle.pk_disk.specs.Units.{apart, lies_within, overlap, units_in}
 use Rattle.pk_manifest.proofs.Fields.{extents_of_disk}
 use Rattle.pk_manifest.specs.Sound.{is_part}
 use Rattle.pk_model.specs.Limits.{end_of_ids, end_of_numbers}
-use Rattle.pk_replace.specs.Claims.{AreApart, Each, IsAmong, IsInside, IsUntouched, places}
-use Rattle.pk_replace.specs.Course.{touched_by}
+use Rattle.pk_replace.specs.Claims.{AreApart, Each, IsAmong, IsBehind, IsInside, places}
+use Rattle.pk_replace.proofs.ClaimLemmas.{each_weaker, of_among}
 use Rattle.pk_search.specs.Opened.{AreOpenOf, present}
 use Rattle.pk_state.specs.Committed.{Stored}
 use Rattle.pk_state.specs.Kept.{AreEntries, claims_of}
 use Rattle.pk_state.proofs.HoldsLemmas.{units_room}
 use Rattle.pk_state.proofs.KindLemmas.{written_is_kind}
+use Rattle.pk_layout.specs.declared.committing.CommitPlan.{CommitPlan}
 use Rattle.pk_layout.specs.declared.planning.Plan.{Plan}
 use Rattle.pk_layout.specs.Placed.{AreLaid}
 use Rattle.pk_layout.proofs.ExtentLemmas.{laid_inside, laid_missed, next_untouched}
@@ -52,7 +53,7 @@ use Rattle.pk_layout.proofs.BodyLemmas.{SaysSound, claims_append, entries_append
 use Rattle.pk_layout.proofs.RelistLemmas.{AreFree, IsListExtent, claims_relisted, entries_relisted, ids_relisted, map_settled, parts_relisted, relisted_free, relisted_long, settled_open}
 use Rattle.pk_space.specs.Places.{PlacedAs}
 use Rattle.pk_layout.proofs.TakenLemmas.{taken_append, taken_relisted}
-use Rattle.pk_layout.specs.Plan.{AreSettled, AreTaken, BuildsAs, CanBeWritten, DueAs, GoesOn, GoesTo, IsPlan, IsPlanOf, PlansAs, PlansCommit, PlansWith, body_with_lists, body_with_segment, fresh_segment, laid_in, new_lists, relisted, settled}
+use Rattle.pk_layout.specs.Plan.{AreSettled, AreTaken, BuildsAs, CanBeWritten, DueAs, GoesOn, GoesTo, HavePlace, IsPlan, IsPlanOf, PlansAs, PlansCommit, PlansWith, body_with_lists, body_with_segment, fresh_segment, laid_in, new_lists, pieces_of, relisted, settled}
 use Rattle.pk_layout.specs.Plan.{IsGrown}
 
 -- what may be written has some bytes
@@ -90,18 +91,22 @@ pub with_first : (w : List ℕ) (ws : List (List ℕ)) → CanBeWritten (w ∷ [
 with_first w ws one all = All-cons (λ (x : List ℕ). (5 ≤ length x) × (length x ≤ segment_limit)) w ws (All-head (λ (x : List ℕ). (5 ≤ length x) × (length x ≤ segment_limit)) w [] one) all
 
 -- extents at the first fit lie on the disk, and share no unit
+pub lengths_here : (size : ℕ) (b : Body) → IsBody (units_in size) b → (lengths : List ℕ) → AllByRecursion (λ (n : ℕ). 1 ≤ n) lengths → (es : List Extent) → PlacedAs b.units (named b) lengths es
+    → (list_all (lies_within (units_in size)) es ≡ true) × (apart overlap (named b ++ es) ≡ true)
+lengths_here size b is lengths some es placed =
+    let disk = extents_of_disk (units_in size) b is in
+    placed_all (units_in size) (named b) lengths es disk.1 disk.2 some (subst (λ u. PlacedAs u (named b) lengths es) (says_sound (units_in size) b is.sound).of_disk placed)
+
 pub placed_here : (size : ℕ) (b : Body) → IsBody (units_in size) b → (writes : List (List ℕ)) → AllByRecursion (λ (n : ℕ). 1 ≤ n) (map length writes) → (es : List Extent) → PlacedAs b.units (named b) (map length writes) es
     → (list_all (lies_within (units_in size)) es ≡ true) × (apart overlap (named b ++ es) ≡ true)
-placed_here size b is writes some es placed =
-    let disk = extents_of_disk (units_in size) b is in
-    placed_all (units_in size) (named b) (map length writes) es disk.1 disk.2 some (subst (λ u. PlacedAs u (named b) (map length writes) es) (says_sound (units_in size) b is.sound).of_disk placed)
+placed_here size b is writes some es placed = lengths_here size b is (map length writes) some es placed
 
 -- ---- ANY PLAN
 
 -- bytes at the first fit, a body that follows, and open segments for its entries
 module _ (size : ℕ) (b b' : Body) (is : IsBody (units_in size) b) (left : b.generation < end_of_ids) (next_is : IsBody (units_in size) b') (later : b'.generation ≡ b.generation + 1)
     (writes : List (List ℕ)) (some : AllByRecursion (λ (n : ℕ). 1 ≤ n) (map length writes)) (extents : List Extent) (placed : PlacedAs b.units (named b) (map length writes) extents)
-    (opened : List OpenSegment) (count : length opened ≡ length b'.entries) (grown : All IsGrown opened) (p : Plan) (plan : IsPlanOf b' opened extents writes p) where
+    (opened : List OpenSegment) (count : length opened ≡ length b'.entries) (grown : All IsGrown opened) (p : Plan) (plan : IsPlanOf b' opened p) where
   disk_extents : (length b.entries ≤ 64) × (list_all (lies_within (units_in size)) (named b) ≡ true) × (apart overlap (named b) ≡ true)
   disk_extents = extents_of_disk (units_in size) b is
 
@@ -111,8 +116,14 @@ module _ (size : ℕ) (b b' : Body) (is : IsBody (units_in size) b) (left : b.ge
   pub all_placed_here : (list_all (lies_within (units_in size)) extents ≡ true) × (apart overlap (named b ++ extents) ≡ true)
   all_placed_here = placed_all (units_in size) (named b) (map length writes) extents disk_extents.1 disk_extents.2 some on_disk
 
-  pieces_laid : AreLaid extents (laid_in extents writes)
-  pieces_laid = laid_all (units_in size) (named b) writes extents on_disk
+  abbrev written : List Claim
+  written = laid_in extents writes
+
+  all_laid : AreLaid extents written
+  all_laid = laid_all (units_in size) (named b) writes extents on_disk
+
+  all_inside : Each (IsInside size) written
+  all_inside = laid_inside (units_in size) size (units_room size) extents written all_placed_here.0 all_laid
 
   pub plan_is : IsPlan size b p
   plan_is = record {
@@ -122,22 +133,25 @@ module _ (size : ℕ) (b b' : Body) (is : IsBody (units_in size) b) (left : b.ge
     body_is = plan.body_is;
     opened = ap length plan.opened_is ∙ count ∙ ap (λ (x : Body). length x.entries) (sym plan.manifest_is);
     grown = subst (All IsGrown) (sym plan.opened_is) grown;
-    inside = subst (Each (IsInside size)) (sym plan.pieces_are) (laid_inside (units_in size) size (units_room size) extents (laid_in extents writes) all_placed_here.0 pieces_laid);
-    apart = subst AreApart (sym plan.pieces_are) (laid_apart extents (laid_in extents writes) pieces_laid (apart_back (named b) extents all_placed_here.1));
   }
 
-  -- it goes on with the segments of the body, of which its own are taken
-  pub goes_on_from : (was : List OpenSegment) → b.next_segment ≤ b'.next_segment → AreTaken b.next_segment b.entries was b'.entries opened → GoesOn b was p
+  -- what is written lies on the disk, and is apart
+  pub have_place : Each (IsInside size) written × AreApart written
+  have_place = (all_inside, laid_apart extents written all_laid (apart_back (named b) extents all_placed_here.1))
+
+  -- the plan goes on with the segments of the body, of which its own are taken
+  pub goes_on_from : (was : List OpenSegment) → b.next_segment ≤ b'.next_segment → AreTaken b.next_segment b.entries was b'.entries opened → GoesOn (places written) b was p
   goes_on_from was ids taken = record {
     ids = subst (λ (x : Body). b.next_segment ≤ x.next_segment) (sym plan.manifest_is) ids;
     taken = subst (λ (x : Body). AreTaken b.next_segment b.entries was x.entries p.opened.items) (sym plan.manifest_is)
         (subst (λ (os : List OpenSegment). AreTaken b.next_segment b.entries was b'.entries os) (sym plan.opened_is) taken);
-    missed = λ claims laid. subst (λ (ps : List Claim). Each (IsUntouched (places ps)) claims) (sym plan.pieces_are) (laid_missed (named b) extents claims (laid_in extents writes) laid pieces_laid all_placed_here.1);
+    missed = λ claims laid. laid_missed (named b) extents claims written laid all_laid all_placed_here.1;
   }
 
   -- it takes what the entries stand for over to what its own do
   pub goes_to : (stored stored' : List Stored) → AreEntries b.entries stored → AreEntries b'.entries stored' → AreOpenOf opened stored'
-      → Each (λ c. IsAmong c (claims_of b.entries stored) ⊎ IsAmong c (laid_in extents writes)) (claims_of b'.entries stored') → GoesTo p (record { body = b; stored = stored }) (record { body = b'; stored = stored' })
+      → Each (λ c. IsAmong c (claims_of b.entries stored) ⊎ IsAmong c written) (claims_of b'.entries stored')
+      → GoesTo (places written) (λ c. IsAmong c written) p (record { body = b; stored = stored }) (record { body = b'; stored = stored' })
   goes_to stored stored' entries entries' open' among =
       let claims = claims_of b.entries stored in
       let laid = entries_laid (units_in size) b.next_segment b.entries stored (says_sound (units_in size) b is.sound).parts entries in
@@ -145,10 +159,12 @@ module _ (size : ℕ) (b b' : Body) (is : IsBody (units_in size) b) (left : b.ge
         body = sym plan.manifest_is;
         entries = entries';
         opened = subst (λ os. AreOpenOf os stored') (sym plan.opened_is) open';
-        untouched = λ s. subst (λ ps. Each (IsUntouched (touched_by s (places ps))) claims) (sym plan.pieces_are)
-            (next_untouched s size (laid_in extents writes) claims (laid_inside (units_in size) size (units_room size) (named b) claims disk_extents.1 laid)
-            (laid_missed (named b) extents claims (laid_in extents writes) laid pieces_laid all_placed_here.1));
-        among = subst (λ ps. Each (λ c. IsAmong c claims ⊎ IsAmong c ps) (claims_of b'.entries stored')) (sym plan.pieces_are) among;
+        next = λ s. record {
+          untouched = next_untouched s size (places written) claims (laid_inside (units_in size) size (units_room size) (named b) claims disk_extents.1 laid)
+              (laid_missed (named b) extents claims written laid all_laid all_placed_here.1);
+          among = each_weaker (λ c. IsAmong c claims ⊎ IsAmong c written) (λ c. IsAmong c claims ⊎ (IsAmong c written × IsBehind c))
+              (λ c either. ⊎_elim (λ old. inl old) (λ new. inr (new, (of_among (IsInside size) c written new all_inside).0)) either) (claims_of b'.entries stored') among;
+        };
       }
 
 -- what is written has some bytes
@@ -187,7 +203,7 @@ lists_sound units b next os xs is left ids some most lists none =
 
 -- WITHOUT A DOCUMENT
 module _ (size : ℕ) (b : Body) (is : IsBody (units_in size) b) (os : List OpenSegment) (count : length os ≡ length b.entries) (left : b.generation < end_of_ids) (ids : b.next_segment < end_of_ids) (next : ℕ) (some : 1 ≤ next) (most : next ≤ end_of_numbers)
-    (can : CanBeWritten (new_lists os)) (p : Plan) (with_lists : PlansWith b (new_lists os) (map settled os) (body_with_lists b os next) (Ok p)) where
+    (can : CanBeWritten (new_lists os)) (p : CommitPlan) (with_lists : PlansWith b (new_lists os) (map settled os) (body_with_lists b os next) (Ok p)) where
   each_list : AllByRecursion (λ (w : List ℕ). (5 ≤ length w) × (length w ≤ 1073741824)) (new_lists os)
   each_list = recursion_from_All (λ (w : List ℕ). (5 ≤ length w) × (length w ≤ 1073741824)) (new_lists os) can
 
@@ -203,8 +219,12 @@ module _ (size : ℕ) (b : Body) (is : IsBody (units_in size) b) (os : List Open
   lists_many : length (map settled os) ≡ length (relisted b.entries os lists_at)
   lists_many = settled_long os ∙ count ∙ sym (relisted_long b.entries os lists_at)
 
-  pub lists_plan : IsPlan size b p
-  lists_plan = plan_is size b (body_with_lists b os next lists_at) is left body_sound refl (new_lists os) (some_bytes (new_lists os) each_list) lists_at with_lists.1 (map settled os) lists_many (settled_grown os) p with_lists.2
+  pub lists_plan : IsPlan size b p.plan
+  lists_plan = plan_is size b (body_with_lists b os next lists_at) is left body_sound refl (new_lists os) (some_bytes (new_lists os) each_list) lists_at with_lists.1 (map settled os) lists_many (settled_grown os) p.plan with_lists.2
+
+  pub lists_place : HavePlace size p
+  lists_place = subst (λ cs. Each (IsInside size) cs × AreApart cs) (sym with_lists.3)
+      (have_place size b (body_with_lists b os next lists_at) is left body_sound refl (new_lists os) (some_bytes (new_lists os) each_list) lists_at with_lists.1 (map settled os) lists_many (settled_grown os) p.plan with_lists.2)
 
   pub lists_commit : PlansCommit b os [] next p
   lists_commit = record {
@@ -213,10 +233,12 @@ module _ (size : ℕ) (b : Body) (is : IsBody (units_in size) b) (os : List Open
     extents = lists_at;
     placed = with_lists.1;
     fits = refl;
-    goes_on = goes_on_from size b (body_with_lists b os next lists_at) is left body_sound refl (new_lists os) (some_bytes (new_lists os) each_list) lists_at with_lists.1 (map settled os) lists_many (settled_grown os) p with_lists.2
-        os (omega arith) (taken_relisted b.next_segment b.entries os lists_at);
-    goes = λ stored entries are. goes_to size b (body_with_lists b os next lists_at) is left body_sound refl (new_lists os) (some_bytes (new_lists os) each_list) lists_at with_lists.1 (map settled os) lists_many (settled_grown os) p with_lists.2
-        stored (present os stored) entries (entries_relisted b.units (named b) b.entries os stored lists_at entries are with_lists.1) (settled_open os stored are) (claims_relisted b.units (named b) b.entries os stored lists_at entries are with_lists.1);
+    goes_on = subst (λ cs. GoesOn (places cs) b os p.plan) (sym with_lists.3)
+        (goes_on_from size b (body_with_lists b os next lists_at) is left body_sound refl (new_lists os) (some_bytes (new_lists os) each_list) lists_at with_lists.1 (map settled os) lists_many (settled_grown os) p.plan with_lists.2
+        os (omega arith) (taken_relisted b.next_segment b.entries os lists_at));
+    goes = λ stored entries are. subst (λ cs. GoesTo (places cs) (λ c. IsAmong c cs) p.plan (record { body = b; stored = stored }) (record { body = body_with_lists b os next lists_at; stored = present os stored })) (sym with_lists.3)
+        (goes_to size b (body_with_lists b os next lists_at) is left body_sound refl (new_lists os) (some_bytes (new_lists os) each_list) lists_at with_lists.1 (map settled os) lists_many (settled_grown os) p.plan with_lists.2
+        stored (present os stored) entries (entries_relisted b.units (named b) b.entries os stored lists_at entries are with_lists.1) (settled_open os stored are) (claims_relisted b.units (named b) b.entries os stored lists_at entries are with_lists.1));
   }
 
 -- WITH A SEGMENT
@@ -246,7 +268,7 @@ each_and P (c ∷ cs) ds first second = (first.0, each_and P cs ds first.1 secon
 
 module _ (size : ℕ) (b : Body) (is : IsBody (units_in size) b) (os : List OpenSegment) (count : length os ≡ length b.entries) (left : b.generation < end_of_ids) (ids : b.next_segment < end_of_ids) (room : length b.entries < 64) (next : ℕ) (some : 1 ≤ next) (most : next ≤ end_of_numbers)
     (can : CanBeWritten (new_lists os)) (docs : List Doc) (bytes : List ℕ) (spells : SegmentSpells bytes docs written_kind) (o : Segment) (opened_is : IsSegmentOf o docs) (e : Extent) (xs : List Extent) (placed : PlacedAs b.units (named b) (map length (bytes ∷ new_lists os)) (e ∷ xs))
-    (p : Plan) (plan : IsPlanOf (body_with_segment b os next (e ∷ xs)) (map settled os ++ fresh_segment o ∷ []) (e ∷ xs) (bytes ∷ new_lists os) p) where
+    (p : CommitPlan) (plan : IsPlanOf (body_with_segment b os next (e ∷ xs)) (map settled os ++ fresh_segment o ∷ []) p.plan) (pieces : pieces_of p ≡ laid_in (e ∷ xs) (bytes ∷ new_lists os)) where
   abbrev entries' : List Entry
   entries' = relisted b.entries os xs ++ new_entry b e ∷ []
 
@@ -308,27 +330,33 @@ module _ (size : ℕ) (b : Body) (is : IsBody (units_in size) b) (os : List Open
   all_grown : All IsGrown (map settled os ++ fresh_segment o ∷ [])
   all_grown = All-append IsGrown (map settled os) (fresh_segment o ∷ []) (settled_grown os) (All-cons IsGrown (fresh_segment o) [] (omega arith) (All-nil IsGrown))
 
-  pub segment_plan : IsPlan size b p
-  segment_plan = plan_is size b (body_with_segment b os next (e ∷ xs)) is left segment_sound refl (bytes ∷ new_lists os) enough (e ∷ xs) placed (map settled os ++ fresh_segment o ∷ []) many all_grown p plan
+  pub segment_plan : IsPlan size b p.plan
+  segment_plan = plan_is size b (body_with_segment b os next (e ∷ xs)) is left segment_sound refl (bytes ∷ new_lists os) enough (e ∷ xs) placed (map settled os ++ fresh_segment o ∷ []) many all_grown p.plan plan
 
-  pub segment_goes_on : GoesOn b os p
-  segment_goes_on = goes_on_from size b (body_with_segment b os next (e ∷ xs)) is left segment_sound refl (bytes ∷ new_lists os) enough (e ∷ xs) placed (map settled os ++ fresh_segment o ∷ []) many all_grown p plan
+  pub segment_place : HavePlace size p
+  segment_place = subst (λ cs. Each (IsInside size) cs × AreApart cs) (sym pieces)
+      (have_place size b (body_with_segment b os next (e ∷ xs)) is left segment_sound refl (bytes ∷ new_lists os) enough (e ∷ xs) placed (map settled os ++ fresh_segment o ∷ []) many all_grown p.plan plan)
+
+  pub segment_goes_on : GoesOn (places (pieces_of p)) b os p.plan
+  segment_goes_on = subst (λ cs. GoesOn (places cs) b os p.plan) (sym pieces) (goes_on_from size b (body_with_segment b os next (e ∷ xs)) is left segment_sound refl (bytes ∷ new_lists os) enough (e ∷ xs) placed (map settled os ++ fresh_segment o ∷ []) many all_grown p.plan plan
       os (omega arith) (taken_append b.next_segment b.entries os (relisted b.entries os xs) (map settled os) (new_entry b e ∷ []) (fresh_segment o ∷ [])
-      (relisted_long b.entries os xs ∙ sym count ∙ sym (settled_long os)) (taken_relisted b.next_segment b.entries os xs) (inl (omega arith), tt))
+      (relisted_long b.entries os xs ∙ sym count ∙ sym (settled_long os)) (taken_relisted b.next_segment b.entries os xs) (inl (omega arith), tt)))
 
-  pub segment_goes : (stored : List Stored) → AreEntries b.entries stored → AreOpenOf os stored → GoesTo p (record { body = b; stored = stored }) (record { body = body_with_segment b os next (e ∷ xs); stored = present os stored ++ new_stored docs ∷ [] })
+  pub segment_goes : (stored : List Stored) → AreEntries b.entries stored → AreOpenOf os stored
+      → GoesTo (places (pieces_of p)) (λ c. IsAmong c (pieces_of p)) p.plan (record { body = b; stored = stored }) (record { body = body_with_segment b os next (e ∷ xs); stored = present os stored ++ new_stored docs ∷ [] })
   segment_goes stored entries are =
       let claims = claims_of b.entries stored in
       let entries_now = entries_relisted (units_in size) (e ∷ named b) b.entries os stored xs entries are placed_there in
       let new : AreEntries (new_entry b e ∷ []) (new_stored docs ∷ []) = (record { segment = record { kind = written_is_kind; are = spells.are; fits = spells.fits; long = placed.0.long ∙ (spelled_length bytes docs spells).0 }; list = refl }, tt) in
-      goes_to size b (body_with_segment b os next (e ∷ xs)) is left segment_sound refl (bytes ∷ new_lists os) enough (e ∷ xs) placed (map settled os ++ fresh_segment o ∷ []) many all_grown p plan
+      subst (λ cs. GoesTo (places cs) (λ c. IsAmong c cs) p.plan (record { body = b; stored = stored }) (record { body = body_with_segment b os next (e ∷ xs); stored = present os stored ++ new_stored docs ∷ [] })) (sym pieces)
+      (goes_to size b (body_with_segment b os next (e ∷ xs)) is left segment_sound refl (bytes ∷ new_lists os) enough (e ∷ xs) placed (map settled os ++ fresh_segment o ∷ []) many all_grown p.plan plan
       stored (present os stored ++ new_stored docs ∷ []) entries
       (entries_append (relisted b.entries os xs) (new_entry b e ∷ []) (present os stored) (new_stored docs ∷ []) entries_now new)
       (open_append (map settled os) (fresh_segment o ∷ []) (present os stored) (new_stored docs ∷ []) (settled_open os stored are) (fresh_open o docs opened_is, tt))
       (subst (Each (λ c. IsAmong c claims ⊎ IsAmong c (laid_in (e ∷ xs) (bytes ∷ new_lists os)))) (sym (claims_append (relisted b.entries os xs) (new_entry b e ∷ []) (present os stored) (new_stored docs ∷ []) entries_now))
       (each_and (λ c. IsAmong c claims ⊎ IsAmong c (laid_in (e ∷ xs) (bytes ∷ new_lists os))) (claims_of (relisted b.entries os xs) (present os stored)) (claims_of (new_entry b e ∷ []) (new_stored docs ∷ []))
       (each_later claims (record { at = start_of e; bytes = bytes }) (laid_in xs (new_lists os)) (claims_of (relisted b.entries os xs) (present os stored)) (claims_relisted (units_in size) (e ∷ named b) b.entries os stored xs entries are placed_there))
-      (inr (inl (ap (λ (bs : List ℕ). record { at = start_of e; bytes = bs }) (sym spells.same))), tt)))
+      (inr (inl (ap (λ (bs : List ℕ). record { at = start_of e; bytes = bs }) (sym spells.same))), tt))))
 
 -- a segment that fits
 pub fits_limit : (d : Doc) (docs : List Doc) → segment_length (d ∷ docs) written_kind ≤ longest → is_too_large (d ∷ docs) ≡ false
@@ -341,28 +369,29 @@ passes_limit (d ∷ docs) long some = or_left (nat_lt longest (segment_length (d
 
 -- the plan of a commit with these documents, wherever they lie
 pub planned_with : (size : ℕ) (b : Body) → IsBody (units_in size) b → (os : List OpenSegment) → length os ≡ length b.entries → (docs : List Doc) → DueAs b (length docs) None → (next : ℕ) → 1 ≤ next → next ≤ end_of_numbers → CanBeWritten (new_lists os)
-    → (bytes : List ℕ) → SegmentSpells bytes docs written_kind → (o : Segment) → IsSegmentOf o docs → (p : Plan) → PlansWith b (bytes ∷ new_lists os) (map settled os ++ fresh_segment o ∷ []) (body_with_segment b os next) (Ok p) → PlansAs size b os docs next (Ok p)
+    → (bytes : List ℕ) → SegmentSpells bytes docs written_kind → (o : Segment) → IsSegmentOf o docs → (p : CommitPlan) → PlansWith b (bytes ∷ new_lists os) (map settled os ++ fresh_segment o ∷ []) (body_with_segment b os next) (Ok p) → PlansAs size b os docs next (Ok p)
 planned_with size b is os count [] due next some most can bytes spells o opened_is p plan = let h : 0 < 0 = spells.are.some in absurd (omega (arith, h))
-planned_with size b is os count (d ∷ docs) due next some most can bytes spells o opened_is p ([], placed, plan) = absurd placed
-planned_with size b is os count (d ∷ docs) due next some most can bytes spells o opened_is p (e ∷ xs, placed, plan) =
+planned_with size b is os count (d ∷ docs) due next some most can bytes spells o opened_is p ([], placed, plan, pieces) = absurd placed
+planned_with size b is os count (d ∷ docs) due next some most can bytes spells o opened_is p (e ∷ xs, placed, plan, pieces) =
     let room = due.2 (omega arith) in (
-      segment_plan size b is os count due.0 due.1 room next some most can (d ∷ docs) bytes spells o opened_is e xs placed p plan,
+      segment_plan size b is os count due.0 due.1 room next some most can (d ∷ docs) bytes spells o opened_is e xs placed p plan pieces,
       record {
         next_is = ap (λ (x : Body). x.next_number) plan.manifest_is;
         settled = subst AreSettled (sym plan.opened_is) (settled_append (map settled os) (fresh_segment o ∷ []) (map_settled os) (refl, tt));
         extents = e ∷ xs;
         placed = subst (λ (w : List ℕ). PlacedAs b.units (named b) (map length (w ∷ new_lists os)) (e ∷ xs)) spells.same placed;
         fits = fits_limit d docs spells.fits;
-        goes_on = segment_goes_on size b is os count due.0 due.1 room next some most can (d ∷ docs) bytes spells o opened_is e xs placed p plan;
-        goes = segment_goes size b is os count due.0 due.1 room next some most can (d ∷ docs) bytes spells o opened_is e xs placed p plan;
+        goes_on = segment_goes_on size b is os count due.0 due.1 room next some most can (d ∷ docs) bytes spells o opened_is e xs placed p plan pieces;
+        goes = segment_goes size b is os count due.0 due.1 room next some most can (d ∷ docs) bytes spells o opened_is e xs placed p plan pieces;
       },
+      segment_place size b is os count due.0 due.1 room next some most can (d ∷ docs) bytes spells o opened_is e xs placed p plan pieces,
     )
 
 -- and of one without a document
-pub planned_without : (size : ℕ) (b : Body) → IsBody (units_in size) b → (os : List OpenSegment) → length os ≡ length b.entries → (docs : List Doc) → docs ≡ [] → DueAs b (length docs) None → (next : ℕ) → 1 ≤ next → next ≤ end_of_numbers → (r : Result Plan Refusal)
+pub planned_without : (size : ℕ) (b : Body) → IsBody (units_in size) b → (os : List OpenSegment) → length os ≡ length b.entries → (docs : List Doc) → docs ≡ [] → DueAs b (length docs) None → (next : ℕ) → 1 ≤ next → next ≤ end_of_numbers → (r : Result CommitPlan Refusal)
     → OnOk r (CanBeWritten (new_lists os)) → PlansWith b (new_lists os) (map settled os) (body_with_lists b os next) r → PlansAs size b os docs next r
 planned_without size b is os count docs none due next some most (Ok p) can plan = subst (λ (ds : List Doc). PlansAs size b os ds next (Ok p)) (sym none)
-    (lists_plan size b is os count due.0 due.1 next some most can p plan, lists_commit size b is os count due.0 due.1 next some most can p plan)
+    (lists_plan size b is os count due.0 due.1 next some most can p plan, lists_commit size b is os count due.0 due.1 next some most can p plan, lists_place size b is os count due.0 due.1 next some most can p plan)
 planned_without size b is os count docs none due next some most (Err (Full need largest)) can plan = subst (λ (ds : List Doc). PlansAs size b os ds next (Err (Full need largest))) (sym none) (refl, plan)
 planned_without size b is os count docs none due next some most (Err Memory) can plan = tt
 planned_without size b is os count docs none due next some most (Err SegmentTooLarge) can plan = absurd plan
@@ -413,6 +442,6 @@ can_segment bytes docs spells =
 
 -- what is planned with a segment, whatever the answer
 pub planned_segment : (size : ℕ) (b : Body) → IsBody (units_in size) b → (os : List OpenSegment) → length os ≡ length b.entries → (docs : List Doc) → DueAs b (length docs) None → (next : ℕ) → 1 ≤ next → next ≤ end_of_numbers
-    → (bytes : List ℕ) → SegmentSpells bytes docs written_kind → (o : Segment) → IsSegmentOf o docs → (r : Result Plan Refusal) → OnOk r (CanBeWritten (new_lists os)) → PlansWith b (bytes ∷ new_lists os) (map settled os ++ fresh_segment o ∷ []) (body_with_segment b os next) r → PlansAs size b os docs next r
+    → (bytes : List ℕ) → SegmentSpells bytes docs written_kind → (o : Segment) → IsSegmentOf o docs → (r : Result CommitPlan Refusal) → OnOk r (CanBeWritten (new_lists os)) → PlansWith b (bytes ∷ new_lists os) (map settled os ++ fresh_segment o ∷ []) (body_with_segment b os next) r → PlansAs size b os docs next r
 planned_segment size b is os count docs due next some most bytes spells o opened_is (Ok p) can plan = planned_with size b is os count docs due next some most can bytes spells o opened_is p plan
 planned_segment size b is os count docs due next some most bytes spells o opened_is (Err why) can plan = not_placed size b os docs next bytes (map settled os ++ fresh_segment o ∷ []) (body_with_segment b os next) why spells plan

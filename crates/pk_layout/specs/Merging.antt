@@ -1,10 +1,12 @@
 -- What planning a merge answers.
-use Rattle.std.specs.Prelude.{◌≡◌, ◌≤◌, ◌&&◌, ◌||◌, ℕ, Bool, true, false, not, List, [], ◌∷◌, length, map}
+use Rattle.std.specs.Prelude.{◌≡◌, ◌⊎◌, ◌≤◌, ◌+◌, ◌&&◌, ◌||◌, ℕ, Bool, true, false, not, List, [], ◌∷◌, length}
 use Rattle.std.specs.Prelude.{take, drop}
 use Rattle.std.specs.Prelude.{Option, Some, None, Result, Ok, Err}
 use Rattle.std.specs.List.{list_any}
-use Rattle.std.specs.Global.{Vec}
+use Rattle.pk_disk.specs.Disk.{in_range}
+use Rattle.pk_disk.specs.Units.{start_of}
 use Rattle.pk_disk.specs.declared.units.Extent.{Extent}
+use Rattle.pk_manifest.specs.declared.manifest.Part.{Part as Entry}
 use Rattle.pk_manifest.specs.Sound.{named}
 use Rattle.pk_manifest.specs.Spelling.{Body, view}
 use Rattle.pk_model.specs.declared.commands.Refusal.{Refusal}
@@ -12,16 +14,28 @@ use Rattle.pk_model.specs.declared.commands.Refusal.TheVariants.{SegmentTooLarge
 use Rattle.pk_model.specs.declared.commands.Refusal.TheVariants.{Damaged, Disk}
 use Rattle.pk_model.specs.Collection.{Doc}
 use Rattle.pk_posting.specs.Posting.{IsPosting}
+use Rattle.pk_replace.specs.Claims.{IsAmong}
 use Rattle.pk_search.specs.declared.opened.OpenSegment.{OpenSegment}
 use Rattle.pk_search.specs.Opened.{present}
 use Rattle.pk_segment.specs.Opened.{IsSegmentOf}
-use Rattle.pk_segment.specs.Spelling.{SegmentSpells}
+use Rattle.pk_segment.specs.Spelling.{AreDocuments, longest, segment_length}
 use Rattle.pk_space.specs.Places.{FullAs, PlacedAs}
 use Rattle.pk_state.specs.Committed.{Stored, lists, live_in}
 use Rattle.pk_state.specs.Writing.{after_merge, is_too_large, next_body, replaced, segment_writes}
 use Rattle.pk_state.specs.Writing.{written_kind}
-use Rattle.pk_layout.specs.declared.planning.Plan.{Plan}
-use Rattle.pk_layout.specs.Plan.{GoesOn, GoesTo, IsPlan, IsPlanOf, entry_in, ids_in}
+use Rattle.pk_layout.specs.declared.merging.MergePlan.{MergePlan}
+use Rattle.pk_layout.specs.declared.merging.NewSegment.{NewSegment}
+use Rattle.pk_layout.specs.Plan.{GoesOn, GoesTo, IsPlan, IsPlanOf, entry_in, ids_in, laid_in}
+use Rattle.pk_layout.specs.Plan.{new_segments}
+
+-- the entry's extent has no position of a stretch
+abbrev pub EntryApart : ℕ → ℕ → Entry → Type 0
+EntryApart start end e =
+    (start_of e.extent + e.extent.bytes ≤ start) ⊎ (end ≤ start_of e.extent)
+
+-- the entry's extent begins at a place at the earliest
+abbrev pub BeginsFrom : ℕ → Entry → Type 0
+BeginsFrom least e = least ≤ start_of e.extent
 
 -- the number is deleted in the segment, and no commit has taken its deletion
 abbrev pub is_pending_of : ℕ → OpenSegment → Bool
@@ -56,24 +70,41 @@ TakesPending opened (Err Memory) = Unit {0}
 TakesPending opened (Err Damaged) = AreTooMany opened
 TakesPending opened (Err why) = ⊥
 
--- The open segment that a merge makes: that of the documents which its bytes spell, without a
--- deletion list; the deletions that were pending still are.
-pub record IsMergedOpen (opened : List OpenSegment) (bytes : List ℕ) (o : OpenSegment) : Type 0 where
-  pub segment : (docs : List Doc) → SegmentSpells bytes docs written_kind
-      → IsSegmentOf o.segment docs
+-- The open segment that a merge makes of what it is going to write, without a deletion list; the
+-- deletions that were pending still are.
+pub record IsMergedOpen (opened : List OpenSegment) (new : NewSegment) (o : OpenSegment)
+    : Type 0 where
+  pub segment : o.segment ≡ new.segment
   pub no_list : o.dead ≡ []
   pub deleted : ArePending opened o.deleted
   pub posting : IsPosting o.deleted
 
--- there is one for the bytes of a segment, and none for none
-abbrev pub AreMerged : List OpenSegment → Option (Vec ℕ) → List OpenSegment → Type 0
+-- there is one for a segment, and none for none
+abbrev pub AreMerged : List OpenSegment → Option NewSegment → List OpenSegment → Type 0
 AreMerged opened None merged = merged ≡ []
-AreMerged opened (Some bytes) merged =
-    (o : OpenSegment) × (merged ≡ o ∷ []) × IsMergedOpen opened bytes.items o
+AreMerged opened (Some new) merged =
+    (o : OpenSegment) × (merged ≡ o ∷ []) × IsMergedOpen opened new o
 
-abbrev pub merge_bytes : Option (Vec ℕ) → List (List ℕ)
-merge_bytes None = []
-merge_bytes (Some bytes) = bytes.items ∷ []
+-- how long what is written is
+abbrev pub lengths_in : Option NewSegment → List ℕ
+lengths_in None = []
+lengths_in (Some new) = new.bytes ∷ []
+
+-- it has some bytes, and no more than a segment may have
+abbrev pub IsSized : Option NewSegment → Type 0
+IsSized None = Unit {0}
+IsSized (Some new) = (1 ≤ new.bytes) × (new.bytes ≤ longest)
+
+-- it is the segment of the documents, and open; none exactly where there is none
+pub record IsSegmentTo (docs : List Doc) (new : NewSegment) : Type 0 where
+  pub are : AreDocuments docs
+  pub long : new.bytes ≡ segment_length docs written_kind
+  pub fits : new.bytes ≤ longest
+  pub opened : IsSegmentOf new.segment docs
+
+abbrev pub IsNewOf : List Doc → Option NewSegment → Type 0
+IsNewOf docs None = docs ≡ []
+IsNewOf docs (Some new) = IsSegmentTo docs new
 
 -- the items of a run, so many from a place on
 abbrev pub run_of : {X : Type 0} → ℕ → ℕ → List X → List X
@@ -84,9 +115,14 @@ abbrev pub opened_in : Option OpenSegment → List OpenSegment
 opened_in None = []
 opened_in (Some o) = o ∷ []
 
-abbrev pub extent_in : List Extent → Option Extent
-extent_in [] = None
-extent_in (e ∷ extents) = Some e
+abbrev pub extents_in : Option Extent → List Extent
+extents_in None = []
+extents_in (Some e) = e ∷ []
+
+-- the positions of the bytes in extents
+abbrev pub bytes_in : List Extent → ℕ → Bool
+bytes_in [] p = false
+bytes_in (e ∷ extents) p = in_range (start_of e) e.bytes p || bytes_in extents p
 
 -- the body after a merge of n entries from a place on, whose segment is in the extent that there
 -- may be
@@ -94,37 +130,38 @@ abbrev pub body_merged : Body → ℕ → ℕ → Option Extent → Body
 body_merged b from n segment = next_body b b.next_number (ids_in segment)
     (replaced from n (entry_in b segment) b.entries)
 
--- a plan with the bytes of the one segment, or why there is none
-abbrev pub PlansMerged : Body → List OpenSegment → ℕ → ℕ → Option (Vec ℕ) → Result Plan Refusal
-    → Type 0
-PlansMerged b opened from n bytes (Ok p) =
-    (merged : List OpenSegment) × AreMerged (run_of from n opened) bytes merged
-    × (extents : List Extent) × PlacedAs b.units (named b) (map length (merge_bytes bytes)) extents
-    × IsPlanOf (body_merged b from n (extent_in extents)) (replaced from n merged opened) extents
-    (merge_bytes bytes) p
-PlansMerged b opened from n bytes (Err (Full need largest)) =
-    FullAs b.units (named b) (map length (merge_bytes bytes)) need largest
-PlansMerged b opened from n bytes (Err Damaged) = AreTooMany (run_of from n opened)
-PlansMerged b opened from n bytes (Err Memory) = Unit {0}
-PlansMerged b opened from n bytes (Err why) = ⊥
+-- a plan for the one segment, and its place; or why there is none
+abbrev pub PlansMerged : Body → List OpenSegment → ℕ → ℕ → Option NewSegment
+    → Result MergePlan Refusal → Type 0
+PlansMerged b opened from n new (Ok m) =
+    (merged : List OpenSegment) × AreMerged (run_of from n opened) new merged
+    × PlacedAs b.units (named b) (lengths_in new) (extents_in m.place)
+    × IsPlanOf (body_merged b from n m.place) (replaced from n merged opened) m.plan
+PlansMerged b opened from n new (Err (Full need largest)) =
+    FullAs b.units (named b) (lengths_in new) need largest
+PlansMerged b opened from n new (Err Damaged) = AreTooMany (run_of from n opened)
+PlansMerged b opened from n new (Err Memory) = Unit {0}
+PlansMerged b opened from n new (Err why) = ⊥
 
 -- THE PLAN OF A MERGE of n segments from a place on, where all stand for these: their live documents
 -- in one segment, placed at the first fit; what is there now stays.
 pub record PlansMerge (b : Body) (opened : List OpenSegment) (stored : List Stored) (from n : ℕ)
-    (p : Plan) : Type 0 where
-  pub extents : List Extent
-  pub placed : PlacedAs b.units (named b) (segment_writes (live_in (run_of from n stored))) extents
+    (m : MergePlan) : Type 0 where
+  pub placed : PlacedAs b.units (named b) (segment_writes (live_in (run_of from n stored)))
+      (extents_in m.place)
   pub fits : is_too_large (live_in (run_of from n stored)) ≡ false
-  pub goes : GoesTo p (record { body = b; stored = stored })
-      (after_merge (record { body = b; stored = stored }) from n extents)
-  pub now : live_in (present p.opened.items
-      (after_merge (record { body = b; stored = stored }) from n extents).stored)
+  pub goes : GoesTo (bytes_in (extents_in m.place))
+      (λ c. IsAmong c (laid_in (extents_in m.place) (new_segments (live_in (run_of from n stored)))))
+      m.plan (record { body = b; stored = stored })
+      (after_merge (record { body = b; stored = stored }) from n (extents_in m.place))
+  pub now : live_in (present m.plan.opened.items
+      (after_merge (record { body = b; stored = stored }) from n (extents_in m.place)).stored)
       ≡ live_in (present opened stored)
 
 -- what is planned, by what the segments stand for
-abbrev pub PlansMergeAs : Body → List OpenSegment → List Stored → ℕ → ℕ → Result Plan Refusal
+abbrev pub PlansMergeAs : Body → List OpenSegment → List Stored → ℕ → ℕ → Result MergePlan Refusal
     → Type 0
-PlansMergeAs b opened stored from n (Ok p) = PlansMerge b opened stored from n p
+PlansMergeAs b opened stored from n (Ok m) = PlansMerge b opened stored from n m
 PlansMergeAs b opened stored from n (Err SegmentTooLarge) =
     is_too_large (live_in (run_of from n stored)) ≡ true
 PlansMergeAs b opened stored from n (Err (Full need largest)) =
@@ -134,10 +171,18 @@ PlansMergeAs b opened stored from n (Err Memory) = Unit {0}
 PlansMergeAs b opened stored from n (Err Disk) = Unit {0}
 PlansMergeAs b opened stored from n (Err why) = ⊥
 
--- and whatever they are
-abbrev pub PlansMergeRightly : ℕ → Body → List OpenSegment → Result Plan Refusal → Type 0
-PlansMergeRightly size b opened (Ok p) =
-    IsPlan size b p × GoesOn b opened p × ((view p.manifest).next_number ≡ b.next_number)
-PlansMergeRightly size b opened (Err (Full need largest)) =
-    (lengths : List ℕ) × FullAs b.units (named b) lengths need largest
-PlansMergeRightly size b opened (Err why) = Unit {0}
+-- Whatever the segments are: it is a plan, which goes on with them, writes at its place alone, and
+-- leaves the next number.
+pub record PlansRightly (size : ℕ) (b : Body) (opened : List OpenSegment) (new : Option NewSegment)
+    (m : MergePlan) : Type 0 where
+  pub plan : IsPlan size b m.plan
+  pub goes_on : GoesOn (bytes_in (extents_in m.place)) b opened m.plan
+  pub next_number : (view m.plan.manifest).next_number ≡ b.next_number
+  pub placed : PlacedAs b.units (named b) (lengths_in new) (extents_in m.place)
+
+abbrev pub PlansMergeRightly : ℕ → Body → List OpenSegment → Option NewSegment
+    → Result MergePlan Refusal → Type 0
+PlansMergeRightly size b opened new (Ok m) = PlansRightly size b opened new m
+PlansMergeRightly size b opened new (Err (Full need largest)) =
+    FullAs b.units (named b) (lengths_in new) need largest
+PlansMergeRightly size b opened new (Err why) = Unit {0}

@@ -18,7 +18,7 @@ use Rattle.pk_model.specs.declared.commands.Refusal.TheVariants.{NumbersUsedUp, 
 use Rattle.pk_model.specs.declared.commands.Refusal.TheVariants.{SegmentTooLarge, Full, Memory}
 use Rattle.pk_replace.specs.Claims.{AreApart, Claim, Each, IsAmong, IsInside, IsUntouched}
 use Rattle.pk_replace.specs.Claims.{claim_of, places}
-use Rattle.pk_replace.specs.Course.{touched_by}
+use Rattle.pk_replace.specs.Held.{IsNext}
 use Rattle.pk_segment.specs.declared.segment.Segment.{Segment}
 use Rattle.pk_segment.specs.Opened.{IsSegmentOf}
 use Rattle.pk_posting.specs.Spelling.{spelling as list_spelling}
@@ -32,6 +32,7 @@ use Rattle.pk_space.specs.Places.{PlacedAs, FullAs}
 use Rattle.pk_state.specs.Committed.{Stored, Committed}
 use Rattle.pk_state.specs.Kept.{AreEntries, claims_of}
 use Rattle.pk_state.specs.Writing.{is_too_large, new_entry, new_stored, next_body, written_kind}
+use Rattle.pk_layout.specs.declared.committing.CommitPlan.{CommitPlan}
 use Rattle.pk_layout.specs.declared.planning.Plan.{Plan}
 use Rattle.pk_layout.specs.Placed.{AreLaid}
 
@@ -99,16 +100,14 @@ laid_in (e ∷ extents) [] = []
 laid_in (e ∷ extents) (w ∷ writes) =
     record { at = start_of e; bytes = w } ∷ laid_in extents writes
 
--- the plan puts that body in force, with these open segments and these bytes in those extents
-pub record IsPlanOf (b : Body) (opened : List OpenSegment) (extents : List Extent)
-    (writes : List (List ℕ)) (p : Plan) : Type 0 where
+-- the plan puts that body in force, with these open segments
+pub record IsPlanOf (b : Body) (opened : List OpenSegment) (p : Plan) : Type 0 where
   pub manifest_is : view p.manifest ≡ b
   pub opened_is : p.opened.items ≡ opened
-  pub pieces_are : map claim_of p.pieces.items ≡ laid_in extents writes
   pub body_is : p.body.items ≡ spelling (view p.manifest)
 
 -- A PLAN FOR A BODY, on a disk of so many bytes: the body that follows is sound, a generation
--- later, with one open segment for each entry; the pieces lie on the disk and are apart.
+-- later, with one open segment for each entry.
 pub record IsPlan (size : ℕ) (b : Body) (p : Plan) : Type 0 where
   pub generation : b.generation < end_of_ids
   pub later : (view p.manifest).generation ≡ b.generation + 1
@@ -116,8 +115,14 @@ pub record IsPlan (size : ℕ) (b : Body) (p : Plan) : Type 0 where
   pub body_is : p.body.items ≡ spelling (view p.manifest)
   pub opened : length p.opened.items ≡ length (view p.manifest).entries
   pub grown : All IsGrown p.opened.items
-  pub inside : Each (IsInside size) (map claim_of p.pieces.items)
-  pub apart : AreApart (map claim_of p.pieces.items)
+
+-- what a commit writes, as claims
+abbrev pub pieces_of : CommitPlan → List Claim
+pieces_of p = map claim_of p.pieces.items
+
+-- they lie on a disk of so many bytes, and are apart
+abbrev pub HavePlace : ℕ → CommitPlan → Type 0
+HavePlace size p = Each (IsInside size) (pieces_of p) × AreApart (pieces_of p)
 
 -- The entry and its open segment are those at a place, but for what is deleted.
 pub record IsTakenFrom (entries : List Entry) (opened : List OpenSegment) (e : Entry)
@@ -142,24 +147,23 @@ AreTaken next entries opened (e ∷ es) (o ∷ os) =
     ((next ≤ e.segment) ⊎ IsTakenFrom entries opened e o) × AreTaken next entries opened es os
 
 -- The plan goes on with the segments of a body: each that it leaves stays as it is, the others have
--- new ids, and no piece touches an extent that the body names.
-pub record GoesOn (b : Body) (opened : List OpenSegment) (p : Plan) : Type 0 where
+-- new ids, and of no extent that the body names is a position touched.
+pub record GoesOn (touched : ℕ → Bool) (b : Body) (opened : List OpenSegment) (p : Plan)
+    : Type 0 where
   pub ids : b.next_segment ≤ (view p.manifest).next_segment
   pub taken : AreTaken b.next_segment b.entries opened (view p.manifest).entries p.opened.items
   pub missed : (claims : List Claim) → AreLaid (named b) claims
-      → Each (IsUntouched (places (map claim_of p.pieces.items))) claims
+      → Each (IsUntouched touched) claims
 
--- The plan takes what is committed over to this: the pieces touch no claim of what was, and each
--- claim of what follows is one of these or a piece.
-pub record GoesTo (p : Plan) (old new : Committed) : Type 0 where
+-- The plan takes what is committed over to this: no claim of what was is touched, and each claim of
+-- what follows is one of these or promised.
+pub record GoesTo (touched : ℕ → Bool) (promised : Claim → Type 0) (p : Plan) (old new : Committed)
+    : Type 0 where
   pub body : new.body ≡ view p.manifest
   pub entries : AreEntries new.body.entries new.stored
   pub opened : AreOpenOf p.opened.items new.stored
-  pub untouched : (spare : Half)
-      → Each (IsUntouched (touched_by spare (places (map claim_of p.pieces.items))))
-      (claims_of old.body.entries old.stored)
-  pub among : Each (λ c. IsAmong c (claims_of old.body.entries old.stored)
-      ⊎ IsAmong c (map claim_of p.pieces.items)) (claims_of new.body.entries new.stored)
+  pub next : (spare : Half) → IsNext spare touched promised
+      (claims_of old.body.entries old.stored) (claims_of new.body.entries new.stored)
 
 -- documents and a next number that may follow a body
 pub record AreNext (b : Body) (docs : List Doc) (next : ℕ) : Type 0 where
@@ -197,10 +201,10 @@ CanBeWritten writes = All (λ w. (5 ≤ length w) × (length w ≤ segment_limit
 -- a plan that writes these bytes at the first fit, and puts the body of their extents in force with
 -- these open segments, or why there is none
 abbrev pub PlansWith : Body → List (List ℕ) → List OpenSegment → (List Extent → Body)
-    → Result Plan Refusal → Type 0
+    → Result CommitPlan Refusal → Type 0
 PlansWith b writes opened body (Ok p) =
     (extents : List Extent) × PlacedAs b.units (named b) (map length writes) extents
-    × IsPlanOf (body extents) opened extents writes p
+    × IsPlanOf (body extents) opened p.plan × (pieces_of p ≡ laid_in extents writes)
 PlansWith b writes opened body (Err (Full need largest)) =
     FullAs b.units (named b) (map length writes) need largest
 PlansWith b writes opened body (Err Memory) = Unit {0}
@@ -229,21 +233,24 @@ ids_in None = 0
 ids_in (Some e) = 1
 
 -- the plan is one of a commit of these documents and of all that is deleted, placed at the first fit
-pub record PlansCommit (b : Body) (opened : List OpenSegment) (docs : List Doc) (next : ℕ) (p : Plan)
-    : Type 0 where
-  pub next_is : (view p.manifest).next_number ≡ next
-  pub settled : AreSettled p.opened.items
+pub record PlansCommit (b : Body) (opened : List OpenSegment) (docs : List Doc) (next : ℕ)
+    (p : CommitPlan) : Type 0 where
+  pub next_is : (view p.plan.manifest).next_number ≡ next
+  pub settled : AreSettled p.plan.opened.items
   pub extents : List Extent
   pub placed : PlacedAs b.units (named b) (map length (commit_bytes opened docs)) extents
   pub fits : is_too_large docs ≡ false
-  pub goes_on : GoesOn b opened p
+  pub goes_on : GoesOn (places (pieces_of p)) b opened p.plan
   pub goes : (stored : List Stored) → AreEntries b.entries stored → AreOpenOf opened stored
-      → GoesTo p (record { body = b; stored = stored })
+      → GoesTo (places (pieces_of p)) (λ c. IsAmong c (pieces_of p)) p.plan
+      (record { body = b; stored = stored })
       (commit_to (record { body = b; stored = stored }) opened docs next extents)
 
 -- a plan, or why there is none
-abbrev pub PlansAs : ℕ → Body → List OpenSegment → List Doc → ℕ → Result Plan Refusal → Type 0
-PlansAs size b opened docs next (Ok p) = IsPlan size b p × PlansCommit b opened docs next p
+abbrev pub PlansAs : ℕ → Body → List OpenSegment → List Doc → ℕ → Result CommitPlan Refusal
+    → Type 0
+PlansAs size b opened docs next (Ok p) =
+    IsPlan size b p.plan × PlansCommit b opened docs next p × HavePlace size p
 PlansAs size b opened docs next (Err SegmentTooLarge) = is_too_large docs ≡ true
 PlansAs size b opened docs next (Err (Full need largest)) = (is_too_large docs ≡ false)
     × FullAs b.units (named b) (map length (commit_bytes opened docs)) need largest

@@ -17,13 +17,23 @@ ghost use Rattle.pk_segment.specs.Spelling.{docs_of};
 
 use crate::following::{next_manifest, put_entries, put_settled, settled_with};
 use crate::placing::place_all;
-use crate::planning::{Plan, lengths_of, one_write, open_built, plan_for, put_lists};
+use crate::planning::{Plan, lengths_of, one_write, open_built, pieces_for, plan_for, put_lists};
 use pk_index::Index;
 use pk_manifest::Manifest;
 use pk_model::{Document, Refusal};
+use pk_replace::Piece;
 use pk_search::OpenSegment;
 use pk_segment::{BuildFault, Segment, build_indexed};
 use std::alloc::Global;
+
+/// The plan of a commit, and what it writes.
+#[derive(Drop)]
+pub struct CommitPlan {
+    /// The plan.
+    pub plan: Plan,
+    /// The bytes of what is new, each at its place on the disk.
+    pub pieces: Vec<Piece>,
+}
 
 // The segment of the documents, by their index, and it open. No text is cut into words again.
 #[tactic(auto, unfolding(pk_state::specs::Writing::written_kind))]
@@ -53,7 +63,7 @@ fn plan_lists(
     manifest: &Manifest,
     opened: &[OpenSegment],
     next_number: u32,
-) -> Result<Plan, Refusal>
+) -> Result<CommitPlan, Refusal>
     requires sound { IsBody manifest.now.units (view manifest.now) }
     requires generation { manifest.now.generation < end_of_ids }
     requires id { manifest.now.next_segment < end_of_ids }
@@ -72,7 +82,9 @@ fn plan_lists(
     let manifest = next_manifest(manifest, next_number, entries, None, &[])?;
     let mut kept = Vec::new(alloc);
     put_settled(alloc, &mut kept, opened)?;
-    Ok(plan_for(alloc, manifest, kept, writes, &extents)?)
+    let pieces = pieces_for(alloc, writes, &extents)?;
+    let plan = plan_for(alloc, manifest, kept)?;
+    Ok(CommitPlan { plan, pieces })
 }
 
 // The plan of a commit with a segment of these bytes, and with the new lists.
@@ -83,7 +95,7 @@ fn plan_segment(
     next_number: u32,
     bytes: Vec<u8>,
     segment: Segment,
-) -> Result<Plan, Refusal>
+) -> Result<CommitPlan, Refusal>
     requires sound { IsBody manifest.now.units (view manifest.now) }
     requires generation { manifest.now.generation < end_of_ids }
     requires id { manifest.now.next_segment < end_of_ids }
@@ -107,7 +119,9 @@ fn plan_segment(
     put_entries(&mut entries, &manifest.entries, opened, lists)?;
     let manifest = next_manifest(manifest, next_number, entries, Some(*first), &[])?;
     let kept = settled_with(alloc, opened, segment)?;
-    Ok(plan_for(alloc, manifest, kept, writes, &extents)?)
+    let pieces = pieces_for(alloc, writes, &extents)?;
+    let plan = plan_for(alloc, manifest, kept)?;
+    Ok(CommitPlan { plan, pieces })
 }
 
 /// The plan of a commit of these documents, which are indexed, and this next number, over a body
@@ -121,7 +135,7 @@ pub fn plan_commit(
     documents: &[Document],
     index: &Index,
     next_number: u32,
-) -> Result<Plan, Refusal>
+) -> Result<CommitPlan, Refusal>
     requires sound { IsBody manifest.now.units (view manifest.now) }
     requires opened { length opened.now ≡ length manifest.now.entries.items }
     requires grown { All IsGrown opened.now }

@@ -91,6 +91,15 @@ pub(crate) fn put_copies(
     put_copies(alloc, out, others)
 }
 
+/// Copies of the open segments.
+pub fn copy_of(alloc: Global, opened: &[OpenSegment]) -> Result<Vec<OpenSegment>, AllocError>
+    ensures { IfOk result (λ v. v.items ≡ opened.now) }
+{
+    let mut copies = Vec::with_capacity(alloc, opened.len())?;
+    put_copies(alloc, &mut copies, opened)?;
+    Ok(copies)
+}
+
 /// The open segments with all their deletions in their lists, and a new one.
 pub(crate) fn settled_with(
     alloc: Global,

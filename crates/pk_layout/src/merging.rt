@@ -5,30 +5,52 @@
 //! segment.
 ghost use Rattle.std.specs.Prelude.{◌≡◌, ◌≤◌, ◌<◌, ◌+◌, List, ℕ, All, Some, None, Ok, length};
 ghost use Rattle.std.specs.Prelude.{IfOk};
-ghost use Rattle.pk_layout.specs.Merging.{PlansMerged, PutsPending, TakesPending, body_merged};
-ghost use Rattle.pk_layout.specs.Merging.{opened_in};
+ghost use Rattle.pk_layout.specs.Merging.{BeginsFrom, EntryApart};
+ghost use Rattle.pk_layout.specs.Merging.{IsSized, PlansMerged, PutsPending, TakesPending};
+ghost use Rattle.pk_layout.specs.Merging.{body_merged, opened_in};
 ghost use Rattle.pk_layout.specs.Refusing.{merge_refusal};
 ghost use Rattle.pk_manifest.specs.Sound.{IsBody};
 ghost use Rattle.pk_manifest.specs.Spelling.{view};
+ghost use Rattle.pk_manifest.specs.Bodies.{bodies_end};
 ghost use Rattle.pk_join.specs.Inputs.{HasKind, LiesInside, SpellsInputs};
-ghost use Rattle.pk_merge.specs.Merging.{IsSomeMerged};
+ghost use Rattle.pk_merge.specs.Output.{LiesApart};
+ghost use Rattle.pk_merge.specs.Streaming.{LiesBehind};
 ghost use Rattle.pk_model.specs.Limits.{end_of_ids};
 ghost use Rattle.pk_search.specs.Opened.{AreOpenOf};
 ghost use Rattle.pk_state.specs.Committed.{Stored};
 ghost use Rattle.pk_state.specs.Holds.{SpellsEntries};
 ghost use Rattle.pk_state.specs.Kept.{HaveKinds, LieInside};
-ghost use Rattle.pk_state.specs.Writing.{replaced, written_kind};
+ghost use Rattle.pk_state.specs.Writing.{replaced};
 
 use crate::following::{next_manifest, put_copies};
 use crate::placing::place_all;
-use crate::planning::{Plan, one_write, open_built, plan_for};
+use crate::planning::{Plan, plan_for};
 use pk_dead::Dead;
 use pk_disk::Extent;
 use pk_manifest::{Manifest, Part};
 use pk_merge::{MergeFault, MergeInput};
 use pk_model::Refusal;
 use pk_search::OpenSegment;
+use pk_segment::Segment;
 use std::alloc::{AllocError, Global};
+
+/// The segment that a merge is going to write.
+#[derive(Clone, Copy, Debug)]
+pub struct NewSegment {
+    /// How many bytes it has.
+    pub bytes: u32,
+    /// It, open.
+    pub segment: Segment,
+}
+
+/// The plan of a merge, and where its segment is going to stand, if there is one.
+#[derive(Drop)]
+pub struct MergePlan {
+    /// The plan.
+    pub plan: Plan,
+    /// The place of the segment.
+    pub place: Option<Extent>,
+}
 
 /// The most numbers of a deletion list.
 pub const MAX_DELETED: u32 = 134_217_728;
@@ -57,6 +79,10 @@ pub fn inputs_of<'a>(
     ensures inside { IfOk result (λ v. (size : ℕ) → LieInside size entries.now
         → All (LiesInside size) v.items) }
     ensures kinds { IfOk result (λ v. HaveKinds entries.now → All HasKind v.items) }
+    ensures apart { IfOk result (λ v. (start end : ℕ) → All (EntryApart start end) entries.now
+        → All (LiesApart start end) v.items) }
+    ensures behind { IfOk result (λ v. All (BeginsFrom bodies_end) entries.now
+        → All LiesBehind v.items) }
 {
     let mut inputs = Vec::with_capacity(alloc, entries.len())?;
     for (entry, segment) in entries.iter().zip(opened) {
@@ -141,71 +167,75 @@ fn plan_none(
     opened: &[OpenSegment],
     from: usize,
     count: usize,
-) -> Result<Plan, AllocError>
+) -> Result<MergePlan, AllocError>
     requires sound { IsBody manifest.now.units (view manifest.now) }
     requires generation { manifest.now.generation < end_of_ids }
     requires id { manifest.now.next_segment < end_of_ids }
     requires same { length opened.now ≡ length manifest.now.entries.items }
     requires within { from + count ≤ length opened.now }
-    ensures { IfOk result (λ p. PlansMerged (view manifest.now) opened.now from count None (Ok p)) }
+    ensures { IfOk result (λ m. PlansMerged (view manifest.now) opened.now from count None (Ok m)) }
 {
     let next = manifest_merged(alloc, manifest, from, count, None)?;
     let kept = opened_merged(alloc, opened, from, count, None)?;
-    plan_for(alloc, next, kept, Vec::new(alloc), &[])
+    let plan = plan_for(alloc, next, kept)?;
+    Ok(MergePlan { plan, place: None })
 }
 
-// The plan of a merge of a run into a segment of these bytes.
+// The plan of a merge of a run into this segment.
 fn plan_one(
     alloc: Global,
     manifest: &Manifest,
     opened: &[OpenSegment],
     from: usize,
     count: usize,
-    bytes: Vec<u8>,
-) -> Result<Plan, Refusal>
+    new: NewSegment,
+) -> Result<MergePlan, Refusal>
     requires sound { IsBody manifest.now.units (view manifest.now) }
     requires generation { manifest.now.generation < end_of_ids }
     requires id { manifest.now.next_segment < end_of_ids }
     requires same { length opened.now ≡ length manifest.now.entries.items }
     requires some { 1 ≤ count }
     requires within { from + count ≤ length opened.now }
-    requires spelled { IsSomeMerged written_kind (Some bytes) }
-    ensures { PlansMerged (view manifest.now) opened.now from count (Some bytes) result }
+    requires sized { IsSized (Some new) }
+    ensures { PlansMerged (view manifest.now) opened.now from count (Some new) result }
 {
-    let segment = open_built(&bytes);
     let deleted = pending_of(alloc, &opened[from..from + count])?;
-    let extents = place_all(alloc, manifest, &[bytes.len() as u32])?;
-    let next = manifest_merged(alloc, manifest, from, count, Some(extents[0]))?;
+    let extents = place_all(alloc, manifest, &[new.bytes])?;
+    let place = extents[0];
+    let next = manifest_merged(alloc, manifest, from, count, Some(place))?;
     let merged = OpenSegment {
-        segment,
+        segment: new.segment,
         dead: Dead::new(alloc),
         deleted,
     };
     let kept = opened_merged(alloc, opened, from, count, Some(merged))?;
-    let writes = one_write(alloc, bytes)?;
-    Ok(plan_for(alloc, next, kept, writes, &extents)?)
+    let plan = plan_for(alloc, next, kept)?;
+    Ok(MergePlan {
+        plan,
+        place: Some(place),
+    })
 }
 
-/// The plan of a merge of a run into the segment of these bytes, or into none.
+/// The plan of a merge of a run into this segment, or into none.
 pub fn plan_merged(
     alloc: Global,
     manifest: &Manifest,
     opened: &[OpenSegment],
     from: usize,
     count: usize,
-    bytes: Option<Vec<u8>>,
-) -> Result<Plan, Refusal>
+    new: Option<NewSegment>,
+) -> Result<MergePlan, Refusal>
     requires sound { IsBody manifest.now.units (view manifest.now) }
     requires generation { manifest.now.generation < end_of_ids }
     requires id { manifest.now.next_segment < end_of_ids }
     requires same { length opened.now ≡ length manifest.now.entries.items }
     requires some { 1 ≤ count }
     requires within { from + count ≤ length opened.now }
-    requires spelled { IsSomeMerged written_kind bytes }
-    ensures { PlansMerged (view manifest.now) opened.now from count bytes result }
+    requires sized { IsSized new }
+    ensures { PlansMerged (view manifest.now) opened.now from count new result }
 {
-    match bytes {
-        Some(bytes) => plan_one(alloc, manifest, opened, from, count, bytes),
+    match new {
+        Some(new) => plan_one(alloc, manifest, opened, from, count, new),
         None => Ok(plan_none(alloc, manifest, opened, from, count)?),
     }
 }

@@ -1,5 +1,5 @@
-//! The plan: the bytes of what is going to be written, each at its place, and what is kept once it
-//! is. All its memory is taken, and nothing of the disk was touched.
+//! The plan: the body that is going to be in force, and what is kept once it is. All its memory is
+//! taken, and nothing of the disk was touched.
 ghost use Rattle.std.specs.Prelude.{◌≡◌, ◌≤◌, ◌++◌, ◌∷◌, [], List, length, map, All};
 ghost use Rattle.std.specs.Prelude.{IfOk, OnOk};
 ghost use Rattle.pk_layout.specs.Plan.{CanBeWritten, IsGrown, IsPlanOf, laid_in, new_lists};
@@ -19,11 +19,9 @@ use pk_search::OpenSegment;
 use pk_segment::Segment;
 use std::alloc::{AllocError, Global};
 
-/// What is written, and what is kept after it.
+/// What is going to be in force, and what is kept then.
 #[derive(Drop)]
 pub struct Plan {
-    /// The bytes of what is new, each at its place on the disk.
-    pub pieces: Vec<Piece>,
     /// The bytes of the next body.
     pub body: Vec<u8>,
     /// What that body says.
@@ -111,25 +109,32 @@ fn put_pieces(
     Ok(())
 }
 
-/// The plan that puts this body in force, with these open segments and these bytes in the extents
-/// at their places.
+/// These bytes, each at the start of the extent at its place.
+pub(crate) fn pieces_for(
+    alloc: Global,
+    writes: Vec<Vec<u8>>,
+    extents: &[Extent],
+) -> Result<Vec<Piece>, AllocError>
+    requires { length writes.items ≡ length extents.now }
+    ensures { IfOk result (λ v. map claim_of v.items
+        ≡ laid_in extents.now (map (λ w. w.items) writes.items)) }
+{
+    let mut pieces = Vec::with_capacity(alloc, extents.len())?;
+    put_pieces(&mut pieces, writes, extents)?;
+    Ok(pieces)
+}
+
+/// The plan that puts this body in force, with these open segments.
 pub(crate) fn plan_for(
     alloc: Global,
     manifest: Manifest,
     opened: Vec<OpenSegment>,
-    writes: Vec<Vec<u8>>,
-    extents: &[Extent],
 ) -> Result<Plan, AllocError>
-    requires few { length manifest.entries.items ≤ entry_limit }
-    requires same { length writes.items ≡ length extents.now }
-    ensures { IfOk result (IsPlanOf (view manifest) opened.items extents.now
-        (map (λ w. w.items) writes.items)) }
+    requires { length manifest.entries.items ≤ entry_limit }
+    ensures { IfOk result (IsPlanOf (view manifest) opened.items) }
 {
     let body = manifest.spell(alloc)?;
-    let mut pieces = Vec::with_capacity(alloc, extents.len())?;
-    put_pieces(&mut pieces, writes, extents)?;
     Ok(Plan {
-        pieces,
         body,
         manifest,
         opened,

@@ -95,6 +95,12 @@ none_kept bytes [] (d ∷ ds) are none = absurd are
 none_kept bytes (k ∷ ks) [] are none = absurd are
 none_kept bytes (k ∷ ks) (d ∷ ds) are none = absurd (omega (arith, none))
 
+-- it has twelve bytes for each
+pub length_kept_directory : (at : ℕ) (ks : List Kept) → length (kept_directory at ks) ≡ 12 * length ks
+unfolding le32
+length_kept_directory at [] = refl
+length_kept_directory at (k ∷ ks) = omega (arith, length_kept_directory (at + k.len) ks)
+
 -- the directory of kept documents is that of the documents
 pub directory_is : (bytes : List ℕ) (at : ℕ) (ks : List Kept) (ds : List Doc) → AreKept bytes ks ds → kept_directory at ks ≡ directory at ds
 unfolding directory_entry

@@ -4,6 +4,7 @@ pub mod GivenLemmas
 pub mod InputLemmas
 pub mod KeepLemmas
 pub mod LiveLemmas
+pub mod OpenLemmas
 pub mod OutputLemmas
 pub mod ReadLemmas
 pub mod RiseLemmas

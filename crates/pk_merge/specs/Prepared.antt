@@ -9,9 +9,12 @@ use Rattle.pk_merge.specs.declared.prepared.Prepared.{Prepared}
 use Rattle.pk_merge.specs.Keeping.{AreKept, StayApart}
 use Rattle.pk_merge.specs.Merging.{MergeFails}
 use Rattle.pk_merge.specs.Output.{LiesApart}
+use Rattle.pk_model.specs.Collection.{Doc}
 use Rattle.pk_model.specs.Terms.{terms_of}
 use Rattle.pk_posting.specs.Spelling.{spelling as list_spelling}
 use Rattle.pk_segment.specs.Indexed.{dictionary, list_with}
+use Rattle.pk_segment.specs.declared.segment.Segment.{Segment}
+use Rattle.pk_segment.specs.Opened.{IsSegmentOf}
 use Rattle.pk_segment.specs.Spelling.{directory, header_in, longest, segment_length}
 use Rattle.pk_state.specs.Committed.{Stored, live_in}
 
@@ -27,6 +30,11 @@ pub record IsPrepared (bytes : List ℕ) (inputs : List MergeInput) (stored : Li
       ≤ length p.encoded.items) (terms_of (live_in stored))
   pub size_is : p.size ≡ segment_length (live_in stored) 2
   pub fits : p.size ≤ longest
+
+-- the open segment of these documents
+abbrev pub OpensAsMerged : List Doc → Option Segment → Type 0
+OpensAsMerged docs None = ⊥
+OpensAsMerged docs (Some s) = IsSegmentOf s docs
 
 -- the merge is prepared, or it fails
 abbrev pub PreparesOneAs : List ℕ → List MergeInput → List Stored → Result Prepared MergeFault

@@ -1,6 +1,6 @@
 //! The header and the directory of a merge, in memory.
 
-ghost use Rattle.std.specs.Prelude.{◌≡◌, ◌<◌, ◌^◌, ◌++◌, length, IfOk, OnOk};
+ghost use Rattle.std.specs.Prelude.{◌≡◌, ◌<◌, ◌+◌, ◌*◌, ◌^◌, ◌++◌, length, IfOk, OnOk};
 ghost use Rattle.pk_merge.specs.Keeping.{kept_bytes, kept_directory};
 ghost use Rattle.pk_segment.specs.Spelling.{header, le32};
 
@@ -70,9 +70,10 @@ pub(crate) fn front_of(
     documents: &[Kept],
 ) -> Result<Vec<u8>, AllocError>
     requires { kept_bytes documents.now < 2 ^ 32 }
-    ensures { IfOk result (λ v. v.items
+    ensures bytes { IfOk result (λ v. v.items
         ≡ header 2 counts.documents counts.texts counts.postings counts.dictionary counts.terms
         ++ kept_directory 0 documents.now) }
+    ensures long { IfOk result (λ v. length v.items ≡ 24 + 12 * length documents.now) }
 {
     let mut front = Vec::with_capacity(
         alloc,

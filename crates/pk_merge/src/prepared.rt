@@ -1,11 +1,14 @@
 //! A merge that is prepared: all that it needs to be written, and its memory.
 
-ghost use Rattle.std.specs.Prelude.{◌≡◌, ◌≤◌, ◌<◌, ℕ, length, slice_index, All};
+ghost use Rattle.std.specs.Prelude.{◌≡◌, ◌≤◌, ◌<◌, ◌^◌, ℕ, length, slice_index, All};
 ghost use Rattle.pk_join.specs.Listed.{room_for};
 ghost use Rattle.pk_merge.specs.Keeping.{EndBy};
+ghost use Rattle.pk_segment.specs.Spelling.{longest};
 
 use crate::kept::Kept;
 use pk_join::{InputLists, Joined};
+use pk_posting::SliceSource;
+use pk_segment::Segment;
 
 /// A merge that is prepared: how long its segment is, and all that is written but the texts and the
 /// posting lists.
@@ -38,22 +41,39 @@ pub struct Prepared {
     ghost enough: { All (λ l. room_for l ≤ length room.items) lists.items },
     ghost some: { 0 < length buffer.items },
     ghost inside: { All (EndBy disk_bytes) documents.items },
+    ghost short: { length front.items < 2 ^ 32 },
+    ghost least: { 1 ≤ size },
+    ghost most: { size ≤ longest },
 }
 
 impl Prepared {
     ghost use Rattle.std.specs.Prelude.{List};
     ghost use Rattle.pk_join.specs.declared.input.MergeInput.{MergeInput};
-    ghost use Rattle.pk_merge.specs.Prepared.{IsPrepared};
-    ghost use Rattle.pk_segment.specs.Spelling.{longest, segment_length};
+    ghost use Rattle.pk_merge.specs.Prepared.{IsPrepared, OpensAsMerged};
+    ghost use Rattle.pk_segment.specs.Spelling.{segment_length};
     ghost use Rattle.pk_state.specs.Committed.{Stored, live_in};
 
     /// How many bytes the segment of kind 2 of the documents that are left has.
     pub fn size(&self) -> u32
         ensures value { result ≡ self.now.size }
+        ensures sized { (1 ≤ result) × (result ≤ longest) }
         ensures long { (bytes : List ℕ) (inputs : List MergeInput) (stored : List Stored)
             → IsPrepared bytes inputs stored self.now
-            → (result ≡ segment_length (live_in stored) 2) × (result ≤ longest) }
+            → result ≡ segment_length (live_in stored) 2 }
     {
         self.size
+    }
+
+    /// The open segment of what is going to be written: header and directory say all of it. None
+    /// where they open as no segment, which is of no merge of segments.
+    pub fn segment(&self) -> Option<Segment>
+        ensures { (bytes : List ℕ) (inputs : List MergeInput) (stored : List Stored)
+            → IsPrepared bytes inputs stored self.now → OpensAsMerged (live_in stored) result }
+    {
+        let mut source = SliceSource::new(&self.front);
+        let Ok(segment) = Segment::open(&mut source, self.size, 2) else {
+            return None;
+        };
+        Some(segment)
     }
 }

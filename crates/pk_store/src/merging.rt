@@ -1,9 +1,10 @@
 //! The merge: one segment of the documents that the deletion lists leave, in the place of all, or,
 //! in a tidy, of a run of eight neighbours.
 //!
-//! 1. The segments are read, and the one segment is made in memory; all memory is taken and the
-//!    place is (pk_layout). Nothing of the disk was touched.
-//! 2. The segment and the next body are put in force (`Volume::carry_out`).
+//! 1. The segments' directories and dictionaries are read: the length of the one segment is known.
+//!    All memory is taken (pk_merge) and the place is (pk_layout). Nothing of the disk was touched.
+//! 2. The next body is put in force (`Volume::carry_out`) with the segment, which is written as the
+//!    others are read again.
 //!
 //! What is uncommitted stays so: the buffer as it is, and the deletions that no commit has taken as
 //! deletions in the new segment.
@@ -32,8 +33,9 @@ impl<D: Disk> Store<D> {
     ///
     /// Refused, in this order, as reopen; as numbers used up where no generation or no segment id
     /// is left. Then as segment too large, as full, as memory, as damaged where a segment is none,
-    /// or as disk where a read failed, before anything is written. As disk where a write or a sync
-    /// failed: then the store has to be opened again.
+    /// or as disk where the device failed. A read may fail, and damage may show, when some of the new
+    /// segment is written: what is committed stands as it did, and the store goes on. Where a write
+    /// or a sync failed, the store has to be opened again.
     pub fn merge(&mut self, alloc: Global) -> Result<(), Refusal>
         ensures step { Steps D.Disk self.old merge (answered (λ _. merged) result) self.new }
     {
@@ -77,7 +79,6 @@ impl<D: Disk> Store<D> {
         if let Some(why) = self.volume.due(0) {
             return Err(why);
         }
-        let plan = self.volume.plan_merge(alloc, from, count)?;
-        self.volume.carry_out(plan)
+        self.volume.merge_run(alloc, from, count)
     }
 }

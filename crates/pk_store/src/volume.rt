@@ -1,6 +1,6 @@
 //! What is committed, on its disk, and what of it is deleted: the body in force with its open
 //! segments, and the one way in which another body takes its place.
-ghost use Rattle.std.specs.Prelude.{◌≡◌, ◌≤◌, ◌<◌, ◌+◌, ◌^◌, ℕ, List, false, length};
+ghost use Rattle.std.specs.Prelude.{◌≡◌, ◌≤◌, ◌<◌, ◌+◌, ◌^◌, ℕ, List, OnErr, false, length};
 ghost use Rattle.std.specs.List.{list_any};
 ghost use Rattle.pk_disk.specs.Frames.{KeepsDisk};
 ghost use Rattle.pk_index.specs.Index.{Keeps};
@@ -16,26 +16,52 @@ ghost use Rattle.pk_state.specs.Holds.{IndexesEntries};
 ghost use Rattle.pk_store.specs.Deleting.{DeletesAt, DeletesIn};
 ghost use Rattle.pk_merge.specs.Choosing.{ChoosesAs};
 ghost use Rattle.pk_state.specs.Writing.{is_merged, sizes_of};
-ghost use Rattle.pk_store.specs.Merging.{PlansRun};
+ghost use Rattle.pk_store.specs.Merging.{AreInputsOf, MergesRun, OpensRun, PlansRun};
 ghost use Rattle.pk_layout.specs.Plan.{AreNext, DueAs, GoesOn, IsPlan, PlansAs};
-ghost use Rattle.pk_store.specs.Carrying.{Carries};
+ghost use Rattle.pk_store.specs.Carrying.{Carries, Goes, MeetsNone};
 ghost use Rattle.pk_store.specs.View.{IsCached, IsReady, KeepsVolume, StandFor, committed_by};
 ghost use Rattle.pk_store.specs.View.{volume_of};
 
 use pk_cache::BlockCache;
 use pk_disk::Disk;
 use pk_index::Index;
-use pk_layout::{MAX_DELETED, Plan, inputs_of, plan_commit, plan_merged, refusal_of, written_kind};
+use pk_layout::{
+    CommitPlan, MAX_DELETED, MergePlan, NewSegment, Plan, copy_of, inputs_of, plan_commit,
+    plan_merged, refusal_of, written_kind,
+};
 use pk_manifest::{Half, Manifest};
-use pk_merge::{choose, merged};
+use pk_merge::{MergeInput, MergeWriter, Prepared, choose, prepare};
 use pk_model::limits::{END_OF_IDS, MAX_SEGMENTS};
 use pk_model::{DocNo, Document, Query, Refusal};
 use pk_posting::SourceFault;
-use pk_replace::{Pieces, StreamFault, replace_with};
+use pk_replace::{Pieces, StreamFault, WritesExtent, replace_with};
 use pk_search::{OpenSegment, count_stored, find_stored, place_stored, text_stored};
 use pk_segment::ReadFault;
 use std::alloc::Global;
 use std::marker::Model;
+
+// The plan of a merge of a run, and what is prepared of it: none where no document is left.
+#[derive(Drop)]
+struct RunPlan {
+    merge: MergePlan,
+    prepared: Option<Prepared>,
+}
+
+// The segment that is going to be written, if there is one.
+fn new_segment(prepared: &Option<Prepared>) -> Result<Option<NewSegment>, Refusal>
+    ensures { OpensRun prepared.now result }
+{
+    let Some(prepared) = prepared else {
+        return Ok(None);
+    };
+    let Some(segment) = prepared.segment() else {
+        return Err(Refusal::Damaged);
+    };
+    Ok(Some(NewSegment {
+        bytes: prepared.size(),
+        segment,
+    }))
+}
 
 /// What is committed, on its disk, and what of it is deleted.
 #[derive(Drop)]
@@ -240,7 +266,7 @@ impl<D: Disk> Volume<D> {
         documents: &[Document],
         index: &Index,
         next_number: u32,
-    ) -> Result<Plan, Refusal>
+    ) -> Result<CommitPlan, Refusal>
         requires index { Keeps index.now (docs_of documents.now) }
         requires due { DueAs self.now.body (length documents.now) None }
         requires next { AreNext self.now.body (docs_of documents.now) next_number }
@@ -289,41 +315,109 @@ impl<D: Disk> Volume<D> {
         choose(&sizes[..entries.len()])
     }
 
-    /// The plan of a merge of so many segments from a place on; the disk is only read.
-    ///
-    /// Refused as segment too large, as full, as damaged where a segment is none, as disk where a
-    /// read failed, or as memory.
-    pub(crate) fn plan_merge(
+    // The plan of a merge of so many segments from a place on, and what is prepared of it; the disk
+    // is only read. The inputs are those segments.
+    //
+    // Refused as segment too large, as full, as damaged where a segment is none, as disk where a
+    // read failed, or as memory.
+    fn plan_run(
         &mut self,
         alloc: Global,
         from: usize,
         count: usize,
-    ) -> Result<Plan, Refusal>
+        inputs: &[MergeInput],
+    ) -> Result<RunPlan, Refusal>
         requires due { DueAs self.old.body 0 None }
         requires some { 1 ≤ count }
         requires within { from + count ≤ length self.old.body.entries }
-        ensures { PlansRun D.Disk self.old from count (length (D.content self.old.disk)) result
-            self.new }
+        requires run { AreInputsOf self.old.body.entries self.old.opened from count inputs.now }
+        ensures { PlansRun D.Disk self.old from count inputs.now result self.new }
     {
-        let entries = &self.manifest.entries[from..from + count];
-        let inputs = inputs_of(alloc, entries, &self.opened[from..from + count])?;
-        match merged(alloc, &mut self.disk, &inputs, written_kind()) {
-            Ok(bytes) => plan_merged(alloc, &self.manifest, &self.opened, from, count, bytes),
-            Err(fault) => Err(refusal_of(fault)),
+        let prepared = match prepare(alloc, &mut self.disk, inputs) {
+            Ok(prepared) => prepared,
+            Err(fault) => return Err(refusal_of(fault)),
+        };
+        let new = new_segment(&prepared)?;
+        let merge = plan_merged(alloc, &self.manifest, &self.opened, from, count, new)?;
+        Ok(RunPlan { merge, prepared })
+    }
+
+    // Merges so many segments from a place on, which are the inputs.
+    fn merge_inputs(
+        &mut self,
+        alloc: Global,
+        from: usize,
+        count: usize,
+        inputs: &[MergeInput],
+    ) -> Result<(), Refusal>
+        requires clear { self.old.reopen ≡ false }
+        requires due { DueAs self.old.body 0 None }
+        requires some { 1 ≤ count }
+        requires within { from + count ≤ length self.old.body.entries }
+        requires run { AreInputsOf self.old.body.entries self.old.opened from count inputs.now }
+        ensures { MergesRun D.Disk self.old from count result self.new }
+    {
+        let RunPlan { merge, prepared } = self.plan_run(alloc, from, count, inputs)?;
+        match (prepared, merge.place) {
+            (Some(prepared), Some(place)) => {
+                let writer = MergeWriter {
+                    prepared,
+                    inputs,
+                    first: place.first,
+                };
+                self.carry_out(merge.plan, writer)
+            }
+            _ => self.carry_out(merge.plan, Pieces(&[])),
         }
     }
 
-    /// Puts the plan's body in force with its pieces, and keeps what it says.
+    /// Makes one segment of so many from a place on, of the documents that their deletion lists
+    /// leave, or none where no document is left. It is written as the segments are read.
     ///
-    /// Refused as disk where the device failed: after a write or a sync that failed the disk has to
-    /// be opened again.
-    pub(crate) fn carry_out(&mut self, plan: Plan) -> Result<(), Refusal>
+    /// Refused as segment too large, as full, as damaged where a segment is none, as disk where the
+    /// device failed, or as memory. After a write or a sync that failed the disk has to be opened
+    /// again; else what is committed stands as it did.
+    pub(crate) fn merge_run(
+        &mut self,
+        alloc: Global,
+        from: usize,
+        count: usize,
+    ) -> Result<(), Refusal>
+        requires clear { self.old.reopen ≡ false }
+        requires due { DueAs self.old.body 0 None }
+        requires some { 1 ≤ count }
+        requires within { from + count ≤ length self.old.body.entries }
+        ensures { MergesRun D.Disk self.old from count result self.new }
+    {
+        // The inputs borrow their deletion lists, and the volume's own are going to change.
+        let run = copy_of(alloc, &self.opened[from..from + count])?;
+        let inputs = inputs_of(alloc, &self.manifest.entries[from..from + count], &run)?;
+        self.merge_inputs(alloc, from, count, &inputs)
+    }
+
+    /// Puts the plan's body in force with what the writer writes for it, and keeps what it says.
+    ///
+    /// Refused as disk where the device failed, or as damaged where the writer met damage. After a
+    /// write or a sync that failed the disk has to be opened again; else what is committed stands as
+    /// it did.
+    pub(crate) fn carry_out<W: WritesExtent>(
+        &mut self,
+        plan: Plan,
+        writer: W,
+    ) -> Result<(), Refusal>
         requires clear { self.old.reopen ≡ false }
         requires planned { IsPlan (length (D.content self.old.disk)) self.old.body plan }
-        requires goes_on { GoesOn self.old.body self.old.opened plan }
-        ensures { Carries D.Disk self.old plan result self.new }
+        requires can { W.can_write writer (length (D.content self.old.disk)) }
+        requires goes_on { GoesOn (W.touches writer) self.old.body self.old.opened plan }
+        ensures carried { Carries D.Disk (Goes D.Disk (W.touches writer)
+            (W.promises writer (D.content self.old.disk)) self.old plan) self.old plan result
+            self.new }
+        ensures unwritten { W.reads_nothing writer → self.new.reopen ≡ false
+            → OnErr result (KeepsDisk D.Disk self.old.disk self.new.disk) }
+        ensures unread { W.reads_nothing writer → MeetsNone result }
+        ensures undamaged { D.honest → W.is_sound writer (D.content self.old.disk)
+            → MeetsNone result }
     {
-        let writer = Pieces(&plan.pieces);
         match replace_with(&mut self.disk, self.spare, writer, &plan.body) {
             Ok(()) => {
                 self.manifest = plan.manifest;
@@ -332,12 +426,11 @@ impl<D: Disk> Volume<D> {
                 Ok(())
             }
             Err(StreamFault::Read) => Err(Refusal::Disk),
+            Err(StreamFault::Damaged) => Err(Refusal::Damaged),
             Err(StreamFault::Write) => {
                 self.reopen = true;
                 Err(Refusal::Disk)
             }
-            // Pieces in memory meet no damage.
-            Err(StreamFault::Damaged) => unreachable!(),
         }
     }
 

@@ -12,10 +12,10 @@ pub place_all-requires-clause-some : goal.place_all-requires-clause-some
 place_all-requires-clause-some c = some_lengths c.deref-2.result.now (c.args.bytes.items ∷ new_lists c.args.opened.now)
     (c.deref-2.ensures.value ∙ c.in_ok-lengths.ensures ∙ ap (λ ws. map length (map (λ v. v.items) ws)) c.deref.ensures.value ∙ ap (map length) (c.in_ok-put_lists.ensures.lists ∙ ap (λ ws. map (λ v. v.items) ws ++ new_lists c.args.opened.now) c.in_ok-writes.ensures)) (with_first c.args.bytes.items (new_lists c.args.opened.now) c.requires.size c.in_ok-put_lists.ensures.sizes)
 
-pub plan_for-requires-clause-few : goal.plan_for-requires-clause-few
-plan_for-requires-clause-few c = few_entries c.args.manifest.now.units (view c.args.manifest.now) (view c.in_ok-manifest.manifest) c.args.next_number _ c.put_entries.new.out.items (entry_in (view c.args.manifest.now) (Some c.in-Some.first.now)) c.args.opened.now c.in-Some.lists.now c.requires.sound c.in_ok-manifest.ensures
+pub plan_for-requires : goal.plan_for-requires
+plan_for-requires c = few_entries c.args.manifest.now.units (view c.args.manifest.now) (view c.in_ok-manifest.manifest) c.args.next_number _ c.put_entries.new.out.items (entry_in (view c.args.manifest.now) (Some c.in-Some.first.now)) c.args.opened.now c.in-Some.lists.now c.requires.sound c.in_ok-manifest.ensures
     (c.in_ok-put_entries.ensures ∙ ap (λ (es : List Entry). es ++ relisted c.deref-4.result.now c.args.opened.now c.in-Some.lists.now) c.new-entries.ensures.items ∙ ap (λ (es : List Entry). relisted es c.args.opened.now c.in-Some.lists.now) c.deref-4.ensures.value) (let room : length (view c.args.manifest.now).entries < 64 = c.requires.room in omega (arith, room))
 
-pub plan_for-requires-clause-same : goal.plan_for-requires-clause-same
-plan_for-requires-clause-same c = same_many (view c.args.manifest.now) c.put_lists.new.writes.items c.deref-2.result.now c.deref-5.result.now
+pub pieces_for-requires : goal.pieces_for-requires
+pieces_for-requires c = same_many (view c.args.manifest.now) c.put_lists.new.writes.items c.deref-2.result.now c.deref-5.result.now
     (c.deref-2.ensures.value ∙ c.in_ok-lengths.ensures ∙ ap (λ ws. map length (map (λ v. v.items) ws)) c.deref.ensures.value) (subst (λ es. PlacedAs (view c.args.manifest.now).units (named (view c.args.manifest.now)) c.deref-2.result.now es) (sym c.deref-5.ensures.value) c.in_ok-extents.ensures)

@@ -36,6 +36,15 @@ invariant_of-result-clause-some c = omega (arith, c.in_ok-buffer.ensures.len, c.
 pub invariant_of-result-clause-inside : goal.invariant_of-result-clause-inside
 invariant_of-result-clause-inside c = c.args.left.inside
 
+pub invariant_of-result-clause-least : goal.invariant_of-result-clause-least
+invariant_of-result-clause-least c = omega (arith, c.from.ensures, c.from-2.ensures, c.bytes-plain.ensures.value)
+
+pub invariant_of-result-clause-most : goal.invariant_of-result-clause-most
+invariant_of-result-clause-most c = omega (arith, c.if-size-from.false, c.from-3.ensures)
+
+pub invariant_of-result-clause-short : goal.invariant_of-result-clause-short
+invariant_of-result-clause-short c = omega (arith, c.in_ok-front.ensures.long, ap length c.deref.ensures.value, c.bytes-plain.ensures.value, c.bytes-plain.ensures.fits)
+
 pub returns-then-size-from-clause-prepared : goal.returns-then-size-from-clause-prepared
 returns-then-size-from-clause-prepared c = λ bytes inputs stored listed kept are planned.
     let docs = live_in stored in
@@ -64,7 +73,7 @@ returns-clause-prepared c = λ bytes inputs stored listed kept are planned.
         few = omega (arith, long, c.args.left.documents.ok, c.in_ok-joined.ensures.room, c.len-2.ensures);
       };
       dictionary_is = dictionary_is docs c.in_ok-dictionary.dictionary.items (c.in_ok-dictionary.ensures (items_of docs) planned.added);
-      front_is = c.in_ok-front.ensures ∙ front_same docs c.len-documents.result (c.bytes-plain.result - 24 - 12 * c.len-documents.result) c.args.plan.postings (c.from.result + c.from-2.result + c.size.result - c.bytes-plain.result - c.args.plan.postings) c.args.plan.terms (kept_directory 0 c.deref.result.now)
+      front_is = c.in_ok-front.ensures.bytes ∙ front_same docs c.len-documents.result (c.bytes-plain.result - 24 - 12 * c.len-documents.result) c.args.plan.postings (c.from.result + c.from-2.result + c.size.result - c.bytes-plain.result - c.args.plan.postings) c.args.plan.terms (kept_directory 0 c.deref.result.now)
           count (omega (arith, plain, front_of docs, count)) lists (omega (arith, c.from.ensures, c.from-2.ensures, words_are)) planned.terms_are (ap (kept_directory 0) c.deref.ensures.value ∙ directory_is bytes 0 ks docs kept);
       enough = λ k d within. omega (arith, planned.longest_is k d within, c.in_ok-encoded.ensures.len, c.in_ok-encoded.encoded.ok);
       size_is = omega (arith, c.from.ensures, c.from-2.ensures, whole);
