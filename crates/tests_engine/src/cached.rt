@@ -1,7 +1,8 @@
 //! Stores that keep decoded blocks: they answer as those without, and read fewer bytes.
 
 use crate::player::Player;
-use crate::script::play;
+use crate::script::{play_in_each_setting, play_on};
+use crate::sessions::filled;
 use std::alloc::{AllocError, Global};
 use std::test::Fail;
 
@@ -15,9 +16,9 @@ fn found(alloc: Global, from: u32, count: u32) -> Result<String, AllocError> {
     Ok(reply)
 }
 
-/// A session of 200 documents, of which one leaves, in a store that keeps so many blocks.
-fn session(alloc: Global, blocks: u32) -> Result<String, AllocError> {
-    let mut script = format!(in alloc; "!blocks {blocks}\n!disk 32768\n!create => created\n")?;
+/// A session of 200 documents, of which one leaves.
+pub fn session(alloc: Global) -> Result<String, AllocError> {
+    let mut script = String::from_str(alloc, "!disk 32768\n!create => created\n")?;
     for number in 1..=200u32 {
         script.push_str(format!(in alloc; "add a => added {number}\n")?.as_str())?;
     }
@@ -32,9 +33,7 @@ fn session(alloc: Global, blocks: u32) -> Result<String, AllocError> {
 #[test]
 fn replies_do_not_depend_on_blocks(rt: HostRuntime) -> Result<(), Fail> {
     let alloc = rt.alloc();
-    for blocks in [0, 1, 2, 256] {
-        play(alloc, session(alloc, blocks)?.as_str())?;
-    }
+    play_in_each_setting(alloc, &[session(alloc)?.as_str()])?;
     Ok(())
 }
 
@@ -49,18 +48,18 @@ fn read_by(player: &mut Player, blocks: &str, finds: u32) -> Result<u64, AllocEr
     Ok(player.bytes_read())
 }
 
+/// A player with a store of 4,096 documents, closed.
+fn with_many(alloc: Global) -> Result<Player, Fail> {
+    let mut player = Player::new(alloc);
+    let end = "commit => committed\n!close\n";
+    let script = filled(alloc, 4_096, "add a => added #\n", end)?;
+    play_on(alloc, &mut player, script.as_str())?;
+    Ok(player)
+}
+
 #[test]
 fn a_find_again_reads_fewer_bytes(rt: HostRuntime) -> Result<(), Fail> {
-    let alloc = rt.alloc();
-    let mut player = Player::new(alloc);
-    for line in ["!disk 131072", "!create"] {
-        let _ = player.answer(line)?;
-    }
-    for _ in 0..4096 {
-        let _ = player.answer("add a")?;
-    }
-    assert_eq!(rt; player.answer("commit")?.as_str(), "committed");
-    let _ = player.answer("!close")?;
+    let mut player = with_many(rt.alloc())?;
     let one = read_by(&mut player, "!blocks 0", 1)?;
     let two = read_by(&mut player, "!blocks 0", 2)?;
     let one_kept = read_by(&mut player, "!blocks 64", 1)?;

@@ -2,24 +2,53 @@
 //! texts, many at a time.
 
 use crate::player::told;
-use pk_disk::MemoryDisk;
+use pk_disk::{Disk, MemoryDisk};
 use pk_model::{Command, Counts, DocNo, Query, Refusal, Reply};
+use pk_pages::PageCache;
 use pk_store::{Refused, Store};
 use std::alloc::Global;
+use std::process::Abort;
 use std::test::Fail;
 
-/// A new store on a disk of 64 units.
-pub fn new_store(alloc: Global) -> Result<Store<MemoryDisk>, Fail> {
-    let disk = MemoryDisk::of_bytes(alloc, vec![in alloc; 0u8; 32_768]?);
-    match Store::create(alloc, disk, 0) {
+/// How many decoded blocks stores keep.
+pub const BLOCKS: [u32; 4] = [0, 1, 2, 256];
+
+/// How many pages a page cache below them keeps.
+pub const PAGES: [usize; 2] = [1, 64];
+
+/// A disk of 64 units, all zero.
+fn new_disk(alloc: Global) -> Result<MemoryDisk, Fail> {
+    Ok(MemoryDisk::of_bytes(alloc, vec![in alloc; 0u8; 32_768]?))
+}
+
+/// A new store on a disk, which keeps so many decoded blocks.
+fn store_on<D: Disk>(alloc: Global, disk: D, blocks: u32) -> Result<Store<D>, Fail>
+where
+    D: Drop,
+{
+    match Store::create(alloc, disk, blocks) {
         Ok(store) => Ok(store),
         Err(Refused { why, .. }) => Err(Fail::from(why)),
     }
 }
 
-#[test]
-fn a_list_of_commands_is_answered_in_turn(rt: HostRuntime) -> Result<(), Fail> {
-    let alloc = rt.alloc();
+/// A new store on a disk of 64 units.
+pub fn new_store(alloc: Global) -> Result<Store<MemoryDisk>, Fail> {
+    store_on(alloc, new_disk(alloc)?, 0)
+}
+
+/// One that keeps so many decoded blocks.
+pub fn store_with_blocks(alloc: Global, blocks: u32) -> Result<Store<MemoryDisk>, Fail> {
+    store_on(alloc, new_disk(alloc)?, blocks)
+}
+
+/// One on a page cache of so many pages.
+pub fn store_on_pages(alloc: Global, pages: usize) -> Result<Store<PageCache<MemoryDisk>>, Fail> {
+    store_on(alloc, PageCache::new(alloc, new_disk(alloc)?, pages), 2)
+}
+
+/// Runs a list of commands.
+fn run_list<D: Disk>(rt: &impl Abort, alloc: Global, store: &mut Store<D>) -> Result<(), Fail> {
     let mut commands = Vec::new(alloc);
     commands.push(Command::Add(String::from_str(alloc, "a")?))?;
     commands.push(Command::Commit)?;
@@ -30,7 +59,7 @@ fn a_list_of_commands_is_answered_in_turn(rt: HostRuntime) -> Result<(), Fail> {
     commands.push(Command::Delete(DocNo(1)))?;
     commands.push(Command::Merge)?;
     commands.push(Command::Tidy)?;
-    let replies = new_store(alloc)?.run(alloc, &commands)?;
+    let replies = store.run(alloc, &commands)?;
     let [
         added,
         committed,
@@ -62,11 +91,35 @@ fn a_list_of_commands_is_answered_in_turn(rt: HostRuntime) -> Result<(), Fail> {
 }
 
 #[test]
+fn a_list_of_commands_is_answered_in_turn(rt: HostRuntime) -> Result<(), Fail> {
+    let alloc = rt.alloc();
+    for blocks in BLOCKS {
+        run_list(&rt, alloc, &mut store_with_blocks(alloc, blocks)?)?;
+    }
+    for pages in PAGES {
+        run_list(&rt, alloc, &mut store_on_pages(alloc, pages)?)?;
+    }
+    Ok(())
+}
+
+/// Shows a text with a line feed and a backslash, before a commit and after it.
+fn show_text<D: Disk>(rt: &impl Abort, alloc: Global, store: &mut Store<D>) -> Result<(), Fail> {
+    assert_eq!(rt; store.add(alloc, "a\n\\b"), Ok(DocNo(1)));
+    assert!(rt; told(alloc, store, "show 1")?.as_str() == "text a\\n\\\\b");
+    assert_eq!(rt; store.commit(alloc), Ok(()));
+    assert!(rt; told(alloc, store, "show 1")?.as_str() == "text a\\n\\\\b");
+    Ok(())
+}
+
+#[test]
 fn a_line_feed_and_a_backslash_are_spelled_out(rt: HostRuntime) -> Result<(), Fail> {
     let alloc = rt.alloc();
-    let mut store = new_store(alloc)?;
-    assert_eq!(rt; store.add(alloc, "a\n\\b"), Ok(DocNo(1)));
-    assert!(rt; told(alloc, &mut store, "show 1")?.as_str() == "text a\\n\\\\b");
+    for blocks in BLOCKS {
+        show_text(&rt, alloc, &mut store_with_blocks(alloc, blocks)?)?;
+    }
+    for pages in PAGES {
+        show_text(&rt, alloc, &mut store_on_pages(alloc, pages)?)?;
+    }
     Ok(())
 }
 

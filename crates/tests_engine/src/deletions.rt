@@ -1,6 +1,6 @@
 //! Sessions in which committed documents are deleted, and segments merged.
 
-use crate::script::play_in_each_setting;
+use crate::script::{play_in_each_setting, play_on_pages};
 use crate::sessions::SMALL;
 use std::test::Fail;
 
@@ -282,7 +282,7 @@ pub const SESSIONS: [&str; 10] = [
 ];
 
 /// What is written where. The first segment lies at unit 34, which is byte 17,408.
-pub const PLACES: [&str; 6] = [
+pub const PLACES: [&str; 5] = [
     // A commit with deletions alone writes no segment, and the next segment id stays. Its list goes
     // to unit 35, the first free one; the next list to 36, beside the one in force; the next
     // segment to 35, which is free again.
@@ -385,45 +385,6 @@ pub const PLACES: [&str; 6] = [
     !bytes 9248 4 => 02 00 00 00
     !bytes 9292 12 => 04 00 00 00 00 00 00 00 22 00 00 00
     ",
-    // A segment of kind 1, of `a b` and `a`, that an earlier version wrote: a find reads its texts,
-    // until a merge writes it anew, in kind 2 at unit 35. A second merge makes no call of the
-    // device: opening makes nine, and the tenth fails. From then on no find goes by the texts.
-    "
-    !close
-    !set 1032 02
-    !set 1044 03 00 00 00 02 00 00 00 00 00 00 00 01 00 00 00
-    !set 1060 01 00 00 00 00 00 00 00 22 00 00 00 01 00 00 00 34 00 00 00 01
-    !set 17408 01 00 00 00 02 00 00 00 04 00 00 00 00 00 00 00 00 00 00 00 00 00 00 00
-    !set 17432 01 00 00 00 00 00 00 00 03 00 00 00 02 00 00 00 03 00 00 00 01 00 00 00
-    !set 17456 61 20 62 61
-    !open => opened
-    find a => found 2: 1 2
-    merge => merged
-    find a => found 2: 1 2
-    find b => found 1: 1
-    !close
-    !bytes 9224 8 => 03 00 00 00 00 00 00 00
-    !bytes 9236 12 => 03 00 00 00 03 00 00 00 00 00 00 00
-    !bytes 9248 12 => 01 00 00 00 02 00 00 00 00 00 00 00
-    !bytes 9260 16 => 23 00 00 00 01 00 00 00 4E 00 00 00 02 00 00 00
-    !bytes 17920 12 => 02 00 00 00 02 00 00 00 04 00 00 00
-    !bytes 17932 12 => 0B 00 00 00 0F 00 00 00 02 00 00 00
-    !bytes 17944 12 => 01 00 00 00 00 00 00 00 03 00 00 00
-    !bytes 17956 12 => 02 00 00 00 03 00 00 00 01 00 00 00
-    !bytes 17968 4 => 61 20 62 61
-    !bytes 17972 11 => 02 00 00 00 81 81 01 00 00 00 81
-    !bytes 17983 9 => 00 00 00 00 81 61 82 80 86
-    !bytes 17992 6 => 80 81 62 81 86 85
-    !fail 10
-    !open => opened
-    merge => merged
-    find a => refused disk
-    !close
-    !set 17968 7A
-    !open => opened
-    find a => found 2: 1 2
-    find z => found 0:
-    ",
     // A merge that leaves no document leaves no segment, and the next segment id.
     "
     add x => added 1
@@ -467,6 +428,65 @@ pub const PLACES: [&str; 6] = [
     ",
 ];
 
+/// A segment of kind 1, of `a b` and `a`, that an earlier version wrote: a find reads its texts, until
+/// a merge writes it anew, in kind 2 at unit 35.
+pub const KIND_1: &str = "
+    !close
+    !set 1032 02
+    !set 1044 03 00 00 00 02 00 00 00 00 00 00 00 01 00 00 00
+    !set 1060 01 00 00 00 00 00 00 00 22 00 00 00 01 00 00 00 34 00 00 00 01
+    !set 17408 01 00 00 00 02 00 00 00 04 00 00 00 00 00 00 00 00 00 00 00 00 00 00 00
+    !set 17432 01 00 00 00 00 00 00 00 03 00 00 00 02 00 00 00 03 00 00 00 01 00 00 00
+    !set 17456 61 20 62 61
+    !open => opened
+    find a => found 2: 1 2
+    merge => merged
+    find a => found 2: 1 2
+    find b => found 1: 1
+    !close
+    !bytes 9224 8 => 03 00 00 00 00 00 00 00
+    !bytes 9236 12 => 03 00 00 00 03 00 00 00 00 00 00 00
+    !bytes 9248 12 => 01 00 00 00 02 00 00 00 00 00 00 00
+    !bytes 9260 16 => 23 00 00 00 01 00 00 00 4E 00 00 00 02 00 00 00
+    !bytes 17920 12 => 02 00 00 00 02 00 00 00 04 00 00 00
+    !bytes 17932 12 => 0B 00 00 00 0F 00 00 00 02 00 00 00
+    !bytes 17944 12 => 01 00 00 00 00 00 00 00 03 00 00 00
+    !bytes 17956 12 => 02 00 00 00 03 00 00 00 01 00 00 00
+    !bytes 17968 4 => 61 20 62 61
+    !bytes 17972 11 => 02 00 00 00 81 81 01 00 00 00 81
+    !bytes 17983 9 => 00 00 00 00 81 61 82 80 86
+    !bytes 17992 6 => 80 81 62 81 86 85
+";
+
+/// A second merge makes no call of the device: opening makes nine, and the tenth fails.
+const MERGED: &str = "
+    !fail 10
+    !open => opened
+    merge => merged
+    find a => refused disk
+    !close
+";
+
+/// On a page cache opening makes five: a sync, the page of both gates and of one generation, that of
+/// the other, the body, and the segment's page, which the find needs.
+const MERGED_ON_PAGES: &str = "
+    !fail 6
+    !open => opened
+    merge => merged
+    find a => found 2: 1 2
+    add x => added 3
+    commit => refused disk
+    !close
+";
+
+/// From then on no find goes by the texts.
+pub const BY_LISTS: &str = "
+    !set 17968 7A
+    !open => opened
+    find a => found 2: 1 2
+    find z => found 0:
+";
+
 #[test]
 fn deletions_and_merges_go_as_written(rt: HostRuntime) -> Result<(), Fail> {
     for session in SESSIONS {
@@ -475,5 +495,7 @@ fn deletions_and_merges_go_as_written(rt: HostRuntime) -> Result<(), Fail> {
     for session in PLACES {
         play_in_each_setting(rt.alloc(), &[SMALL, session])?;
     }
+    play_in_each_setting(rt.alloc(), &[SMALL, KIND_1, MERGED, BY_LISTS])?;
+    play_on_pages(rt.alloc(), &[SMALL, KIND_1, MERGED_ON_PAGES, BY_LISTS])?;
     Ok(())
 }

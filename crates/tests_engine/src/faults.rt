@@ -1,7 +1,7 @@
 //! Sessions in which a call of the device fails, and what a crash leaves of them.
 
 use crate::script::play_in_each_setting;
-use crate::sweeps::{EITHER, ON, ONCE, Sweep, play_sweep};
+use crate::sweeps::{EITHER, ON, ONCE, Sweep, play_sweep, play_sweep_on_pages};
 use std::test::Fail;
 
 /// A new disk, and a new store.
@@ -131,7 +131,7 @@ const SECOND_CUT: &str = "
 /// | 1 to 4 | opening: a sync, the reads of two gates and a body |
 /// | 5 to 10 | the first commit: a read of gate B, segment, body, a sync, the gate, a sync |
 /// | 11 to 18 | the second: the read of gate A, its close, a sync, and the last five again |
-/// | 19 to 36 | the find: of each segment its directory, its header, and seven pieces of its dictionary |
+/// | 19 to 26 | the find: of each segment its directory, its header, and two pieces of its dictionary |
 const COMMITTING: [Sweep; 11] = [
     Sweep {
         before: NEW,
@@ -251,7 +251,7 @@ const COMMITTING: [Sweep; 11] = [
     Sweep {
         before: NEW,
         first: 19,
-        last: 36,
+        last: 26,
         how: EITHER,
         session: "
             !open => opened
@@ -267,8 +267,8 @@ const COMMITTING: [Sweep; 11] = [
     },
     Sweep {
         before: NEW,
-        first: 37,
-        last: 37,
+        first: 27,
+        last: 27,
         how: EITHER,
         session: "
             !open => opened
@@ -349,6 +349,47 @@ const ONE_COMMIT: &str = "
     !close
 ";
 
+/// The commit of document 2 is cut off.
+const COMMIT_CUT: &str = "
+    !open => opened
+    add y => added 2
+    commit => refused disk
+    !close
+";
+
+/// Then the store is to be opened again. A line that asks it nothing has its own reply.
+const COMMIT_CUT_AND_ASKED: &str = "
+    !open => opened
+    add y => added 2
+    commit => refused disk
+    find y => refused reopen
+    count => refused reopen
+    show 1 => refused reopen
+    show 2 => refused reopen
+    add z => refused reopen
+    delete 2 => refused reopen
+    delete 1 => refused reopen
+    commit => refused reopen
+    merge => refused reopen
+    find ( => refused query unexpected at 1
+    find -- => refused query no word at 0
+    what => refused unknown
+    quit => bye
+    !close
+";
+
+/// Opened again without a crash, it has both documents.
+const COMMIT_CUT_AND_OPENED: &str = "
+    !open => opened
+    add y => added 2
+    commit => refused disk
+    !close
+    !open => opened
+    count => count 2 next 3
+    find y => found 1: 2
+    !close
+";
+
 /// Document 2 is committed over a store of document 1, with both gates open. Opening makes nine
 /// calls; the commit eight: the read of gate A, its close, a sync, the segment, the body, a sync,
 /// the gate, a sync.
@@ -359,67 +400,112 @@ const SECOND_COMMIT: [Sweep; 3] = [
         first: 15,
         last: 15,
         how: ON,
-        session: "
-            !open => opened
-            add y => added 2
-            commit => refused disk
-            !close
-        ",
+        session: COMMIT_CUT,
         shut: ONE,
         open: ONE,
     },
-    // Its last sync alone fails: it is there, or isn't after a crash, and the store is to be opened
-    // again. A line that asks the store nothing has its own reply.
+    // Its last sync alone fails: it is there, or isn't after a crash.
     Sweep {
         before: ONE_COMMIT,
         first: 17,
         last: 17,
         how: ONCE,
-        session: "
-            !open => opened
-            add y => added 2
-            commit => refused disk
-            find y => refused reopen
-            count => refused reopen
-            show 1 => refused reopen
-            show 2 => refused reopen
-            add z => refused reopen
-            delete 2 => refused reopen
-            delete 1 => refused reopen
-            commit => refused reopen
-            merge => refused reopen
-            find ( => refused query unexpected at 1
-            find -- => refused query no word at 0
-            what => refused unknown
-            quit => bye
-            !close
-        ",
+        session: COMMIT_CUT_AND_ASKED,
         shut: ONE,
         open: TWO,
     },
-    // Without a crash it is there.
     Sweep {
         before: ONE_COMMIT,
         first: 17,
         last: 17,
         how: ONCE,
-        session: "
-            !open => opened
-            add y => added 2
-            commit => refused disk
-            !close
-            !open => opened
-            count => count 2 next 3
-            find y => found 1: 2
-            !close
-        ",
+        session: COMMIT_CUT_AND_OPENED,
         shut: TWO,
         open: TWO,
     },
 ];
 
+/// The same on a page cache. Opening makes five calls: a sync, the page of both gates and of one
+/// generation, that of the other, the body, and the segment's page. The commit makes seven, as the
+/// gates' page is kept: the close of gate A, a sync, the segment, the body, a sync, the gate, a
+/// sync. Where one page is kept, which is the segment's, that of the gates is read before them.
+const SECOND_COMMIT_ON_PAGES: [(&str, Sweep); 6] = [
+    (
+        "!pages 64\n",
+        Sweep {
+            before: ONE_COMMIT,
+            first: 10,
+            last: 10,
+            how: ON,
+            session: COMMIT_CUT,
+            shut: ONE,
+            open: ONE,
+        },
+    ),
+    (
+        "!pages 64\n",
+        Sweep {
+            before: ONE_COMMIT,
+            first: 12,
+            last: 12,
+            how: ONCE,
+            session: COMMIT_CUT_AND_ASKED,
+            shut: ONE,
+            open: TWO,
+        },
+    ),
+    (
+        "!pages 64\n",
+        Sweep {
+            before: ONE_COMMIT,
+            first: 12,
+            last: 12,
+            how: ONCE,
+            session: COMMIT_CUT_AND_OPENED,
+            shut: TWO,
+            open: TWO,
+        },
+    ),
+    (
+        "!pages 1\n",
+        Sweep {
+            before: ONE_COMMIT,
+            first: 11,
+            last: 11,
+            how: ON,
+            session: COMMIT_CUT,
+            shut: ONE,
+            open: ONE,
+        },
+    ),
+    (
+        "!pages 1\n",
+        Sweep {
+            before: ONE_COMMIT,
+            first: 13,
+            last: 13,
+            how: ONCE,
+            session: COMMIT_CUT_AND_ASKED,
+            shut: ONE,
+            open: TWO,
+        },
+    ),
+    (
+        "!pages 1\n",
+        Sweep {
+            before: ONE_COMMIT,
+            first: 13,
+            last: 13,
+            how: ONCE,
+            session: COMMIT_CUT_AND_OPENED,
+            shut: TWO,
+            open: TWO,
+        },
+    ),
+];
+
 /// A store with two segments, of documents 1 `a b` and 3 `a`, and of document 5 `c a`.
-const READ: &str = "
+pub const READ: &str = "
     !disk 32768
     !set 0 A7
     !set 1024 50 4B 53 52 43 48 30 31 01 00 00 00 00 00 00 00 40 00 00 00 07 00 00 00
@@ -524,7 +610,7 @@ const READING: [Sweep; 5] = [
 ];
 
 /// What that store answers where no call fails.
-const ANSWERS: [&str; 2] = [
+pub const ANSWERS: [&str; 2] = [
     // Numbers 2 and 4 lie in and between the segments, 6 before the buffer.
     "
     !open => opened
@@ -573,6 +659,9 @@ fn each_call_that_fails_is_answered(rt: HostRuntime) -> Result<(), Fail> {
         for sweep in sweeps {
             play_sweep(rt.alloc(), sweep)?;
         }
+    }
+    for (pages, sweep) in &SECOND_COMMIT_ON_PAGES {
+        play_sweep_on_pages(rt.alloc(), pages, sweep)?;
     }
     Ok(())
 }

@@ -284,6 +284,49 @@ const MERGE_CUT: &str = "
     !close
 ";
 
+/// After a read that failed the merge is done when it is asked for again.
+const MERGE_AGAIN: &str = "
+    !open => opened
+    add green cherry => added 5
+    delete 2 => deleted 2
+    merge => refused disk
+    find red => found 1: 4
+    find apple => found 1: 3
+    find NOT red => found 2: 3 5
+    count => count 3 next 6
+    merge => merged
+    merge => merged
+    find red => found 1: 4
+    find apple => found 1: 3
+    find NOT red => found 2: 3 5
+    count => count 3 next 6
+    !close
+";
+
+/// Where each later call fails, too, it is refused again, and so is what reads.
+const MERGE_REFUSED: &str = "
+    !open => opened
+    add green cherry => added 5
+    delete 2 => deleted 2
+    merge => refused disk
+    merge => refused disk
+    find red => refused disk
+    count => count 3 next 6
+    !close
+";
+
+/// No call of it fails, and the next one does.
+const MERGE_DONE: &str = "
+    !open => opened
+    add green cherry => added 5
+    delete 2 => deleted 2
+    merge => merged
+    merge => merged
+    count => count 3 next 6
+    find red => refused disk
+    !close
+";
+
 /// Three segments are merged while a document and a deletion are uncommitted, which a crash takes
 /// back.
 ///
@@ -291,86 +334,40 @@ const MERGE_CUT: &str = "
 /// |---|---|
 /// | 1 to 16 | opening |
 /// | 17 | the deletion: the entry of document 2 |
-/// | 18 to 32 | each segment's header, two entries and directory, and the text that is left |
-/// | 33 to 35 | the read of gate B, its close, a sync |
-/// | 36 to 38 | the segment, the body, a sync |
-/// | 39, 40 | the gate, a sync |
-const MERGING: [Sweep; 4] = [
-    // After a read that failed the merge is done when it is asked for again.
-    Sweep {
-        before: THREE_SEGMENTS,
-        first: 18,
-        last: 33,
-        how: ONCE,
-        session: "
-            !open => opened
-            add green cherry => added 5
-            delete 2 => deleted 2
-            merge => refused disk
-            find red => found 1: 4
-            find apple => found 1: 3
-            find NOT red => found 2: 3 5
-            count => count 3 next 6
-            merge => merged
-            merge => merged
-            find red => found 1: 4
-            find apple => found 1: 3
-            find NOT red => found 2: 3 5
-            count => count 3 next 6
-            !close
-        ",
-        shut: KEPT,
-        open: KEPT,
-    },
-    Sweep {
-        before: THREE_SEGMENTS,
-        first: 18,
-        last: 33,
-        how: ON,
-        session: "
-            !open => opened
-            add green cherry => added 5
-            delete 2 => deleted 2
-            merge => refused disk
-            merge => refused disk
-            find red => refused disk
-            count => count 3 next 6
-            !close
-        ",
-        shut: KEPT,
-        open: KEPT,
-    },
-    Sweep {
-        before: THREE_SEGMENTS,
-        first: 34,
-        last: 40,
-        how: EITHER,
-        session: MERGE_CUT,
-        shut: KEPT,
-        open: KEPT,
-    },
-    Sweep {
-        before: THREE_SEGMENTS,
-        first: 41,
-        last: 41,
-        how: ON,
-        session: "
-            !open => opened
-            add green cherry => added 5
-            delete 2 => deleted 2
-            merge => merged
-            merge => merged
-            count => count 3 next 6
-            find red => refused disk
-            !close
-        ",
-        shut: KEPT,
-        open: KEPT,
-    },
+/// | 18 to 103 | the segments' headers, directories, dictionaries and lists |
+/// | 104 to 106 | the read of gate B, its close, a sync |
+/// | 107 to 123 | the texts that are left, and the lists once more |
+/// | 124 to 126 | the segment, the body, a sync |
+/// | 127, 128 | the gate, a sync |
+const MERGING: [(u64, u64, &[&str], &str); 7] = [
+    (18, 104, ONCE, MERGE_AGAIN),
+    (18, 104, ON, MERGE_REFUSED),
+    (105, 106, EITHER, MERGE_CUT),
+    (107, 123, ONCE, MERGE_AGAIN),
+    (107, 123, ON, MERGE_REFUSED),
+    (124, 128, EITHER, MERGE_CUT),
+    (129, 129, ON, MERGE_DONE),
 ];
 
-/// All sweeps.
-const SWEEPS: [&[Sweep]; 3] = [&COMMITTING, &OPENING, &MERGING];
+#[test]
+fn each_call_that_fails_in_a_merge_loses_nothing(rt: HostRuntime) -> Result<(), Fail> {
+    for (first, last, how, session) in MERGING {
+        let sweep = Sweep {
+            before: THREE_SEGMENTS,
+            first,
+            last,
+            how,
+            session,
+            shut: KEPT,
+            open: KEPT,
+        };
+        play_sweep(rt.alloc(), &sweep)?;
+    }
+    Ok(())
+}
+
+/// The other sweeps.
+const SWEEPS: [&[Sweep]; 2] = [&COMMITTING, &OPENING];
 
 #[test]
 fn each_call_that_fails_loses_nothing(rt: HostRuntime) -> Result<(), Fail> {

@@ -2,11 +2,11 @@
 
 use crate::calls::new_store;
 use crate::lying::has_store;
-use crate::script::play_parts;
+use crate::script::play_in_each_setting;
 use pk_disk::MemoryDisk;
 use pk_model::DocNo;
 use pk_posting::decode;
-use std::alloc::Global;
+use std::alloc::{AllocError, Global};
 use std::test::Fail;
 
 /// A store with one segment, of documents 1 `a b` and 3 `a`. The place of a deletion list in its
@@ -23,7 +23,7 @@ const STORE: &str = "
 ";
 
 /// The bytes of a list at unit 40, how many the entry says that it has, and what opening tells.
-const LISTS: [(&str, &str, &str); 13] = [
+pub const LISTS: [(&str, &str, &str); 13] = [
     (
         "01 00 00 00 81",
         "05",
@@ -82,19 +82,24 @@ const LISTS: [(&str, &str, &str); 13] = [
     ("FF FF FF FF 81 82", "06", "!open => damaged\n"),
 ];
 
-/// Plays what opening tells of a list.
-fn play_list(alloc: Global, list: &str, length: &str, told: &str) -> Result<(), Fail> {
-    let start = format!(in alloc;
-        "!set 20480 {list}\n!set 1084 28 00 00 00 01 00 00 00 {length}\n"
-    )?;
-    play_parts(alloc, &[STORE, start.as_str(), told])?;
-    Ok(())
+/// A script on the store with a list.
+pub fn with_list(
+    alloc: Global,
+    list: &str,
+    length: &str,
+    told: &str,
+) -> Result<String, AllocError> {
+    format!(in alloc;
+        "{STORE}!set 20480 {list}\n!set 1084 28 00 00 00 01 00 00 00 {length}\n{told}"
+    )
 }
 
 #[test]
 fn lists_are_opened_as_they_stand(rt: HostRuntime) -> Result<(), Fail> {
+    let alloc = rt.alloc();
     for (list, length, told) in LISTS {
-        play_list(rt.alloc(), list, length, told)?;
+        let script = with_list(alloc, list, length, told)?;
+        play_in_each_setting(alloc, &[script.as_str()])?;
     }
     Ok(())
 }

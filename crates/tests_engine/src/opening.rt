@@ -1,12 +1,12 @@
 //! Stores created and opened on disks that are made by hand.
 
-use crate::script::{play, play_parts};
-use std::alloc::Global;
+use crate::script::{play_in_each_setting, play_on_pages};
+use std::alloc::{AllocError, Global};
 use std::test::Fail;
 
 /// A disk of 64 units with segments at units 50 and 52: of document 1 and of document 2, each
 /// `a b`.
-const SEGMENTS: &str = "
+pub const SEGMENTS: &str = "
     !disk 32768
     !set 25600 01 00 00 00 01 00 00 00 03 00 00 00 00 00 00 00 00 00 00 00 00 00 00 00
     !set 25624 01 00 00 00 00 00 00 00 03 00 00 00 61 20 62
@@ -16,7 +16,7 @@ const SEGMENTS: &str = "
 
 /// Opens gate A over a body of generation 3 that names both segments, with next number 9 and next
 /// segment id 9.
-const STORE: &str = "
+pub const STORE: &str = "
     !set 1024 50 4B 53 52 43 48 30 31 03 00 00 00 00 00 00 00 40 00 00 00 09 00 00 00
     !set 1048 09 00 00 00 00 00 00 00 02 00 00 00
     !set 1060 01 00 00 00 00 00 00 00 32 00 00 00 01 00 00 00 27 00 00 00 01 00 00 00
@@ -25,7 +25,7 @@ const STORE: &str = "
 ";
 
 /// What creating and opening tell of that store, byte by byte.
-const STORES: [&str; 7] = [
+pub const STORES: [&str; 7] = [
     // It is opened, and no store is made over it.
     "
     !open => opened
@@ -158,7 +158,7 @@ const STORES: [&str; 7] = [
 ];
 
 /// What creating and opening tell of disks without a store, and where gate B alone is open.
-const DISKS: [&str; 3] = [
+pub const DISKS: [&str; 2] = [
     // The first body and gate A are all that is written on a new disk.
     "
     !disk 32768
@@ -177,17 +177,6 @@ const DISKS: [&str; 3] = [
     !close
     !create => already a store
     ",
-    // 63 units and 511 bytes are too few.
-    "
-    !disk 32767
-    !open => too small
-    !create => too small
-    !fail 1
-    !open => too small
-    !fail 1
-    !create => too small
-    !nonzero 0
-    ",
     // A store in half B.
     "
     !disk 32768
@@ -202,14 +191,28 @@ const DISKS: [&str; 3] = [
     ",
 ];
 
+/// 63 units and 511 bytes are too few, which is told before any call of the device.
+const TOO_SMALL: &str = "
+    !disk 32767
+    !open => too small
+    !create => too small
+    !fail 1
+    !open => too small
+    !fail 1
+    !create => too small
+    !nonzero 0
+";
+
 #[test]
 fn stores_are_opened_as_they_stand(rt: HostRuntime) -> Result<(), Fail> {
     for script in STORES {
-        play_parts(rt.alloc(), &[SEGMENTS, STORE, script])?;
+        play_in_each_setting(rt.alloc(), &[SEGMENTS, STORE, script])?;
     }
     for script in DISKS {
-        play(rt.alloc(), script)?;
+        play_in_each_setting(rt.alloc(), &[script])?;
     }
+    play_in_each_setting(rt.alloc(), &[TOO_SMALL])?;
+    play_on_pages(rt.alloc(), &[TOO_SMALL])?;
     Ok(())
 }
 
@@ -244,7 +247,7 @@ const WITHOUT: &str = "
 /// What opening tells where both gates are open, by the body of A and that of B. The greater
 /// generation is judged alone, at equal ones that of A: the other body may name units that hold
 /// other bytes by now.
-const BOTH: [(&str, &str, &str); 5] = [
+pub const BOTH: [(&str, &str, &str); 5] = [
     (STALE, WITHOUT, "!open => opened\ncount => count 0 next 9\n"),
     (
         STALE,
@@ -264,26 +267,26 @@ const BOTH: [(&str, &str, &str); 5] = [
     (STALE, EQUAL, "!open => damaged\n"),
 ];
 
-/// Plays a script over these bodies, with both gates open.
-fn play_both(alloc: Global, a: &str, b: &str, end: &str) -> Result<(), Fail> {
+/// A script over these bodies, with both gates open.
+pub fn over_both(alloc: Global, a: &str, b: &str, end: &str) -> Result<String, AllocError> {
     let a = a.replace(alloc, "\n", " ")?;
     let b = b.replace(alloc, "\n", " ")?;
-    let bodies = format!(in alloc; "!set 1024 {a}\n!set 9216 {b}\n!set 0 A7\n!set 512 A7\n")?;
-    play_parts(alloc, &[SEGMENTS, bodies.as_str(), end])?;
-    Ok(())
+    format!(in alloc; "{SEGMENTS}!set 1024 {a}\n!set 9216 {b}\n!set 0 A7\n!set 512 A7\n{end}")
 }
 
 #[test]
 fn the_greater_generation_is_opened(rt: HostRuntime) -> Result<(), Fail> {
+    let alloc = rt.alloc();
     for (a, b, end) in BOTH {
-        play_both(rt.alloc(), a, b, end)?;
+        let script = over_both(alloc, a, b, end)?;
+        play_in_each_setting(alloc, &[script.as_str()])?;
     }
     Ok(())
 }
 
 /// Stores without documents, by generation, next number and next segment id, and what they answer
 /// near the ends of these.
-const ENDS: [(&str, &str, &str, &str); 5] = [
+pub const ENDS: [(&str, &str, &str, &str); 5] = [
     // The last number.
     (
         "01 00 00 00 00 00 00 00",
@@ -356,27 +359,27 @@ const IDS_BEFORE: &str = "
     commit => refused numbers used up
 ";
 
-/// Plays a script on a store without documents.
-fn play_on(
+/// A script on a store without documents.
+pub fn without_documents(
     alloc: Global,
     generation: &str,
     number: &str,
     segment: &str,
     end: &str,
-) -> Result<(), Fail> {
-    let start = format!(in alloc;
+) -> Result<String, AllocError> {
+    format!(in alloc;
         "!disk 32768\n!set 0 A7
         !set 1024 50 4B 53 52 43 48 30 31 {generation} 40 00 00 00 {number} {segment}
-        !open => opened\n"
-    )?;
-    play_parts(alloc, &[start.as_str(), end])?;
-    Ok(())
+        !open => opened\n{end}"
+    )
 }
 
 #[test]
 fn numbers_and_ids_have_an_end(rt: HostRuntime) -> Result<(), Fail> {
+    let alloc = rt.alloc();
     for (generation, number, segment, end) in ENDS {
-        play_on(rt.alloc(), generation, number, segment, end)?;
+        let script = without_documents(alloc, generation, number, segment, end)?;
+        play_in_each_setting(alloc, &[script.as_str()])?;
     }
     Ok(())
 }

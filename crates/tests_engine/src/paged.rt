@@ -1,19 +1,104 @@
-//! Worked sessions on a page cache, while each call of the device below it fails in its turn.
+//! Sessions on a page cache in which a call of the device below it fails: worked ones whose failing
+//! call is told by its number, and all others with each call in its turn.
 
-use crate::deletions;
-use crate::script::{ScriptFault, has_failing_call, play};
-use crate::sessions::{self, SMALL};
-use std::alloc::Global;
+use crate::deletions::{self, BY_LISTS, KIND_1};
+use crate::lists::{self, LISTS};
+use crate::opening::{self, BOTH, DISKS, ENDS, STORES};
+use crate::script::{ScriptFault, has_failing_call, play, play_on_pages};
+use crate::sessions::{self, MANY, SMALL};
+use crate::{cached, faults, searching};
+use std::alloc::{AllocError, Global};
 use std::test::Fail;
 
-/// No session makes more calls of the device than these.
-const MOST_CALLS: u64 = 2_000;
+/// Sessions with a failing call below a page cache. A new store is opened in three calls: a sync,
+/// the page of both gates, and the body. One with both gates open needs a page more, for the
+/// generation of half B, and one with a segment the page of that.
+const NUMBERED: [&str; 4] = [
+    // The first sync fails, and the disk is handed back.
+    "
+    !close
+    !fail 1
+    !open => disk
+    !open => opened
+    count => count 0 next 1
+    ",
+    // A commit, a merge and a tidy with nothing to write make no call. The commit of a document
+    // makes five, as the page of the gates is kept: the segment, the body, a sync, the gate, a sync.
+    // The ninth call would fail.
+    "
+    !close
+    !fail 9
+    !open => opened
+    merge => merged
+    tidy => tidied
+    add x => added 1
+    commit => committed
+    commit => committed
+    merge => merged
+    tidy => tidied
+    count => count 1 next 2
+    add y => added 2
+    merge => merged
+    commit => refused disk
+    ",
+    // A segment without a list, opened again, in five calls. The find needs the page that is kept.
+    "
+    add x => added 1
+    commit => committed
+    !close
+    !fail 6
+    !open => opened
+    merge => merged
+    commit => committed
+    merge => merged
+    find x => found 1: 1
+    add y => added 2
+    commit => refused disk
+    ",
+    // A find reads the page of the lists, which opening didn't: the text of 4,002 bytes begins at
+    // byte 17,444, in the page before. The read fails once, and the same find again is answered.
+    "
+    add {-*4000} x => added 1
+    commit => committed
+    !close
+    !fail 6 once
+    !open => opened
+    find x => refused disk
+    find x => found 1: 1
+    ",
+];
 
-/// Plays a session, of which the `k`th call below the page cache fails alone: each answer is as it is
-/// written, up to one that tells of the call. Whether there is none that does.
-fn is_past(alloc: Global, session: &str, k: u64) -> Result<bool, Fail> {
-    let script = format!(in alloc; "!pages 2\n!fail {k} once\n{SMALL}{session}")?;
-    match play(alloc, script.as_str()) {
+#[test]
+fn a_numbered_call_below_fails(rt: HostRuntime) -> Result<(), Fail> {
+    for session in NUMBERED {
+        play_on_pages(rt.alloc(), &[SMALL, session])?;
+    }
+    Ok(())
+}
+
+/// No store makes more calls of the device than these.
+const MOST_CALLS: u64 = 4_000;
+
+/// A script on a page cache, of which the `k`th call from an opening on fails alone: from the first
+/// opening or creation on for 0, else from that `!open`, counted from 1.
+fn planned(alloc: Global, script: &str, place: usize, k: u64) -> Result<String, AllocError> {
+    let mut whole = String::from_str(alloc, "!pages 2\n")?;
+    for (index, piece) in script.split("!open").enumerate() {
+        if index == place {
+            whole.push_str(format!(in alloc; "!fail {k} once\n")?.as_str())?;
+        }
+        if index > 0 {
+            whole.push_str("!open")?;
+        }
+        whole.push_str(piece)?;
+    }
+    Ok(whole)
+}
+
+/// Plays a script with a failing call: each answer is as it is written, up to one that tells of the
+/// call. Whether there is none that does.
+fn is_past(alloc: Global, script: &str, place: usize, k: u64) -> Result<bool, Fail> {
+    match play(alloc, planned(alloc, script, place, k)?.as_str()) {
         Ok(()) => Ok(true),
         Err(ScriptFault::Answer { line, answer }) => {
             if answer.as_str() == "disk" || answer.as_str() == "refused disk" {
@@ -25,30 +110,94 @@ fn is_past(alloc: Global, session: &str, k: u64) -> Result<bool, Fail> {
     }
 }
 
-/// Plays a session with each call of the device failing in its turn, up to one that goes through;
-/// whether one does. A session that has a failing call of its own is left out.
-fn is_played(alloc: Global, session: &str) -> Result<bool, Fail> {
-    if has_failing_call(&[session]) {
-        return Ok(true);
-    }
+/// Plays a script with each call from an opening on failing in its turn, up to one that goes
+/// through; whether one does, behind others that don't: each opening makes a call.
+fn is_played_from(alloc: Global, script: &str, place: usize) -> Result<bool, Fail> {
     for k in 1..MOST_CALLS {
-        if is_past(alloc, session, k)? {
-            return Ok(true);
+        if is_past(alloc, script, place, k)? {
+            return Ok(k > 1);
         }
     }
     Ok(false)
 }
 
+/// Plays a script with each call of the device failing in its turn; whether it goes through in the
+/// end, from each of its openings.
+fn is_whole_played(alloc: Global, script: &str) -> Result<bool, Fail> {
+    let openings = script.split("!open").count();
+    let first = usize::from(!script.contains("!create => created"));
+    for place in first..openings {
+        if !is_played_from(alloc, script, place)? {
+            return Ok(false);
+        }
+    }
+    Ok(true)
+}
+
+/// The same of the parts of a script, which follow one another. One that has a failing call of its
+/// own is left out.
+fn is_played(alloc: Global, parts: &[&str]) -> Result<bool, Fail> {
+    if has_failing_call(parts) {
+        return Ok(true);
+    }
+    let mut script = String::new(alloc);
+    for part in parts {
+        script.push_str(part)?;
+    }
+    is_whole_played(alloc, script.as_str())
+}
+
 #[test]
 fn a_failing_call_below_is_told(rt: HostRuntime) -> Result<(), Fail> {
+    let alloc = rt.alloc();
     for session in sessions::SESSIONS {
-        assert!(rt; is_played(rt.alloc(), session)?);
+        assert!(rt; is_played(alloc, &[SMALL, session])?);
     }
     for session in deletions::SESSIONS {
-        assert!(rt; is_played(rt.alloc(), session)?);
+        assert!(rt; is_played(alloc, &[SMALL, session])?);
     }
     for session in deletions::PLACES {
-        assert!(rt; is_played(rt.alloc(), session)?);
+        assert!(rt; is_played(alloc, &[SMALL, session])?);
+    }
+    assert!(rt; is_played(alloc, &[SMALL, KIND_1, BY_LISTS])?);
+    Ok(())
+}
+
+#[test]
+fn a_failing_call_below_a_disk_by_hand_is_told(rt: HostRuntime) -> Result<(), Fail> {
+    let alloc = rt.alloc();
+    for script in STORES {
+        assert!(rt; is_played(alloc, &[opening::SEGMENTS, opening::STORE, script])?);
+    }
+    for script in DISKS {
+        assert!(rt; is_played(alloc, &[script])?);
+    }
+    for (a, b, end) in BOTH {
+        let script = opening::over_both(alloc, a, b, end)?;
+        assert!(rt; is_whole_played(alloc, script.as_str())?);
+    }
+    for (generation, number, segment, end) in ENDS {
+        let script = opening::without_documents(alloc, generation, number, segment, end)?;
+        assert!(rt; is_whole_played(alloc, script.as_str())?);
+    }
+    for (list, length, told) in LISTS {
+        let script = lists::with_list(alloc, list, length, told)?;
+        assert!(rt; is_whole_played(alloc, script.as_str())?);
+    }
+    for answers in faults::ANSWERS {
+        assert!(rt; is_played(alloc, &[faults::READ, answers])?);
+    }
+    Ok(())
+}
+
+#[test]
+fn a_failing_call_below_many_documents_is_told(rt: HostRuntime) -> Result<(), Fail> {
+    let alloc = rt.alloc();
+    assert!(rt; is_whole_played(alloc, cached::session(alloc)?.as_str())?);
+    assert!(rt; is_whole_played(alloc, searching::session(alloc)?.as_str())?);
+    for (last, lines, end) in MANY {
+        let script = sessions::filled(alloc, last, lines, end)?;
+        assert!(rt; is_whole_played(alloc, script.as_str())?);
     }
     Ok(())
 }

@@ -13,11 +13,12 @@ const MOST_BYTES: u64 = 1_048_576;
 /// A disk in memory of which a call can fail.
 type Device = FaultDisk<MemoryDisk>;
 
-/// A store on a device, or on a page cache over one.
+/// A store on a device, on a page cache over one, or on a page cache over the disk itself.
 #[derive(Drop)]
 enum OpenStore {
     Bare(Store<Device>),
     Paged(Store<PageCache<Device>>),
+    Plain(Store<PageCache<MemoryDisk>>),
 }
 
 /// A disk, or the store that is open on it.
@@ -36,7 +37,8 @@ pub struct Player {
     blocks: u32,
     /// How many pages the page cache keeps at most that the next store is on; 0 where it is on none.
     pages: usize,
-    /// How many bytes were read between the last opening and the closing behind it.
+    /// How many bytes of a device were read between the last opening and the closing behind it, or
+    /// until it was handed back.
     bytes_read: u64,
 }
 
@@ -199,6 +201,7 @@ impl Player {
         match &mut self.store {
             Some(OpenStore::Bare(store)) => told(self.alloc, store, line),
             Some(OpenStore::Paged(store)) => told(self.alloc, store, line),
+            Some(OpenStore::Plain(store)) => told(self.alloc, store, line),
             None => String::from_str(self.alloc, "no store"),
         }
     }
@@ -242,54 +245,79 @@ impl Player {
         FaultDisk::new(disk, call)
     }
 
-    /// Makes a store on the disk, or opens the one there.
+    /// Makes a store on the disk, or opens the one there. A page cache is over the disk itself where
+    /// no call is to fail.
     fn put_store(&mut self, is_new: bool) -> &'static str {
         let Some(disk) = self.disk.take() else {
             return "no disk";
         };
+        if self.pages == 0 {
+            return self.put_bare(disk, is_new);
+        }
+        if self.failing == u64::MAX {
+            return self.put_plain(disk, is_new);
+        }
+        self.put_paged(disk, is_new)
+    }
+
+    /// A store on a device.
+    fn put_bare(&mut self, disk: MemoryDisk, is_new: bool) -> &'static str {
         let device = self.device(disk);
-        let made = if self.pages == 0 {
-            match store_on(self.alloc, device, self.blocks, is_new) {
-                Ok(store) => Ok(OpenStore::Bare(store)),
-                Err(refused) => Err(refused),
-            }
-        } else {
-            let cache = PageCache::new(self.alloc, device, self.pages);
-            match store_on(self.alloc, cache, self.blocks, is_new) {
-                Ok(store) => Ok(OpenStore::Paged(store)),
-                Err((cache, why)) => Err((cache.into_inner(), why)),
-            }
-        };
-        match made {
-            Ok(store) => {
-                self.store = Some(store);
-                if is_new { "created" } else { "opened" }
-            }
-            Err((device, why)) => self.take_back(device, why),
+        match store_on(self.alloc, device, self.blocks, is_new) {
+            Ok(store) => self.keep(OpenStore::Bare(store), is_new),
+            Err((device, why)) => self.take_device(device, why),
         }
     }
 
-    /// Keeps the disk that was handed back; the answer is `why`.
-    fn take_back(&mut self, device: Device, why: &'static str) -> &'static str {
-        self.disk = Some(device.into_inner());
+    /// A store on a page cache over a device.
+    fn put_paged(&mut self, disk: MemoryDisk, is_new: bool) -> &'static str {
+        let device = self.device(disk);
+        let cache = PageCache::new(self.alloc, device, self.pages);
+        match store_on(self.alloc, cache, self.blocks, is_new) {
+            Ok(store) => self.keep(OpenStore::Paged(store), is_new),
+            Err((cache, why)) => self.take_device(cache.into_inner(), why),
+        }
+    }
+
+    /// A store on a page cache over the disk itself.
+    fn put_plain(&mut self, disk: MemoryDisk, is_new: bool) -> &'static str {
+        let cache = PageCache::new(self.alloc, disk, self.pages);
+        match store_on(self.alloc, cache, self.blocks, is_new) {
+            Ok(store) => self.keep(OpenStore::Plain(store), is_new),
+            Err((cache, why)) => self.take_disk(cache.into_inner(), why),
+        }
+    }
+
+    /// Keeps a store that was made or opened.
+    fn keep(&mut self, store: OpenStore, is_new: bool) -> &'static str {
+        self.store = Some(store);
+        if is_new { "created" } else { "opened" }
+    }
+
+    /// Keeps the disk of a device that was handed back; the answer is `why`.
+    fn take_device(&mut self, device: Device, why: &'static str) -> &'static str {
+        self.bytes_read = device.bytes_read();
+        self.take_disk(device.into_inner(), why)
+    }
+
+    /// Keeps a disk that was handed back; the answer is `why`.
+    fn take_disk(&mut self, disk: MemoryDisk, why: &'static str) -> &'static str {
+        self.disk = Some(disk);
         why
     }
 
     /// Takes the disk of the store.
     fn close(&mut self) -> &'static str {
-        let Some(store) = self.store.take() else {
-            return "no store";
-        };
-        let device = match store {
-            OpenStore::Bare(store) => store.close(),
-            OpenStore::Paged(store) => store.close().into_inner(),
-        };
-        self.bytes_read = device.bytes_read();
-        self.disk = Some(device.into_inner());
-        ""
+        match self.store.take() {
+            Some(OpenStore::Bare(store)) => self.take_device(store.close(), ""),
+            Some(OpenStore::Paged(store)) => self.take_device(store.close().into_inner(), ""),
+            Some(OpenStore::Plain(store)) => self.take_disk(store.close().into_inner(), ""),
+            None => "no store",
+        }
     }
 
-    /// How many bytes were read between the last opening and the closing behind it.
+    /// How many bytes of a device were read between the last opening and the closing behind it, or
+    /// until it was handed back.
     pub fn bytes_read(&self) -> u64 {
         self.bytes_read
     }

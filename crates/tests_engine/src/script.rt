@@ -10,7 +10,7 @@
 //! | `!create`, `!open` | a store on the disk | `created`, `opened`, or why not |
 //! | `!close` | the disk of the store | |
 //! | `!blocks N` | stores keep `N` decoded blocks at most, from the next opening on; 0 at first | |
-//! | `!pages N` | stores are on a page cache of `N` pages, from the next opening on; on none for 0 |
+//! | `!pages N` | stores are on a page cache of `N` pages, from the next opening on; on none for 0 | |
 //! | `!fail K` | of the calls from the next opening on, the `K`th and all later ones fail | |
 //! | `!fail K once` | of those calls the `K`th fails, alone | |
 //! | `!crash B` | a crash that leaves the byte `B` at all open positions | |
@@ -39,7 +39,7 @@ impl From<AllocError> for ScriptFault {
 }
 
 /// The text with each `{c*n}` spelled out.
-fn spelled_out(alloc: Global, text: &str) -> Result<String, AllocError> {
+pub fn spelled_out(alloc: Global, text: &str) -> Result<String, AllocError> {
     let mut whole = String::new(alloc);
     for piece in text.split('}') {
         let (plain, repeated) = piece.split_once("{").unwrap_or((piece, ""));
@@ -64,11 +64,15 @@ fn play_line(alloc: Global, player: &mut Player, line: &str) -> Result<Option<St
     Ok(Some(answer))
 }
 
-/// Plays a script, up to the first line that is answered otherwise.
+/// Plays a script from the beginning, up to the first line that is answered otherwise.
 pub fn play(alloc: Global, script: &str) -> Result<(), ScriptFault> {
-    let mut player = Player::new(alloc);
+    play_on(alloc, &mut Player::new(alloc), script)
+}
+
+/// Plays a script on what a player has.
+pub fn play_on(alloc: Global, player: &mut Player, script: &str) -> Result<(), ScriptFault> {
     for (index, line) in script.lines().enumerate() {
-        if let Some(answer) = play_line(alloc, &mut player, line.trim())? {
+        if let Some(answer) = play_line(alloc, player, line.trim())? {
             let line = index.saturating_add(1);
             return Err(ScriptFault::Answer { line, answer });
         }
@@ -76,29 +80,20 @@ pub fn play(alloc: Global, script: &str) -> Result<(), ScriptFault> {
     Ok(())
 }
 
-/// What changes no answer: how many decoded blocks stores keep, and how many pages a page cache below
-/// them keeps.
-const SETTINGS: [&str; 6] = [
-    "",
-    "!blocks 1\n",
-    "!blocks 2\n",
-    "!blocks 256\n",
-    "!pages 1\n",
-    "!blocks 2\n!pages 64\n",
-];
+/// How many decoded blocks stores keep, which changes no answer.
+pub const BLOCKS: [&str; 4] = ["", "!blocks 1\n", "!blocks 2\n", "!blocks 256\n"];
+
+/// How many pages a page cache below them keeps, which changes no answer either.
+const PAGES: [&str; 2] = ["!pages 1\n", "!blocks 2\n!pages 64\n"];
 
 /// Whether a call of the device is to fail in one of the parts. On a page cache it is another call.
 pub fn has_failing_call(parts: &[&str]) -> bool {
     parts.iter().any(|part| part.contains("!fail"))
 }
 
-/// Plays parts of a script that follow one another, once for each of the settings; without those of
-/// page caches where a call of the device is to fail.
-pub fn play_in_each_setting(alloc: Global, parts: &[&str]) -> Result<(), ScriptFault> {
-    for setting in SETTINGS {
-        if setting.contains("!pages") && has_failing_call(parts) {
-            continue;
-        }
+/// Plays parts of a script that follow one another, once behind each of the settings.
+fn play_behind(alloc: Global, settings: &[&str], parts: &[&str]) -> Result<(), ScriptFault> {
+    for setting in settings {
         let mut script = String::from_str(alloc, setting)?;
         for part in parts {
             script.push_str(part)?;
@@ -108,11 +103,18 @@ pub fn play_in_each_setting(alloc: Global, parts: &[&str]) -> Result<(), ScriptF
     Ok(())
 }
 
-/// Plays parts of a script that follow one another.
-pub fn play_parts(alloc: Global, parts: &[&str]) -> Result<(), ScriptFault> {
-    let mut script = String::new(alloc);
-    for part in parts {
-        script.push_str(part)?;
+/// Plays parts of a script that follow one another, on page caches alone: for one in which a call
+/// below them is to fail.
+pub fn play_on_pages(alloc: Global, parts: &[&str]) -> Result<(), ScriptFault> {
+    play_behind(alloc, &PAGES, parts)
+}
+
+/// Plays parts of a script that follow one another, in stores that keep decoded blocks and that
+/// keep none; on page caches, too, where no call of the device is to fail.
+pub fn play_in_each_setting(alloc: Global, parts: &[&str]) -> Result<(), ScriptFault> {
+    play_behind(alloc, &BLOCKS, parts)?;
+    if has_failing_call(parts) {
+        return Ok(());
     }
-    play(alloc, script.as_str())
+    play_on_pages(alloc, parts)
 }

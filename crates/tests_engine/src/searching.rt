@@ -109,9 +109,8 @@ fn ask(alloc: Global, script: &mut String, place: usize) -> Result<(), AllocErro
     Ok(())
 }
 
-#[test]
-fn each_query_finds_its_documents(rt: HostRuntime) -> Result<(), Fail> {
-    let alloc = rt.alloc();
+/// The whole session.
+pub fn session(alloc: Global) -> Result<String, AllocError> {
     let mut script = String::from_str(alloc, STORE)?;
     for n in 7..=LAST {
         add(&mut script, n)?;
@@ -127,6 +126,12 @@ fn each_query_finds_its_documents(rt: HostRuntime) -> Result<(), Fail> {
     for place in 0..12 {
         ask(alloc, &mut script, place)?;
     }
-    play_in_each_setting(alloc, &[script.as_str()])?;
+    Ok(script)
+}
+
+#[test]
+fn each_query_finds_its_documents(rt: HostRuntime) -> Result<(), Fail> {
+    let alloc = rt.alloc();
+    play_in_each_setting(alloc, &[session(alloc)?.as_str()])?;
     Ok(())
 }

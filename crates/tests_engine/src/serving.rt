@@ -1,7 +1,7 @@
 //! Whole inputs of the shell, and readers, writers and memory that give out.
 ghost use Rattle.std.specs.Prelude.{◌≤◌};
 
-use crate::calls::new_store;
+use crate::calls::{BLOCKS, PAGES, new_store, store_on_pages, store_with_blocks};
 use pk_disk::{Disk, MemoryDisk};
 use pk_model::DocNo;
 use pk_shell::{Ended, ShellFault, serve};
@@ -92,10 +92,26 @@ const INPUTS: [(&[u8], &str, Ended); 6] = [
     ),
 ];
 
-/// Whether a reader's input is answered so by a new store.
-fn is_answered<R: Read>(
+/// Whether a reader's input is answered so by a store.
+fn is_answered_by<R: Read, D: Disk>(
     alloc: Global,
     mut input: R,
+    replies: &str,
+    end: Result<Ended, ShellFault>,
+    store: &mut Store<D>,
+) -> bool
+where
+    R: Drop,
+{
+    let mut output = Vec::new(alloc);
+    let ended = serve(alloc, &mut input, &mut output, store);
+    ended == end && output.as_slice() == replies.as_bytes()
+}
+
+/// Whether it is by a new store.
+fn is_answered<R: Read>(
+    alloc: Global,
+    input: R,
     replies: &str,
     end: Result<Ended, ShellFault>,
 ) -> Result<bool, Fail>
@@ -103,9 +119,7 @@ where
     R: Drop,
 {
     let mut store = new_store(alloc)?;
-    let mut output = Vec::new(alloc);
-    let ended = serve(alloc, &mut input, &mut output, &mut store);
-    Ok(ended == end && output.as_slice() == replies.as_bytes())
+    Ok(is_answered_by(alloc, input, replies, end, &mut store))
 }
 
 // The cuts of the reader don't matter.
@@ -113,7 +127,16 @@ where
 fn whole_inputs_are_answered(rt: HostRuntime) -> Result<(), Fail> {
     let alloc = rt.alloc();
     for (bytes, replies, end) in INPUTS {
-        assert!(rt; is_answered(alloc, bytes, replies, Ok(end))?, "{replies}");
+        for blocks in BLOCKS {
+            let mut store = store_with_blocks(alloc, blocks)?;
+            let is_good = is_answered_by(alloc, bytes, replies, Ok(end), &mut store);
+            assert!(rt; is_good, "{replies}");
+        }
+        for pages in PAGES {
+            let mut store = store_on_pages(alloc, pages)?;
+            let is_good = is_answered_by(alloc, bytes, replies, Ok(end), &mut store);
+            assert!(rt; is_good, "{replies}");
+        }
         let pieces = ByteByByte {
             bytes,
             fails: false,

@@ -1,6 +1,6 @@
 //! Worked sessions, and the limits of texts, lines, queries, numbers and stores.
 
-use crate::script::{ScriptFault, play, play_in_each_setting, play_parts};
+use crate::script::{ScriptFault, play, play_in_each_setting};
 use std::alloc::{AllocError, Global};
 use std::test::Fail;
 
@@ -252,7 +252,7 @@ fn sessions_go_as_written(rt: HostRuntime) -> Result<(), Fail> {
 }
 
 /// The last number, lines for each number from 1 to it, and the lines behind them.
-const MANY: [(u32, &str, &str); 3] = [
+pub const MANY: [(u32, &str, &str); 3] = [
     // 64 segments. Without a document a commit isn't refused, and a merge makes room.
     (
         64,
@@ -329,17 +329,20 @@ const MANY: [(u32, &str, &str); 3] = [
     ),
 ];
 
-/// Plays the lines for each number, and those behind them, on a new store.
-fn play_many(alloc: Global, last: u32, lines: &str, end: &str) -> Result<(), Fail> {
-    let filled = for_each(alloc, last, lines)?;
-    play_parts(alloc, &[LARGE, filled.as_str(), end])?;
-    Ok(())
+/// The lines for each number, and those behind them, on a new store.
+pub fn filled(alloc: Global, last: u32, lines: &str, end: &str) -> Result<String, AllocError> {
+    let mut whole = String::from_str(alloc, LARGE)?;
+    whole.push_str(for_each(alloc, last, lines)?.as_str())?;
+    whole.push_str(end)?;
+    Ok(whole)
 }
 
 #[test]
 fn stores_are_filled_up(rt: HostRuntime) -> Result<(), Fail> {
+    let alloc = rt.alloc();
     for (last, lines, end) in MANY {
-        play_many(rt.alloc(), last, lines, end)?;
+        let script = filled(alloc, last, lines, end)?;
+        play_in_each_setting(alloc, &[script.as_str()])?;
     }
     Ok(())
 }

@@ -47,7 +47,7 @@ const LINES: [&str; 28] = [
 const QUESTIONS: [&str; 4] = ["find red", "find apple", "find NOT red", "count"];
 
 /// No more calls of the device are made than these.
-const MOST_CALLS: u64 = 400;
+const MOST_CALLS: u64 = 2_000;
 
 /// The bytes of the disk, of 64 units.
 const SIZE: usize = 32_768;

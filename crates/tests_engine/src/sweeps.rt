@@ -1,10 +1,11 @@
 //! Sweeps: sessions in which one call of the device fails, each call in its turn, and then a crash.
 
-use crate::script::play_parts;
+use crate::script::play_in_each_setting;
 use std::alloc::Global;
 use std::test::Fail;
 
 /// Sessions that meet a failing call, which is any from `first` to `last`.
+#[derive(Clone, Copy)]
 pub struct Sweep {
     /// What goes before the opening that the calls are counted from.
     pub before: &'static str,
@@ -38,22 +39,27 @@ const CRASHES: [(&str, bool); 4] = [
 ];
 
 /// Plays the sessions of a sweep whose failing call is the `k`th, each with each crash.
-fn play_call(alloc: Global, sweep: &Sweep, k: u64) -> Result<(), Fail> {
+fn play_call(alloc: Global, pages: &str, sweep: &Sweep, k: u64) -> Result<(), Fail> {
     for how in sweep.how {
-        let plan = format!(in alloc; "!fail {k}{how}\n")?;
+        let plan = format!(in alloc; "{pages}!fail {k}{how}\n")?;
         for (crash, opens) in CRASHES {
             let left = if opens { sweep.open } else { sweep.shut };
             let parts = [sweep.before, plan.as_str(), sweep.session, crash, left];
-            play_parts(alloc, &parts)?;
+            play_in_each_setting(alloc, &parts)?;
         }
+    }
+    Ok(())
+}
+
+/// Plays a sweep on page caches, as a line `!pages` says.
+pub fn play_sweep_on_pages(alloc: Global, pages: &str, sweep: &Sweep) -> Result<(), Fail> {
+    for k in sweep.first..=sweep.last {
+        play_call(alloc, pages, sweep, k)?;
     }
     Ok(())
 }
 
 /// Plays a sweep.
 pub fn play_sweep(alloc: Global, sweep: &Sweep) -> Result<(), Fail> {
-    for k in sweep.first..=sweep.last {
-        play_call(alloc, sweep, k)?;
-    }
-    Ok(())
+    play_sweep_on_pages(alloc, "", sweep)
 }

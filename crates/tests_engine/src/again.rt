@@ -1,0 +1,265 @@
+//! A call of the device that fails once, each in its turn: a line that is refused for a read is done
+//! when it is asked again. The numbers of the calls are nowhere told.
+
+use crate::player::Player;
+use crate::script::{ScriptFault, play_on, spelled_out};
+use std::alloc::{AllocError, Global};
+use std::test::Fail;
+
+/// Lines that change no answer of one another: finds, shows, counts and merges.
+struct Round {
+    /// What goes before the opening.
+    before: &'static str,
+    /// From the opening on.
+    session: &'static str,
+    /// What is there in the end, after a crash.
+    left: &'static str,
+}
+
+const ROUNDS: [Round; 3] = [
+    // Three segments, of which one has a deletion list, are merged.
+    Round {
+        before: "
+            !disk 32768
+            !create => created
+            add red apple => added 1
+            add red pear => added 2
+            commit => committed
+            add green apple => added 3
+            commit => committed
+            delete 1 => deleted 1
+            commit => committed
+            !close
+        ",
+        session: "
+            !open => opened
+            find red => found 1: 2
+            find apple => found 1: 3
+            find NOT red => found 1: 3
+            merge => merged
+            find red => found 1: 2
+            find apple => found 1: 3
+            find NOT red => found 1: 3
+            merge => merged
+            count => count 2 next 4
+        ",
+        left: "
+            !open => opened
+            find red => found 1: 2
+            find apple => found 1: 3
+            find NOT red => found 1: 3
+            count => count 2 next 4
+        ",
+    },
+    // Texts that are longer than a page, and than what is read at a time.
+    Round {
+        before: "
+            !disk 131072
+            !create => created
+            add red {-*9000} => added 1
+            add green {+*5000} => added 2
+            commit => committed
+            add red {/*7000} => added 3
+            add red => added 4
+            commit => committed
+            delete 4 => deleted 4
+            commit => committed
+            !close
+        ",
+        session: "
+            !open => opened
+            find red => found 2: 1 3
+            merge => merged
+            find red => found 2: 1 3
+            show 2 => text green {+*5000}
+            count => count 3 next 5
+        ",
+        left: "
+            !open => opened
+            find red => found 2: 1 3
+            show 1 => text red {-*9000}
+            show 2 => text green {+*5000}
+            show 3 => text red {/*7000}
+            count => count 3 next 5
+        ",
+    },
+    // A tidy merges eight of nine segments, the first of which is the longest.
+    Round {
+        before: "
+            !disk 65536
+            !create => created
+            add red {-*3000} => added 1
+            commit => committed
+            add red => added 2
+            commit => committed
+            add green => added 3
+            commit => committed
+            add red => added 4
+            commit => committed
+            add green => added 5
+            commit => committed
+            add red => added 6
+            commit => committed
+            add green => added 7
+            commit => committed
+            add red => added 8
+            commit => committed
+            add green => added 9
+            commit => committed
+            delete 4 => deleted 4
+            commit => committed
+            !close
+        ",
+        session: "
+            !open => opened
+            find red => found 4: 1 2 6 8
+            find NOT red => found 4: 3 5 7 9
+            tidy => tidied
+            find red => found 4: 1 2 6 8
+            find NOT red => found 4: 3 5 7 9
+            tidy => tidied
+            count => count 8 next 10
+        ",
+        left: "
+            !open => opened
+            find red => found 4: 1 2 6 8
+            find NOT red => found 4: 3 5 7 9
+            count => count 8 next 10
+        ",
+    },
+];
+
+/// Stores that keep no decoded block, and one; on a page cache of one page.
+const SETTINGS: [&str; 3] = ["!blocks 0\n", "!blocks 1\n", "!pages 1\n"];
+
+/// No session makes more calls of the device than these.
+const MOST_CALLS: u64 = 2_000;
+
+/// What a session met.
+#[derive(Clone, Copy, Default)]
+struct Met {
+    /// Whether a line was refused for the failing call.
+    fault: bool,
+    /// Whether that was an opening, or a merge or a tidy.
+    in_opening: bool,
+    in_merge: bool,
+    /// Whether the store was to be opened again.
+    reopen: bool,
+}
+
+/// Whether an answer tells of a call that failed.
+fn is_fault(answer: &str) -> bool {
+    answer == "disk" || answer == "refused disk"
+}
+
+/// What a line is answered. One that is refused for the failing call is asked again, where the store
+/// is to be opened again behind an opening.
+fn answer_of(player: &mut Player, asked: &str, met: &mut Met) -> Result<String, AllocError> {
+    let answer = player.answer(asked)?;
+    if !is_fault(answer.as_str()) {
+        return Ok(answer);
+    }
+    met.fault = true;
+    met.in_opening = asked == "!open";
+    met.in_merge = asked == "merge" || asked == "tidy";
+    let again = player.answer(asked)?;
+    if again.as_str() != "refused reopen" {
+        return Ok(again);
+    }
+    met.reopen = true;
+    let _ = player.answer("!close")?;
+    let _ = player.answer("!open")?;
+    player.answer(asked)
+}
+
+/// Plays a session in which a call may fail once, and tells what it met.
+fn play_session(alloc: Global, player: &mut Player, session: &str) -> Result<Met, ScriptFault> {
+    let mut met = Met::default();
+    for (index, line) in session.lines().enumerate() {
+        let (asked, wanted) = line.trim().split_once(" => ").unwrap_or(("", ""));
+        if asked.is_empty() {
+            continue;
+        }
+        let answer = answer_of(player, asked, &mut met)?;
+        if answer.as_str() != spelled_out(alloc, wanted)?.as_str() {
+            let line = index.saturating_add(1);
+            return Err(ScriptFault::Answer { line, answer });
+        }
+    }
+    Ok(met)
+}
+
+/// A player with what goes before the opening, of which the `k`th call is to fail.
+fn player_of(
+    alloc: Global,
+    setting: &str,
+    before: &str,
+    k: u64,
+    how: &str,
+) -> Result<Player, ScriptFault> {
+    let mut player = Player::new(alloc);
+    play_on(alloc, &mut player, setting)?;
+    play_on(alloc, &mut player, before)?;
+    play_on(
+        alloc,
+        &mut player,
+        format!(in alloc; "!fail {k}{how}")?.as_str(),
+    )?;
+    Ok(player)
+}
+
+/// Plays a round whose `k`th call fails once.
+fn play_round(alloc: Global, setting: &str, round: &Round, k: u64) -> Result<Met, ScriptFault> {
+    let mut player = player_of(alloc, setting, round.before, k, " once")?;
+    let met = play_session(alloc, &mut player, round.session)?;
+    play_on(alloc, &mut player, "!close\n!crash A7\n")?;
+    play_on(alloc, &mut player, round.left)?;
+    Ok(met)
+}
+
+/// How many bytes the calls before the `k`th read, up to the line that this one fails in.
+fn read_before(alloc: Global, setting: &str, round: &Round, k: u64) -> Result<u64, ScriptFault> {
+    let mut player = player_of(alloc, setting, round.before, k, "")?;
+    for line in round.session.lines() {
+        let (asked, _) = line.trim().split_once(" => ").unwrap_or(("", ""));
+        if !asked.is_empty() && is_fault(player.answer(asked)?.as_str()) {
+            break;
+        }
+    }
+    let _ = player.answer("!close")?;
+    Ok(player.bytes_read())
+}
+
+/// Plays a round with each call failing once in its turn, up to a session that meets none; whether
+/// there is one. An open store is to be opened again behind a write or a sync, and behind no read;
+/// of a merge some read failed.
+fn is_done_again(alloc: Global, setting: &str, round: &Round) -> Result<bool, ScriptFault> {
+    let mut refused_merges = 0u64;
+    let mut read = 0u64;
+    for k in 1..MOST_CALLS {
+        let met = play_round(alloc, setting, round, k)?;
+        if !met.fault {
+            return Ok(refused_merges > 0);
+        }
+        let further = read_before(alloc, setting, round, k.saturating_add(1))?;
+        let is_read = further > read;
+        read = further;
+        if met.reopen == is_read && !met.in_opening {
+            return Ok(false);
+        }
+        if met.in_merge && is_read {
+            refused_merges = refused_merges.saturating_add(1);
+        }
+    }
+    Ok(false)
+}
+
+#[test]
+fn a_refused_line_is_done_again(rt: HostRuntime) -> Result<(), Fail> {
+    for round in &ROUNDS {
+        for setting in SETTINGS {
+            assert!(rt; is_done_again(rt.alloc(), setting, round)?, "{setting}");
+        }
+    }
+    Ok(())
+}
