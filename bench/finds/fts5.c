@@ -1,7 +1,7 @@
 /* SQLite FTS5 as a peer over a pipe: a base in a file is asked a line each, and answers as the
    program does.
-     fts5 PATH
-   A line is an expression of FTS5; with `!` before it, what the expression does not match. */
+     fts5 ask PATH    a line is an expression of FTS5; with `!` before it, what it does not match
+     fts5 merge PATH  at each line the index becomes one, made lasting, and `merged` is answered */
 #include <sqlite3.h>
 #include <stdio.h>
 #include <stdlib.h>
@@ -12,6 +12,8 @@ static const char matching[] =
 static const char others[] =
     "SELECT rowid FROM documents EXCEPT SELECT rowid FROM documents WHERE documents MATCH ?"
     " ORDER BY rowid";
+static const char optimizing[] = "INSERT INTO documents(documents) VALUES ('optimize')";
+static char line[1 << 16];
 
 static void stop(sqlite3 *base)
 {
@@ -33,13 +35,10 @@ static char *put(char *at, sqlite3_int64 number)
     return at;
 }
 
-int main(int argc, char **argv)
+static void ask(sqlite3 *base)
 {
-    static char line[1 << 16], numbers[1 << 24];
-    sqlite3 *base;
+    static char numbers[1 << 24];
     sqlite3_stmt *match, *other;
-    if (argc != 2 || sqlite3_open_v2(argv[1], &base, SQLITE_OPEN_READONLY, NULL))
-        return 2;
     if (sqlite3_prepare_v2(base, matching, -1, &match, NULL)
         || sqlite3_prepare_v2(base, others, -1, &other, NULL))
         stop(base);
@@ -59,5 +58,29 @@ int main(int argc, char **argv)
         fwrite(numbers, 1, end - numbers, stdout);
         fflush(stdout);
     }
+}
+
+static void merge(sqlite3 *base)
+{
+    if (sqlite3_exec(base, "PRAGMA journal_mode=DELETE; PRAGMA synchronous=FULL", NULL, NULL, NULL))
+        stop(base);
+    while (fgets(line, sizeof line, stdin)) {
+        if (sqlite3_exec(base, optimizing, NULL, NULL, NULL))
+            stop(base);
+        puts("merged");
+        fflush(stdout);
+    }
+}
+
+int main(int argc, char **argv)
+{
+    sqlite3 *base;
+    const int merging = argc == 3 && !strcmp(argv[1], "merge");
+    const int flags = merging ? SQLITE_OPEN_READWRITE : SQLITE_OPEN_READONLY;
+    if (argc != 3 || (!merging && strcmp(argv[1], "ask")))
+        return 2;
+    if (sqlite3_open_v2(argv[2], &base, flags, NULL))
+        stop(base);
+    (merging ? merge : ask)(base);
     return 0;
 }

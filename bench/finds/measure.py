@@ -21,7 +21,7 @@ import time
 import unicodedata
 
 sys.path.insert(0, str(pathlib.Path(__file__).parent.parent / "store"))
-from peers import BATCH, Fts5, Program  # noqa: E402
+from peers import BATCH, Fts5, Program, Xapian, merged, segments  # noqa: E402
 
 # How long a query is asked before it is timed and, 51 times at least, while it is.
 WARM = 0.05
@@ -101,7 +101,7 @@ def classes(rare, tenth, other, half, most):
 
 def fill(program, texts, folder):
     """The texts in a store, a base and a database."""
-    store, base, xapian = f"{folder}/store", f"{folder}/base", f"{folder}/database"
+    store, base = f"{folder}/store", f"{folder}/base"
     for path in (store, base):
         pathlib.Path(path).unlink(missing_ok=True)
     Program.create(program, store, max(4_096, 4 * len(texts)))
@@ -114,23 +114,25 @@ def fill(program, texts, folder):
     fts5.fill(texts)
     fts5.close()
     if os.path.exists(f"{folder}/xapian"):
-        lines = "".join(f"{text}\n" for text in texts).encode()
-        subprocess.run([f"{folder}/xapian", "fill", xapian], input=lines, check=True)
+        Xapian(f"{folder}/xapian", f"{folder}/database").fill(texts)
 
 
 def merge(program, folder):
     """The same in one segment, one level and one table."""
-    session = Program(program, f"{folder}/store")
-    session.expect("merge", "merged")
-    session.close()
-    fts5 = Fts5(f"{folder}/base")
-    fts5.base.execute("INSERT INTO documents(documents) VALUES ('optimize')")
-    fts5.close()
+    merged(program, "run", f"{folder}/store")
+    merged(f"{folder}/fts5", "merge", f"{folder}/base")
     if os.path.exists(f"{folder}/xapian"):
         shutil.rmtree(f"{folder}/compact", ignore_errors=True)
-        subprocess.run(
-            [f"{folder}/xapian", "compact", f"{folder}/database", f"{folder}/compact"], check=True
-        )
+        merged(f"{folder}/xapian", "merge", f"{folder}/database", f"{folder}/compact")
+
+
+def show_sizes(folder):
+    """Prints how many bytes the segments have, and FTS5's pages."""
+    ours = sum(segments(f"{folder}/store"))
+    base = Fts5(f"{folder}/base")
+    theirs = base.used_bytes()
+    base.close()
+    print(f"\nSegments: {ours:,} bytes; pages of FTS5: {theirs:,} bytes; {ours / theirs:.3f}")
 
 
 def timed(peer, line):
@@ -151,7 +153,7 @@ def ask_all(program, folder, finds, database):
     """For each class the times of program, FTS5 and Xapian, and the numbers that were found."""
     peers = [
         (Peer(program, "run", f"{folder}/store"), lambda find: f"find {find[1]}\n"),
-        (Peer(f"{folder}/fts5", f"{folder}/base"), lambda find: f"{find[2]}\n"),
+        (Peer(f"{folder}/fts5", "ask", f"{folder}/base"), lambda find: f"{find[2]}\n"),
     ]
     if os.path.exists(f"{folder}/xapian"):
         asking = Peer(f"{folder}/xapian", "ask", f"{folder}/{database}")
@@ -219,8 +221,10 @@ def main():
         f" {time.strftime('%Y-%m-%d')}; load {os.getloadavg()[0]:.1f} on {os.cpu_count()} processors"
     )
     least = limits([cut(text)[0] for text in texts], finds, folder)
+    show_sizes(folder)
     show(f"As they were filled, by {-(-len(texts) // BATCH)} commits:", ask_all(program, folder, finds, "database"), least, folder)
     merge(program, folder)
+    show_sizes(folder)
     show("Merged into one:", ask_all(program, folder, finds, "compact"), least, folder)
     pipe = Peer("cat")
     spent, _ = timed(pipe, f"find {finds[0][1]}\n".encode())

@@ -7,10 +7,8 @@ program=${1:?name the program}
 here=$(dirname "$0")
 data=$here/data
 text=$("$here/../store/lines.sh" "${2:-100000}") || exit 1
-mkdir -p "$data" || exit 1
+"$here/peers.sh" "$data" || exit 1
 cc -O3 -march=native "$here/limit.c" "$here/../posting/kernels.c" -o "$data/limit" || exit 1
-cc -O2 "$here/fts5.c" -lsqlite3 -o "$data/fts5" || exit 1
-c++ -O2 "$here/xapian.cc" -lxapian -o "$data/xapian" || rm -f "$data/xapian"
 python3 "$here/measure.py" "$program" "$text" "$data" || exit 1
 if [ -n "$3" ]; then
     gnuplot -e "table='$data/table'; picture='$3'" "$here/picture.gnuplot"

@@ -1,9 +1,10 @@
 // Xapian as a peer over a pipe.
 //   xapian fill PATH       makes a database of the lines of its input, committed each 4,096
-//   xapian compact PATH TO copies it to one compact table
+//   xapian delete PATH     deletes the documents of the numbers in its input, and commits
+//   xapian merge PATH TO   at each line copies it to compact tables, synced, and answers `merged`
 //   xapian ask PATH        answers a line each, as the program does
-// A line has words and AND, OR, NOT behind what they join: `a b AND`; NOT takes the second from the
-// first, and `*` is every document.
+// A line to ask has words and AND, OR, NOT behind what they join: `a b AND`; NOT takes the second
+// from the first, and `*` is every document.
 #include <cctype>
 #include <iostream>
 #include <set>
@@ -40,6 +41,24 @@ static void fill(const char *path)
             base.commit();
     }
     base.commit();
+}
+
+static void erase(const char *path)
+{
+    Xapian::WritableDatabase base(path);
+    Xapian::docid number;
+    while (std::cin >> number)
+        base.delete_document(number);
+    base.commit();
+}
+
+static void merge(const char *path, const char *to)
+{
+    std::string line;
+    while (std::getline(std::cin, line)) {
+        Xapian::Database(path).compact(std::string(to));
+        std::cout << "merged" << std::endl;
+    }
 }
 
 static Xapian::Query query_of(const std::string &line)
@@ -87,8 +106,10 @@ int main(int argc, char **argv)
     std::ios::sync_with_stdio(false);
     if (task == "fill")
         fill(argv[2]);
-    else if (task == "compact" && argc == 4)
-        Xapian::Database(argv[2]).compact(argv[3]);
+    else if (task == "delete")
+        erase(argv[2]);
+    else if (task == "merge" && argc == 4)
+        merge(argv[2], argv[3]);
     else if (task == "ask")
         ask(argv[2]);
     else

@@ -131,11 +131,13 @@ def processor():
     return platform.processor()
 
 
-def row(what, figures, form, unit=1.0):
-    """A line of the table: the figures, and the first by each of the others."""
+def row(what, figures, form, unit=1.0, peers=2):
+    """A line of the table: the figures, and the first by each of the others; the last peers of the
+    table may have none."""
     ours, *others = figures
-    told = [f"{figure * unit:{form}}" for figure in figures] + ["-"] * (2 - len(others))
-    ratios = [f"{ours / other:.2f}" for other in others] + ["-"] * (2 - len(others))
+    absent = ["-"] * (peers - len(others))
+    told = [f"{figure * unit:{form}}" for figure in figures] + absent
+    ratios = [f"{ours / other:.2f}" for other in others] + absent
     print("| " + " | ".join([what, *told, *ratios]) + " |", flush=True)
 
 

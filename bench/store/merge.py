@@ -1,100 +1,177 @@
-"""Measures a merge beside a copy of the same file with a sync.
+"""Measures a merge beside SQLite FTS5's optimize, Xapian's compact, and a copy of as many bytes.
 
     merge.py PROGRAM LINES [RUNS]
 
-LINES has a text a line. The program takes all of them into a store in a file, each 4,096 committed
-as a segment of their own, deletes every tenth document and commits that. In each run that file is
-copied and the copy synced (`cp`, then `sync FILE`), which is the peer; then the program opens the
-copy, in a new process, and merges it. The clock of the merge runs from the line to its reply.
+LINES has a text a line; its folder has the peers fts5 and, where it could be built, xapian. Each
+side takes all texts, each 4,096 made lasting, deletes every tenth document and makes that lasting.
+Then it merges what it has, each time anew, in a new process, whose clock runs from its start to its
+reply; the sides take turns in going first. Of what the last merge made every tenth document is
+deleted again, and that is merged too, one segment with dead documents.
 """
 
 import os
 import pathlib
+import shutil
+import sqlite3
 import statistics
 import subprocess
 import sys
 import tempfile
 import time
 
-from measure import pick_words, processor
-from peers import BATCH, Program, size_on_disk
+from measure import pick_words, processor, row
+from peers import UNIT, Fts5, Program, Xapian, merged, segments
 
 DELETED_EACH = 10
-UNIT = 512
+# What is found has to be the same after a merge, whichever words are asked.
+PICKED_FROM = 10_000
 
 
-def delete(session, count):
-    """Deletes every tenth document, and commits."""
-    for number in range(DELETED_EACH, count + 1, DELETED_EACH):
-        session.expect(f"delete {number}", f"deleted {number}")
-    session.expect("commit", "committed")
+class Side:
+    """What was filled, at `path`, and what a merge makes of it, at `target`."""
+
+    def __init__(self, program, folder):
+        self.program = program
+        self.path, self.target = f"{folder}/{self.name}", f"{folder}/{self.name}.merged"
+
+    def delete(self, numbers):
+        """The seconds of deletions that are made lasting."""
+        session = self.open(self.path)
+        start = time.perf_counter()
+        session.delete(numbers)
+        seconds = time.perf_counter() - start
+        session.close()
+        return seconds
+
+    def answers(self, path, words):
+        """How many documents there are, and how many have each word."""
+        session = self.open(path)
+        told = [session.count()] + [session.find(word) for word in words]
+        session.close()
+        return told
+
+    def go_on(self):
+        """Puts what the merge made in the place of what was filled."""
+        if os.path.isdir(self.path):
+            shutil.rmtree(self.path)
+        os.replace(self.target, self.path)
 
 
-def make_store(program, path, texts):
-    """A store of the texts with their deletions, and with room for the merge."""
-    written = sum(len(text.encode()) + 12 for text in texts)
-    Program.create(program, path, 3 * written // UNIT + 4_096)
-    session = Program(program, path)
-    session.fill(texts)
-    session.close()
-    session = Program(program, path)
+class Store(Side):
+    """The program's side."""
+
+    name = "program"
+
+    def open(self, path):
+        return Program(self.program, path)
+
+    def fill(self, texts):
+        """A store with the texts, and with room for a merge."""
+        written = sum(len(text.encode()) + 12 for text in texts)
+        Program.create(self.program, self.path, 3 * written // UNIT + 4_096)
+        session = self.open(self.path)
+        session.fill(texts)
+        session.close()
+
+    def merge(self):
+        subprocess.run(["cp", self.path, self.target], check=True)
+        return merged(self.program, "run", self.target)
+
+    def made(self):
+        return sum(segments(self.target))
+
+
+class Base(Side):
+    """FTS5's side. Its optimize makes its index one and leaves the texts where they are."""
+
+    name = "FTS5"
+
+    def open(self, path):
+        return Fts5(path)
+
+    def fill(self, texts):
+        base = self.open(self.path)
+        base.create()
+        base.fill(texts)
+        base.close()
+
+    def merge(self):
+        subprocess.run(["cp", self.path, self.target], check=True)
+        return merged(self.program, "merge", self.target)
+
+    def made(self):
+        base = self.open(self.target)
+        size = base.index_bytes()
+        base.close()
+        return size
+
+
+class Database(Side):
+    """Xapian's side. Its compact makes a new database beside the one that it reads."""
+
+    name = "Xapian"
+
+    def open(self, path):
+        return Xapian(self.program, path)
+
+    def fill(self, texts):
+        self.open(self.path).fill(texts)
+
+    def merge(self):
+        shutil.rmtree(self.target, ignore_errors=True)
+        return merged(self.program, "merge", self.path, self.target)
+
+    def made(self):
+        return sum(file.stat().st_size for file in pathlib.Path(self.target).iterdir())
+
+
+def copy(path, size):
+    """Seconds to copy the first bytes of a file and to sync the copy."""
+    target = f"{path}.copy"
+    os.sync()
     start = time.perf_counter()
-    delete(session, len(texts))
+    command = ["dd", f"if={path}", f"of={target}", "bs=1M", f"count={size}", "iflag=count_bytes"]
+    subprocess.run([*command, "conv=fsync", "status=none"], check=True)
     seconds = time.perf_counter() - start
-    session.close()
+    os.remove(target)
     return seconds
 
 
-def copy(source, target):
-    """Seconds to copy a file and to sync the copy."""
-    os.sync()
-    start = time.perf_counter()
-    subprocess.run(["cp", source, target], check=True)
-    subprocess.run(["sync", target], check=True)
-    return time.perf_counter() - start
-
-
-def peak_memory(session):
-    """The most bytes of memory that the process of a session has had so far."""
-    for line in pathlib.Path(f"/proc/{session.process.pid}/status").read_text().splitlines():
-        if line.startswith("VmHWM:"):
-            return 1_024 * int(line.split()[1])
-    raise SystemExit("measure: the system doesn't tell the memory of a process")
-
-
-def merge(program, path, words):
-    """Seconds of a merge, and the most memory before it and after it."""
-    session = Program(program, path)
-    before = [session.count()] + [session.find(word) for word in words]
-    opened = peak_memory(session)
-    os.sync()
-    start = time.perf_counter()
-    session.expect("merge", "merged")
-    seconds = time.perf_counter() - start
-    merged = peak_memory(session)
-    after = [session.count()] + [session.find(word) for word in words]
-    if before != after:
+def measure(sides, words, runs):
+    """Seconds and memory of each side's merges, and the seconds of copies of as many bytes as the
+    program's segments have."""
+    before = [side.answers(side.path, words) for side in sides]
+    size = sum(segments(sides[0].path))
+    results = {side: [] for side in sides}
+    copies = []
+    for run in range(runs):
+        first = run % len(sides)
+        for side in sides[first:] + sides[:first]:
+            results[side].append(side.merge())
+        copies.append(copy(sides[0].path, size))
+    after = [side.answers(side.target, words) for side in sides]
+    if before != after or len({count for count, *_ in after}) != 1:
         sys.exit(f"measure: the merge changed what is found, {before} to {after}")
-    session.close()
-    return seconds, opened, merged
+    return results, copies
 
 
-def report(texts, size, copies, merges):
-    print("| what | merge | cp and sync | merge to cp |")
-    print("|---|---|---|---|")
-    seconds = [[each for each, _, _ in merges], copies]
-    for what, pick in (("median", statistics.median), ("best", min)):
-        ours, theirs = (pick(each) for each in seconds)
-        print(f"| s, {what} | {ours:.3f} | {theirs:.3f} | {ours / theirs:.2f} |")
-        rates = [size / each / 1e6 for each in (ours, theirs)]
-        print(f"| MB/s, {what} | {rates[0]:.0f} | {rates[1]:.0f} | {rates[0] / rates[1]:.2f} |")
-    text_bytes = sum(len(text.encode()) for text in texts)
-    live_bytes = text_bytes - sum(len(t.encode()) for t in texts[DELETED_EACH - 1 :: DELETED_EACH])
-    opened = max(each for _, each, _ in merges)
-    merged = max(each for _, _, each in merges)
-    print()
-    print(f"peak memory: {merged / 1e6:.1f} MB with the merge, {opened / 1e6:.1f} MB before it; "
-          f"texts that are left: {live_bytes / 1e6:.1f} MB, so {merged / live_bytes:.2f} of them")
+def report(results, copies, deleting, text_bytes):
+    names = [side.name for side in results] + ["copy"]
+    peers = len(names) - 1
+    print("| what | " + " | ".join(names + [f"to {name}" for name in names[1:]]) + " |")
+    print("|---" * (2 * len(names)) + "|")
+    seconds = [[each for each, _ in result] for result in results.values()] + [copies]
+    medians = [statistics.median(each) for each in seconds]
+    row("s, median", medians, ".3f", peers=peers)
+    row("s, best", [min(each) for each in seconds], ".3f", peers=peers)
+    rates = [text_bytes / 1e6 / each for each in medians]
+    row("MB of texts a second, median", rates, ".0f", peers=peers)
+    memory = [max(each for _, each in result) for result in results.values()]
+    row("peak memory, MB", memory, ".1f", 1e-6, peers=peers)
+    made = [side.made() for side in results]
+    row("what is made, MB", made, ".1f", 1e-6, peers=peers)
+    row("memory to what is made", [m / size for m, size in zip(memory, made)], ".2f", peers=peers)
+    row("the deletions before, s", deleting, ".2f", peers=peers)
 
 
 def main():
@@ -102,28 +179,30 @@ def main():
     lines = pathlib.Path(sys.argv[2])
     texts = lines.read_text().split("\n")[:-1]
     runs = int(sys.argv[3]) if len(sys.argv) > 3 else 5
-    words = pick_words(texts)
+    words = pick_words(texts[:PICKED_FROM])
+    sizes = [len(text.encode()) for text in texts]
+    held = sum(sizes)
+    print(f"{len(texts)} documents, {held / 1e6:.1f} MB, {runs} runs; {processor()}; "
+          f"SQLite {sqlite3.sqlite_version}; {time.strftime('%Y-%m-%d')}")
     with tempfile.TemporaryDirectory(dir=lines.parent) as folder:
-        filled = f"{folder}/filled"
-        deleting = make_store(program, filled, texts)
-        copies, merges = [], []
-        for run in range(runs):
-            path = f"{folder}/copy"
-            copies.append(copy(filled, path))
-            # What the file holds before the merge: a hole in it is not copied.
-            size = size_on_disk(path)
-            merges.append(merge(program, path, words))
-            os.remove(path)
-        segments = -(-len(texts) // BATCH)
-        print(f"{segments} segments, {len(texts)} documents, {size / 1e6:.1f} MB on the disk, "
-              f"{len(texts) // DELETED_EACH} deleted, {runs} runs; {processor()}; "
-              f"{time.strftime('%Y-%m-%d')}")
-        print(f"load: {os.getloadavg()[0]:.1f} on {os.cpu_count()} processors")
-        print("seconds of merges:", *(f"{each:.3f}" for each, _, _ in merges))
-        print("seconds of copies:", *(f"{each:.3f}" for each in copies))
-        print(f"deletions with their commit, one after the other: {deleting:.2f} s")
-        print()
-        report(texts, size, copies, merges)
+        store = Store(program, folder)
+        sides = [store, Base(lines.parent / "fts5", folder)]
+        if (lines.parent / "xapian").exists():
+            sides.append(Database(lines.parent / "xapian", folder))
+        for side in sides:
+            side.fill(texts)
+        for first in (DELETED_EACH, DELETED_EACH // 2):
+            merging = segments(store.path)
+            dead = range(first, len(texts) + 1, DELETED_EACH)
+            deleting = [side.delete(dead) for side in sides]
+            results, copies = measure(sides, words, runs)
+            print(f"\nSegments of the program: {len(merging)}, of {sum(merging) / 1e6:.1f} MB; "
+                  f"texts: {held / 1e6:.1f} MB; documents that are deleted: {len(dead)}; "
+                  f"load {os.getloadavg()[0]:.1f} on {os.cpu_count()} processors:\n")
+            report(results, copies, deleting, held)
+            held -= sum(sizes[first - 1 :: DELETED_EACH])
+            for side in sides:
+                side.go_on()
 
 
 if __name__ == "__main__":

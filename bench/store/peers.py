@@ -1,13 +1,15 @@
-"""What measure.py measures: the program over a pipe, and SQLite in this process."""
+"""What is measured: the program over a pipe, SQLite in this process, Xapian by a small program."""
 
 import os
 import pathlib
+import re
 import sqlite3
 import subprocess
 import threading
 import time
 
 BATCH = 4_096
+UNIT = 512
 
 
 def replies_to(count):
@@ -24,6 +26,19 @@ def asks_for(texts):
         for text in texts[start : start + BATCH]:
             yield f"add {text}\n"
         yield "commit\n"
+
+
+def segments(path):
+    """The bytes of each segment of a store, by the body in force (docs/FORMATS.md)."""
+    with open(path, "rb") as file:
+        units = file.read(34 * UNIT)
+
+    def number(place, size):
+        return int.from_bytes(units[place : place + size], "little")
+
+    bodies = [start * UNIT for gate, start in ((0, 2), (1, 18)) if units[gate * UNIT] == 0xA7]
+    body = max(bodies, key=lambda body: number(body + 8, 8))
+    return [number(body + 36 + 40 * entry + 16, 4) for entry in range(number(body + 32, 4))]
 
 
 class Program:
@@ -76,6 +91,12 @@ class Program:
             raise SystemExit("measure: the program's replies are not those of added lines")
         return seconds
 
+    def delete(self, numbers):
+        """Deletes the documents, one after the other, and commits."""
+        for number in numbers:
+            self.expect(f"delete {number}", f"deleted {number}")
+        self.expect("commit", "committed")
+
     def count(self):
         return int(self.ask("count").split()[1])
 
@@ -114,6 +135,23 @@ class Fts5:
             self.base.execute("COMMIT")
         return time.perf_counter() - start
 
+    def delete(self, numbers):
+        """Deletes the documents in one transaction."""
+        self.base.execute("BEGIN")
+        rows = ((number,) for number in numbers)
+        self.base.executemany("DELETE FROM documents WHERE rowid = ?", rows)
+        self.base.execute("COMMIT")
+
+    def used_bytes(self):
+        """The bytes of the file's pages that are in use."""
+        values = ("page_count", "freelist_count", "page_size")
+        pages, free, size = (self.base.execute(f"PRAGMA {it}").fetchone()[0] for it in values)
+        return (pages - free) * size
+
+    def index_bytes(self):
+        """The bytes of the index, without the texts."""
+        return self.base.execute("SELECT sum(length(block)) FROM documents_data").fetchone()[0]
+
     def count(self):
         return self.base.execute("SELECT count(*) FROM documents").fetchone()[0]
 
@@ -132,6 +170,54 @@ class Table(Fts5):
     """The texts in a table that has no index of their words, so that it finds nothing."""
 
     table = "CREATE TABLE documents(text TEXT)"
+
+
+class Xapian:
+    """A database of Xapian, by the program of bench/finds/xapian.cc."""
+
+    def __init__(self, program, path):
+        self.program, self.path = program, path
+
+    def run(self, task, lines):
+        """What the program prints to the lines."""
+        text = "".join(f"{line}\n" for line in lines)
+        command = [self.program, task, self.path]
+        ran = subprocess.run(command, input=text, text=True, check=True, stdout=subprocess.PIPE)
+        return ran.stdout
+
+    def fill(self, texts):
+        self.run("fill", texts)
+
+    def delete(self, numbers):
+        self.run("delete", numbers)
+
+    def count(self):
+        return self.find("*")
+
+    def find(self, word):
+        return int(self.run("ask", [word]).split(":")[0].split()[1])
+
+    def close(self):
+        """Each task is a process of its own, so that nothing is open."""
+
+
+def merged(*command):
+    """Has a process merge what was synced before: seconds from its start to its reply, and the most
+    memory that it had."""
+    os.sync()
+    start = time.perf_counter()
+    process = subprocess.Popen(command, stdin=subprocess.PIPE, stdout=subprocess.PIPE)
+    process.stdin.write(b"merge\n")
+    process.stdin.flush()
+    reply = process.stdout.readline()
+    seconds = time.perf_counter() - start
+    if reply != b"merged\n":
+        raise SystemExit(f"measure: {command[0]} answered {reply!r}")
+    status = pathlib.Path(f"/proc/{process.pid}/status").read_text()
+    memory = 1_024 * int(re.search(r"VmHWM:\s+(\d+) kB", status)[1])
+    process.stdin.close()
+    process.wait()
+    return seconds, memory
 
 
 def size_on_disk(path):
