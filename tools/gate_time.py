@@ -1,122 +1,111 @@
 #!/usr/bin/env python3
 """What the merge gate costs, crate by crate, in processor seconds.
 
-usage: tools/gate_time.py [--skip-edits] [CRATE ..]      at the top of the repository
+usage: tools/gate_time.py [COMMAND ..]      at the top of the repository
 
-In a copy of the repository it does to each crate what the merge gate does, from nothing, one
-command after the other:
+Runs the command, `rt ci` without one, and looks four times a second at the processes below it. Each
+run of the prover names its crate, and is counted
 
-  tests    proves the crate with its #[test] functions, and runs them (rt test)
-  proof    proves the crate and builds its library (rt check, rt lib)
-  edits    tries its must-fail edits (rt must-fail)
+  edits    in a folder of its own, where a must-fail edit is tried
+  tests    of a crate whose tests it proves or builds
+  proof    else
 
-and prints the processor seconds of each, its own and its children's, as a row of a table; then
-their sum in minutes. Building and running the program itself is not counted. With names of crates
-these alone are measured; those that they stand on are built before and not counted.
+with the processes that it waited for. When the command has ended the sums are printed as a table,
+and behind it what the table leaves out: the rest of the command's processor time, which is that of
+the tests and programs that ran, of `rt` itself, and of the last quarter of a second of each run.
+The clock's minutes are of the whole. The command's output goes to standard error.
 """
+import collections
 import os
-import re
-import shutil
+import pathlib
+import resource
 import subprocess
 import sys
-import tempfile
+import time
 
-BUDGET_MINUTES = 150
-
-
-def standing_on():
-    """The crates in the order of crates.txt, each with the crates of this repository below it."""
-    lists = {}
-    with open("crates.txt", encoding="utf-8") as file:
-        for line in file:
-            name, colon, below = line.partition("#")[0].partition(":")
-            if colon:
-                lists[name.split()[0]] = below.split()
-    return {name: [it for it in below if it in lists] for name, below in lists.items()}
+BUDGET_MINUTES = 260
+LOOK_EACH = 0.25
+TICKS = os.sysconf("SC_CLK_TCK")
 
 
-def copy_repository(room, measured):
-    """Copies what a check reads, without the work that is kept of the crates to be measured."""
-
-    def left_out(folder, names):
-        return {"out"} & {*names} if os.path.basename(folder) in measured else set()
-
-    shutil.copytree("crates", f"{room}/crates", ignore=left_out)
-    for name in ("crates.txt", "HANDLES"):
-        shutil.copy(name, room)
+def process(folder):
+    """The parent of a process, and its processor seconds with those of what it waited for."""
+    told = (folder / "stat").read_text().rpartition(")")[2].split()
+    return int(told[1]), sum(map(int, told[11:15])) / TICKS
 
 
-def seconds_of(folder, *words):
-    """Runs a command to its end, and gives its processor seconds; stops where it fails."""
-    with tempfile.TemporaryFile("w+", errors="replace") as said:
-        child = subprocess.Popen(
-            words, cwd=folder, stdin=subprocess.DEVNULL, stdout=said, stderr=subprocess.STDOUT
-        )
-        _, status, used = os.wait4(child.pid, 0)
-        child.returncode = os.waitstatus_to_exitcode(status)
-        if child.returncode:
-            said.seek(0)
-            sys.exit(f"{said.read()[-3000:]}\n{' '.join(words)} failed in {folder}")
-    return used.ru_utime + used.ru_stime
+def crate_of(folder):
+    """The crate that a run of the prover is about, and what it does; none of another process."""
+    words = (folder / "cmdline").read_bytes().decode(errors="replace").split("\0")
+    if "--crate-name" not in words:
+        return None
+    name = words[words.index("--crate-name") + 1]
+    if os.path.basename(os.readlink(folder / "cwd")).startswith("rt-edit-"):
+        return name, "edits"
+    return name, "tests" if "--test" in words or name.startswith("tests_") else "proof"
 
 
-def has_tests(crate):
-    """Whether a source file of the crate has a test function."""
-    for folder, _, names in os.walk(f"{crate}/src"):
-        for name in names:
-            with open(f"{folder}/{name}", encoding="utf-8", errors="replace") as file:
-                if re.search(r"^\s*#\[test\]", file.read(), re.M):
-                    return True
-    return False
+def look(top, runs):
+    """Takes in the seconds so far of each run of the prover below a process, with those of all
+    processes below it."""
+    found = {}
+    for folder in pathlib.Path("/proc").glob("[0-9]*"):
+        try:
+            found[int(folder.name)] = (*process(folder), crate_of(folder))
+        except (OSError, IndexError):
+            pass
+
+    def run_of(number):
+        """The first run of the prover that a process belongs to, if it is below the top."""
+        first = None
+        while number in found and number != top:
+            first = number if found[number][2] else first
+            number = found[number][0]
+        return first if number == top else None
+
+    now = collections.Counter()
+    for number, (_, seconds, _) in found.items():
+        now[run_of(number)] += seconds
+    for number in now.keys() - {None}:
+        key = number, found[number][2]
+        runs[key] = max(runs.get(key, 0), now[number])
 
 
-def is_program(crate):
-    return os.path.isfile(f"{crate}/src/main.rt")
+def watch(command):
+    """The processor seconds of each crate's parts, of the whole command, and its minutes."""
+    runs = {}
+    start = time.monotonic()
+    child = subprocess.Popen(command, stdin=subprocess.DEVNULL, stdout=sys.stderr)
+    while child.poll() is None:
+        look(child.pid, runs)
+        time.sleep(LOOK_EACH)
+    minutes = (time.monotonic() - start) / 60
+    if child.returncode:
+        sys.exit(f"{' '.join(command)} ended with status {child.returncode}")
+    parts = collections.defaultdict(collections.Counter)
+    for (_, (name, part)), seconds in runs.items():
+        parts[name][part] += seconds
+    used = resource.getrusage(resource.RUSAGE_CHILDREN)
+    return parts, used.ru_utime + used.ru_stime, minutes
 
 
-def measure(room, name, with_edits):
-    """The processor seconds of a crate's proof, its tests and its edits."""
-    crate = f"{room}/crates/{name}"
-    tests = edits = 0.0
-    if has_tests(crate):
-        tests = seconds_of(crate, "rt", "test", "--jobs", "1")
-        shutil.rmtree(f"{crate}/out", ignore_errors=True)
-    proof = seconds_of(crate, "rt", "check", "--jobs", "1")
-    if not is_program(crate):
-        proof += seconds_of(crate, "rt", "lib", "--jobs", "1")
-    if with_edits and os.path.isdir(f"{crate}/must-fail"):
-        edits = seconds_of(room, "rt", "must-fail", name)
-    return proof, tests, edits
+def row(name, costs):
+    figures = [f"{costs[part]:.0f}" for part in ("proof", "tests", "edits")]
+    print(f"| {name} | {' | '.join(figures)} | {costs.total() / 60:.1f} |")
 
 
-def row(name, parts):
-    figures = [f"{it:.0f}" for it in parts] + [f"{sum(parts) / 60:.1f}"]
-    print(f"| {name} | {' | '.join(figures)} |", flush=True)
-
-
-def main(words):
-    with_edits = "--skip-edits" not in words
-    wanted = [it for it in words if it != "--skip-edits"]
-    crates = standing_on()
-    unknown = [it for it in wanted if it not in crates]
-    if unknown:
-        sys.exit(f"crates.txt has no {' '.join(unknown)}\n\n{__doc__}")
-    measured = [it for it in crates if it in wanted or not wanted]
-    with tempfile.TemporaryDirectory(prefix="gate-time-") as room:
-        copy_repository(room, measured)
-        for name in crates:
-            if name not in measured and any(name in crates[it] for it in measured):
-                seconds_of(f"{room}/crates/{name}", "rt", "lib", "--jobs", "1")
-        print("| crate | proof, s | tests, s | edits, s | together, min |")
-        print("|---|---|---|---|---|")
-        sums = [0.0, 0.0, 0.0]
-        for name in measured:
-            parts = measure(room, name, with_edits)
-            sums = [a + b for a, b in zip(sums, parts)]
-            row(f"`{name}`", parts)
-    row("all of these", sums)
-    print(f"\n{sum(sums) / 60:.1f} processor minutes; the whole gate may take {BUDGET_MINUTES}")
+def main(command):
+    parts, seconds, minutes = watch(command)
+    print("| crate | proof, s | tests, s | edits, s | together, min |")
+    print("|---|---|---|---|---|")
+    for name in sorted(parts):
+        row(f"`{name}`", parts[name])
+    together = sum(parts.values(), collections.Counter())
+    row("all of these", together)
+    print(f"\nrunning, and what ended between two looks: {(seconds - together.total()) / 60:.1f} min")
+    print(f"{seconds / 60:.1f} processor minutes in {minutes:.1f} minutes of the clock on "
+          f"{os.cpu_count()} processors; the gate may take {BUDGET_MINUTES}")
 
 
 if __name__ == "__main__":
-    main(sys.argv[1:])
+    main(sys.argv[1:] or ["rt", "ci"])
