@@ -157,11 +157,6 @@ class Store:
         run_program("create", os.path.abspath(path), "--units", str(units))
         return cls(path)
 
-    @staticmethod
-    def check(path: str | os.PathLike[str]) -> str:
-        """What the program's check tells of a closed store."""
-        return run_program("check", os.path.abspath(path))
-
     def __enter__(self) -> Store:
         return self
 

@@ -9,7 +9,6 @@ import tempfile
 import time
 import unicodedata
 import unittest
-from contextlib import suppress
 from pathlib import Path
 from unittest import mock
 
@@ -103,7 +102,7 @@ class Sessions(Stores):
         self.assertRaises(Failed, store.count)
         self.assertEqual(self.caught(Failed, Store, self.folder / "none").reason, "missing")
 
-    def test_merge_tidy_and_check(self):
+    def test_merge_and_tidy(self):
         with Store.create(self.store, 256) as store:
             for _ in range(9):
                 store.add("kept")
@@ -111,8 +110,6 @@ class Sessions(Stores):
             for way in (store.tidy, store.merge):
                 way()
                 self.assertEqual(store.find("kept"), list(range(1, 10)))
-        with suppress(Unknown):  # Where the program has no check.
-            Store.check(self.store)
 
     def test_fifty_thousand_shows_on_their_way(self):
         with Store.create(self.store, 64) as store:
