@@ -4,8 +4,9 @@
 
 LINES has a text a line; FOLDER has the peers fts5, limit and, where it could be built, xapian. The
 texts go into a store of the program, a base of FTS5 and a database of Xapian, each 4,096 made
-lasting at once. Every query is asked over a pipe on both sides, one after the other; first as the
-stores were filled, then merged, optimized and compacted.
+lasting at once. Every query is asked over a pipe on both sides, twice over: one after the other,
+each when the last is answered, and many in a row, without waiting. First as the stores were filled,
+then merged, optimized and compacted.
 """
 
 import collections
@@ -17,6 +18,7 @@ import shutil
 import statistics
 import subprocess
 import sys
+import threading
 import time
 import unicodedata
 
@@ -28,17 +30,53 @@ WARM = 0.05
 TIMED = 0.2
 TIMES = 51
 
+# How many seconds the finds in a row take, by the time of one that is waited for, and how many they
+# are at least and at most.
+ROW = 0.5
+FEWEST, MOST = 21, 100_000
+
+# The bytes that a pipe holds, and how long the reader sleeps between two pieces: it is to find much
+# in the pipe, and not to be woken for each reply.
+PIPE = 1 << 20
+NAP = 0.0005
+
 
 class Peer:
     """A process that answers a line each."""
 
     def __init__(self, *command):
-        self.process = subprocess.Popen(command, stdin=subprocess.PIPE, stdout=subprocess.PIPE)
+        pipe = subprocess.PIPE
+        self.process = subprocess.Popen(command, stdin=pipe, stdout=pipe, pipesize=PIPE)
 
     def ask(self, line):
         self.process.stdin.write(line)
         self.process.stdin.flush()
         return self.process.stdout.readline()
+
+    def ask_row(self, line, count, reply):
+        """Asks a line so often without waiting; each answer is to be that reply. The seconds from
+        the first answer to the last, a find."""
+        pieces, got, first = [], 0, None
+        feeder = threading.Thread(target=self.feed, args=(line * count,), daemon=True)
+        feeder.start()
+        while got < count * len(reply):
+            piece = os.read(self.process.stdout.fileno(), PIPE)
+            now = time.perf_counter()
+            if not piece:
+                break
+            pieces.append(piece)
+            got += len(piece)
+            if first is None and got >= len(reply):
+                first, before = now, got // len(reply)
+            time.sleep(NAP)
+        feeder.join()
+        if b"".join(pieces) != count * reply:
+            raise SystemExit(f"measure: {line!r} is answered otherwise in a row")
+        return (now - first) / (count - before)
+
+    def feed(self, lines):
+        self.process.stdin.write(lines)
+        self.process.stdin.flush()
 
     def close(self):
         self.process.stdin.close()
@@ -149,8 +187,16 @@ def timed(peer, line):
     return 1e6 * statistics.median(seconds), answer
 
 
+def timed_row(peer, line, waited, reply):
+    """The microseconds of a find among many in a row, each answered so, where one that is waited
+    for takes so many."""
+    count = min(max(int(1e6 * ROW / waited), FEWEST), MOST)
+    return 1e6 * peer.ask_row(line, count, reply)
+
+
 def ask_all(program, folder, finds, database):
-    """For each class the times of program, FTS5 and Xapian, and the numbers that were found."""
+    """For each class the times of program, FTS5 and Xapian, waited for and in a row, and the
+    numbers that were found."""
     peers = [
         (Peer(program, "run", f"{folder}/store"), lambda find: f"find {find[1]}\n"),
         (Peer(f"{folder}/fts5", "ask", f"{folder}/base"), lambda find: f"{find[2]}\n"),
@@ -158,16 +204,19 @@ def ask_all(program, folder, finds, database):
     if os.path.exists(f"{folder}/xapian"):
         asking = Peer(f"{folder}/xapian", "ask", f"{folder}/{database}")
         peers.append((asking, lambda find: f"{find[3]}\n"))
-    rows = []
+    waited, in_a_row = [], []
     for find in finds:
-        told = [timed(peer, line(find).encode()) for peer, line in peers]
+        asked = [(peer, line(find).encode()) for peer, line in peers]
+        told = [timed(*ask) for ask in asked]
         if len({answer for _, answer in told}) != 1:
             raise SystemExit(f"measure: {find[1]!r} is answered otherwise by a peer")
         numbers = told[0][1].split(b":")[1].split()
-        rows.append((find[0], [spent for spent, _ in told], numbers))
+        waited.append((find[0], [spent for spent, _ in told], numbers))
+        row = [timed_row(*ask, *answered) for ask, answered in zip(asked, told)]
+        in_a_row.append((find[0], row, numbers))
     for peer, _ in peers:
         peer.close()
-    return rows
+    return waited, in_a_row
 
 
 def limits(texts, finds, folder):
@@ -190,6 +239,11 @@ def limits(texts, finds, folder):
     return table
 
 
+def digits(spent):
+    """Microseconds as they are printed."""
+    return f"{spent:,.0f}" if spent >= 100 else f"{spent:.1f}"
+
+
 def show(title, rows, least, folder):
     print(f"\n{title}\n")
     print("| find | found | program, µs | FTS5, µs | Xapian, µs | to the better | loops in C, µs | to the loops |")
@@ -199,13 +253,20 @@ def show(title, rows, least, folder):
             loops, found = least[name]
             if found != len(numbers):
                 raise SystemExit(f"measure: the loops find {found} of {name!r}, not {len(numbers)}")
-            xapian = f"{spent[2]:,.0f}" if len(spent) > 2 else "-"
+            xapian = digits(spent[2]) if len(spent) > 2 else "-"
             better = spent[0] / min(spent[1:])
             print(
-                f"| {name} | {len(numbers):,} | {spent[0]:,.0f} | {spent[1]:,.0f} | {xapian} "
-                f"| {better:.2f} | {loops:,.0f} | {spent[0] / loops:,.1f} |"
+                f"| {name} | {len(numbers):,} | {digits(spent[0])} | {digits(spent[1])} | {xapian} "
+                f"| {better:.2f} | {digits(loops)} | {spent[0] / loops:,.1f} |"
             )
             table.write("\t".join([name, *(f"{it:.1f}" for it in (spent + [0])[:3]), f"{loops:.1f}"]) + "\n")
+
+
+def show_both(stored, asked, least, folder):
+    """Prints both tables of finds, waited for and in a row; the second is left for the picture."""
+    waited, in_a_row = asked
+    show(f"{stored}, one after the other:", waited, least, folder)
+    show(f"{stored}, in a row, without waiting:", in_a_row, least, folder)
 
 
 def main():
@@ -222,10 +283,11 @@ def main():
     )
     least = limits([cut(text)[0] for text in texts], finds, folder)
     show_sizes(folder)
-    show(f"As they were filled, by {-(-len(texts) // BATCH)} commits:", ask_all(program, folder, finds, "database"), least, folder)
+    stored = f"As they were filled, by {-(-len(texts) // BATCH)} commits"
+    show_both(stored, ask_all(program, folder, finds, "database"), least, folder)
     merge(program, folder)
     show_sizes(folder)
-    show("Merged into one:", ask_all(program, folder, finds, "compact"), least, folder)
+    show_both("Merged into one", ask_all(program, folder, finds, "compact"), least, folder)
     pipe = Peer("cat")
     spent, _ = timed(pipe, f"find {finds[0][1]}\n".encode())
     pipe.close()

@@ -1,8 +1,8 @@
-# Draws the times of finds in one segment, of the table that measure.py leaves: class, program,
-# FTS5, Xapian and limit, in microseconds.
+# Draws the times of finds in a row, in one segment, of the table that measure.py leaves: class,
+# program, FTS5, Xapian and limit, in microseconds.
 set terminal svg size 900,420 font "sans,13" background "white"
 set output picture
-set title "A find over a pipe, 100,000 documents in one segment, warm: median microseconds"
+set title "A find among many in a row over a pipe, 100,000 documents in one segment, warm: microseconds"
 set style data histograms
 set style histogram clustered gap 1
 set style fill solid 0.85 noborder
