@@ -34,7 +34,8 @@ test:
 
 # The tests of the Python client, over the built program.
 client:
-	RUBEWOLA_PROGRAM=$(CURDIR)/$(PROGRAM) python3 -m unittest discover clients/python/tests
+	PYTHONPATH=$(CURDIR)/clients/python RUBEWOLA_PROGRAM=$(CURDIR)/$(PROGRAM) \
+	    python3 -m unittest discover clients/python/tests
 
 # Refuses each request for memory in turn, over the test programs that `make test` left.
 memory:

@@ -19,8 +19,8 @@ import sys
 import time
 
 from rubewola import Store
-from rubewola.mail import mail_document
-from rubewola.sources import Maildir
+from rubewola.documents import document, mail
+from rubewola.loading import Maildir
 
 LOADS = 3
 ASKED = 9
@@ -103,7 +103,7 @@ def fts(what, path, argument):
     for first in range(0, len(paths), 4_096):
         base.execute("BEGIN")
         base.executemany("INSERT INTO mails VALUES (?)",
-                         ((mail_document(path.read_bytes(), None, False),)
+                         ((document(*mail(path.read_bytes()), with_parts=False),)
                           for path in paths[first:first + 4_096]))
         base.execute("COMMIT")
 

@@ -2,6 +2,3 @@
 
 from .store import (BufferFull, Counts, Failed, Full, NoSuchDocument, QueryRefused, Refused, Reopen,
                     Store, StoreError, TooManySegments, Unknown)
-
-__all__ = ["BufferFull", "Counts", "Failed", "Full", "NoSuchDocument", "QueryRefused", "Refused",
-           "Reopen", "Store", "StoreError", "TooManySegments", "Unknown"]

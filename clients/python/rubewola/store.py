@@ -7,9 +7,9 @@ import re
 import subprocess
 import time
 from collections import deque
-from collections.abc import Callable, Iterable, Iterator
-from contextlib import closing, suppress
-from typing import Any, NamedTuple
+from collections.abc import Iterable, Iterator
+from contextlib import AbstractContextManager, suppress
+from typing import NamedTuple
 
 IN_FLIGHT = 4_096
 """Bytes of commands sent before their replies are read. So few fit into every pipe: sending them
@@ -33,7 +33,7 @@ class StoreError(Exception):
 
 
 class Failed(StoreError):
-    """The program could not be started, or it ended."""
+    """The program ended, or made no store."""
 
 
 class Refused(StoreError):
@@ -73,64 +73,20 @@ class QueryRefused(Refused):
 
     def __init__(self, reason: str) -> None:
         super().__init__(reason)
-        place = re.search(r"\d+$", reason)
-        self.place = int(place[0]) if place else None
+        self.place = next(map(int, re.findall(r"\d+$", reason)), None)
 
 
-REFUSALS = {
-    "buffer full": BufferFull,
-    "full": Full,
-    "no such document": NoSuchDocument,
-    "query": QueryRefused,
-    "reopen": Reopen,
-    "too many segments": TooManySegments,
-    "unknown": Unknown,
-}
+REFUSALS = {"unknown": Unknown, "no such document": NoSuchDocument, "buffer full": BufferFull,
+            "too many segments": TooManySegments, "reopen": Reopen, "full": Full,
+            "query": QueryRefused, "": Refused}
 """The exceptions by the words that their reasons begin with."""
 
 
-def refusal(reason: str) -> Refused:
-    """The exception for a reason."""
-    kinds = (kind for words, kind in REFUSALS.items() if reason.startswith(words))
-    return next(kinds, Refused)(reason)
+Counts = NamedTuple("Counts", [("live", int), ("next", int)])
+"""How many documents live, and the number of the next."""
 
 
-class Counts(NamedTuple):
-    """How many documents live, and the number of the next."""
-
-    live: int
-    next: int
-
-
-def start(*words: str) -> subprocess.Popen[bytes]:
-    """Starts the program: what RUBEWOLA_PROGRAM names, or `pk_find` of the PATH."""
-    name, pipe = os.environ.get("RUBEWOLA_PROGRAM") or "pk_find", subprocess.PIPE
-    try:
-        # A session of its own, so that the terminal's interrupt does not end it.
-        return subprocess.Popen([name, *words], stdin=pipe, stdout=pipe, stderr=pipe,
-                                start_new_session=True)
-    except OSError as error:
-        raise Failed("no program", f"{name}: {error.strerror}") from error
-
-
-def failure(told: bytes) -> Failed:
-    """The exception for what the program told on standard error."""
-    reason = told.decode(errors="replace").strip().removeprefix("pk_find: ")
-    return Failed(reason or "the program was ended", HINTS.get(reason, ""))
-
-
-def run_program(*words: str) -> str:
-    """What the program prints for a command line."""
-    process = start(*words)
-    printed, told = process.communicate()
-    if process.returncode == 2:
-        raise Unknown("unknown", told.decode(errors="replace").partition("\n")[0])
-    if process.returncode:
-        raise failure(told)
-    return printed.decode().rstrip("\n")
-
-
-class Store:
+class Store(AbstractContextManager["Store"]):
     """A store in a file, open until `close`. One program at a time has it.
 
     A line feed in a text is carried as U+000B, which cuts words as it does, and `show` gives it
@@ -154,11 +110,11 @@ class Store:
     @classmethod
     def create(cls, path: str | os.PathLike[str], units: int) -> Store:
         """Makes a file of so many units of 512 bytes with an empty store, and opens it."""
-        run_program("create", os.path.abspath(path), "--units", str(units))
+        made = start("create", os.path.abspath(path), "--units", str(units))
+        told = made.communicate()[1]
+        if made.returncode:
+            raise _failure(told)
         return cls(path)
-
-    def __enter__(self) -> Store:
-        return self
 
     def __exit__(self, *_: object) -> None:
         self.close()
@@ -168,59 +124,47 @@ class Store:
         if self._process.returncode is None:
             self._process.communicate()
 
-    def _send(self, line: bytes) -> None:
-        # Where the program has ended, the reply that does not come tells why.
-        with suppress(BrokenPipeError, ValueError):
-            self._process.stdin.write(line)
-            self._process.stdin.flush()
+    def ask(self, command: str) -> str:
+        """The reply to a command; a refusal is raised."""
+        (reply,) = self.ask_all([command])
+        return reply
 
-    def _reply(self) -> str | Refused:
-        if self._process.returncode is not None:
-            raise Failed("closed")
-        line = self._process.stdout.readline()
-        if not line.endswith(b"\n"):
-            raise failure(self._process.communicate()[1])
-        reply = line[:-1].decode()
-        return refusal(reply[len("refused "):]) if reply.startswith("refused ") else reply
-
-    def ask_all(self, commands: Iterable[str]) -> Iterator[str | Refused]:
-        """The replies to many commands, or their refusals, in turn. Commands are sent ahead of the
-        replies as far as no side can come to wait for the other; until all replies are read the
-        store takes no other command."""
-        if self._busy:
-            raise RuntimeError("the replies to earlier commands are not read yet")
-        sent: deque[int] = deque()
-        self._busy = True
+    def ask_all(self, commands: Iterable[str]) -> Iterator[str]:
+        """The replies to many commands, up to a refusal, which is raised. Commands are sent ahead
+        of the replies as far as no side can come to wait for the other, so some behind a refused
+        one may be done. Until all replies are read the store takes no other command."""
+        if self._busy or self._process.returncode is not None:
+            raise Failed("busy" if self._busy else "closed")
+        self._busy, sent = True, deque()
         try:
             for command in commands:
                 if "\n" in command:
                     raise ValueError("a line feed in a command")
                 line = command.encode() + b"\n"
                 while sent and sum(sent) + len(line) > IN_FLIGHT:
-                    sent.popleft()
-                    yield self._reply()
-                self._send(line)
+                    yield self._reply(sent)
+                # Where the program has ended, the reply that does not come tells why.
+                with suppress(BrokenPipeError):
+                    self._process.stdin.write(line)
+                    self._process.stdin.flush()
                 sent.append(len(line))
             while sent:
-                sent.popleft()
-                yield self._reply()
+                yield self._reply(sent)
         finally:
             while sent and self._process.returncode is None:
                 sent.popleft()
                 self._process.stdout.readline()
             self._busy = False
 
-    def _accepted(self, commands: Iterable[str], read: Callable[[str], Any]) -> Iterator[Any]:
-        """What is read out of the replies to many commands, up to a refusal, which is raised."""
-        with closing(self.ask_all(commands)) as replies:
-            for reply in replies:
-                if isinstance(reply, Refused):
-                    raise reply
-                yield read(reply)
-
-    def ask(self, command: str) -> str:
-        """The reply to a command, or its refusal as an exception."""
-        (reply,) = self._accepted([command], str)
+    def _reply(self, sent: deque[int]) -> str:
+        sent.popleft()
+        line = self._process.stdout.readline()
+        if not line.endswith(b"\n"):
+            raise _failure(self._process.communicate()[1])
+        reply = line[:-1].decode()
+        if reply.startswith("refused "):
+            reason = reply.removeprefix("refused ")
+            raise next(kind for words, kind in REFUSALS.items() if reason.startswith(words))(reason)
         return reply
 
     def add(self, text: str) -> int:
@@ -229,10 +173,9 @@ class Store:
         return number
 
     def add_all(self, texts: Iterable[str]) -> Iterator[int]:
-        """Adds documents, many on their way at once, and gives their numbers. Where one is refused,
-        some behind it may have been added."""
-        commands = ("add " + text.replace("\n", "\v") for text in texts)
-        return self._accepted(commands, lambda reply: int(reply.split()[1]))
+        """Adds documents, many on their way at once, and gives their numbers."""
+        replies = self.ask_all("add " + text.replace("\n", "\v") for text in texts)
+        return (int(reply.removeprefix("added ")) for reply in replies)
 
     def delete(self, number: int) -> None:
         """Deletes a document."""
@@ -249,7 +192,7 @@ class Store:
 
     def show_all(self, numbers: Iterable[int]) -> Iterator[str]:
         """The texts of documents, many on their way at once."""
-        return self._accepted((f"show {number}" for number in numbers), shown_text)
+        return map(_shown, self.ask_all(f"show {number}" for number in numbers))
 
     def commit(self) -> None:
         """Writes what is uncommitted to the disk. Once this returns, it stays."""
@@ -265,11 +208,21 @@ class Store:
 
     def count(self) -> Counts:
         """How many documents live, and the number of the next."""
-        _, live, _, following = self.ask("count").split()
-        return Counts(int(live), int(following))
+        return Counts(*map(int, re.findall(r"\d+", self.ask("count"))))
 
 
-def shown_text(reply: str) -> str:
-    """The text in a reply to `show`."""
+def start(*words: str) -> subprocess.Popen[bytes]:
+    """Starts the program: what RUBEWOLA_PROGRAM names, or `pk_find` of the PATH."""
+    line, pipe = [os.environ.get("RUBEWOLA_PROGRAM") or "pk_find", *words], subprocess.PIPE
+    # A session of its own, so that the terminal's interrupt does not end it.
+    return subprocess.Popen(line, stdin=pipe, stdout=pipe, stderr=pipe, start_new_session=True)
+
+
+def _failure(told: bytes) -> Failed:
+    reason = told.decode(errors="replace").partition("\n")[0].removeprefix("pk_find: ")
+    return Failed(reason or "the program was ended", HINTS.get(reason, ""))
+
+
+def _shown(reply: str) -> str:
     text = reply.removeprefix("text ").replace("\v", "\n")
     return re.sub(r"\\(.)", lambda pair: "\n" if pair[1] == "n" else pair[1], text)
