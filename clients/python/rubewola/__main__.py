@@ -85,7 +85,7 @@ def answer(store: Store, line: str) -> str:
         lines = searching.results(store, numbers[-SHOWN:], "text")
         last = f", the last {SHOWN} shown" if numbers[SHOWN:] else ""
         return "\n".join([*lines, f"found {len(numbers)}{last}"])
-    if command == "show":
+    if command == "show" and rest.isdecimal():
         return searching.plain(split(store.show(int(rest)))[0])
     if command == "quit":
         return "Not all is committed: `commit`, or `quit` again."

@@ -114,7 +114,7 @@ class Stores(unittest.TestCase):
             loading.commit(store)
             self.assertEqual(store.find("kept"), list(range(1, 66)))
             for refused in (False, True):
-                number = store.add(" ".join(map(str, range(40_000))))
+                number = store.add(" ".join(map(str, range(20_000))))
                 if refused:
                     self.assertRaises(Full, store.commit)
                 loading.commit(store)
