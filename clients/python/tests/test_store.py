@@ -170,7 +170,7 @@ class Stores(unittest.TestCase):
         self.assertEqual(refused.stderr.splitlines()[-2:], ["from:a.b é OR )", " " * 14 + "^"])
 
     def test_a_killed_loader_goes_on_to_the_same_store(self):
-        path = self.mailbox(MAILS[:5] * 2_000)
+        path = self.mailbox(MAILS[:5] * 1_300)
         with subprocess.Popen([*COMMAND, "load-mbox", self.store, path],
                               stderr=subprocess.DEVNULL) as loader:
             while loader.poll() is None and not (self.store.exists()
@@ -179,12 +179,12 @@ class Stores(unittest.TestCase):
             loader.kill()
         with Store(self.store, wait=5) as store:
             left = store.count().live
-        self.assertTrue(4_096 <= left < 10_000, left)
-        self.load("mbox", path, 10_000 - left)
+        self.assertTrue(4_096 <= left < 6_500, left)
+        self.load("mbox", path, 6_500 - left)
         whole = loading.load(self.folder / "t", loading.Mailboxes(path))
         with Store(self.store) as one, Store(self.folder / "t") as two:
-            self.assertEqual((whole, one.count()), (10_000, two.count()))
-            numbers = range(1, 10_001)
+            self.assertEqual((whole, one.count()), (6_500, two.count()))
+            numbers = range(1, 6_501)
             self.assertEqual(list(one.show_all(numbers)), list(two.show_all(numbers)))
         self.load("mbox", path, 0)
         self.run_line("load-mbox", self.store, self.mailbox(MAILS), status=2)
