@@ -54,25 +54,24 @@ class Peer:
         return self.process.stdout.readline()
 
     def ask_row(self, line, count, reply):
-        """Asks a line so often without waiting; each answer is to be that reply. The seconds from
-        the first answer to the last, a find."""
-        pieces, got, first = [], 0, None
-        feeder = threading.Thread(target=self.feed, args=(line * count,), daemon=True)
+        """Asks a line so often without waiting; each answer is to be that reply. The seconds of one
+        find, of a process that has answered the line before."""
+        lines, pieces, got = line * count, [], 0
+        feeder = threading.Thread(target=self.feed, args=(lines,), daemon=True)
+        start = time.perf_counter()
         feeder.start()
         while got < count * len(reply):
             piece = os.read(self.process.stdout.fileno(), PIPE)
-            now = time.perf_counter()
+            end = time.perf_counter()
             if not piece:
                 break
             pieces.append(piece)
             got += len(piece)
-            if first is None and got >= len(reply):
-                first, before = now, got // len(reply)
             time.sleep(NAP)
         feeder.join()
         if b"".join(pieces) != count * reply:
             raise SystemExit(f"measure: {line!r} is answered otherwise in a row")
-        return (now - first) / (count - before)
+        return (end - start) / count
 
     def feed(self, lines):
         self.process.stdin.write(lines)
