@@ -13,6 +13,7 @@ pub mod Narrowing
 pub mod Numbers
 pub mod Order
 pub mod Parts
+pub mod Pieces
 pub mod Prefixes
 pub mod Rising
 pub mod Room

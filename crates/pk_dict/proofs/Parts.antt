@@ -1,11 +1,11 @@
 -- What a source lends of a dictionary's bytes.
-use Rattle.std.proofs.Common.{◌≡◌, ◌∷◌, [], ◌≤◌, ◌<◌, ◌+◌, ◌-◌, ◌∙◌, ℕ, List, length, take, drop, min, sym, ap, refl, arith, get_or, Result, Ok, Err}
+use Rattle.std.proofs.Common.{◌≡◌, ◌∷◌, [], ◌≤◌, ◌<◌, ◌+◌, ◌-◌, ◌∙◌, ℕ, List, length, take, drop, min, sym, ap, refl, arith, get_or, inl, inr, Result, Ok, Err}
 use Rattle.std.specs.Int.{w32, from_le_bytes}
-use Rattle.std.proofs.lemmas.Bool.{lt-ltb, le-ltb}
+use Rattle.std.proofs.lemmas.Bool.{cases_lt, lt-ltb, le-ltb}
 use Rattle.std.proofs.lemmas.List.{take_all, drop-take, take-take, drop-drop, length-take, length-drop, drop_more}
 use Rattle.pk_vbyte.specs.declared.variable.VFault.{VFault}
 use Rattle.pk_vbyte.specs.VariableByte.{taken}
-use Rattle.pk_vbyte.proofs.CallerLemmas.{taken_piece}
+use Rattle.pk_vbyte.proofs.CallerLemmas.{taken_five}
 use Rattle.pk_posting.specs.declared.source.SourceFault.TheVariants as faults
 use Rattle.pk_dict.specs.declared.entry.DictPlace.{DictPlace}
 use Rattle.pk_dict.specs.Place.{bytes_at}
@@ -30,13 +30,20 @@ pub record Lent (content : List ℕ) (place : DictPlace) (n at : ℕ) (piece : L
 pub lent_part : (content : List ℕ) (place : DictPlace) (n at : ℕ) (piece : List ℕ) → Lent content place n at piece → take n (drop at (bytes_at content place)) ≡ piece
 lent_part content place n at piece l = part_at content place n at l.inside ∙ sym l.is
 
-pub number_lent : (content : List ℕ) (place : DictPlace) (n at : ℕ) (piece : List ℕ) (r : Result (ℕ × ℕ) VFault) → Lent content place n at piece → n ≡ min (place.bytes - at) 5
+-- five bytes, or all up to the end, decide what number is taken
+taken_front : (n : ℕ) (bytes : List ℕ) → min (length bytes) 5 ≤ n → taken (take n bytes) ≡ taken bytes
+taken_front n bytes h = elim (cases_lt n 5) [
+  | inl less ↦ ap taken (take_all n bytes (omega arith))
+  | inr more ↦ sym (taken_five (take n bytes)) ∙ ap taken (take-take 5 n bytes (omega arith)) ∙ taken_five bytes
+]
+
+pub number_lent : (content : List ℕ) (place : DictPlace) (n at : ℕ) (piece : List ℕ) (r : Result (ℕ × ℕ) VFault) → Lent content place n at piece → min (place.bytes - at) 5 ≤ n
     → r ≡ taken piece → number_at (bytes_at content place) at ≡ after at r
 unfolding number_at
 number_lent content place n at piece r l e t =
     let B = bytes_at content place in
     let size : length (drop at B) ≡ place.bytes - at = omega (arith, length-drop at B, length_bytes_at content place l.lies) in
-    ap (after at) (sym (taken_piece n (drop at B) (omega (arith, size))) ∙ ap taken (lent_part content place n at piece l) ∙ sym t)
+    ap (after at) (sym (taken_front n (drop at B) (omega (arith, size))) ∙ ap taken (lent_part content place n at piece l) ∙ sym t)
 
 pub byte_lent : (content : List ℕ) (place : DictPlace) (at : ℕ) (piece : List ℕ) → Lent content place 1 at piece → byte_at (bytes_at content place) at ≡ Ok (get_or piece 0 0)
 unfolding byte_at

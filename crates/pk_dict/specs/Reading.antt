@@ -28,6 +28,11 @@ abbrev pub Gives : {A : Type 0} → Result A SourceFault → Result A SourceFaul
 Gives (Ok x) read = read ≡ Ok x
 Gives (Err e) read = Fails e read
 
+-- a piece is what stands at a place
+pub record IsPieceAt (bytes : List ℕ) (at : ℕ) (piece : List ℕ) : Type 0 where
+  pub inside : at + length piece ≤ length bytes
+  pub is : piece ≡ take (length piece) (drop at bytes)
+
 -- a number that was taken, and the place after it
 abbrev pub after : ℕ → Result (ℕ × ℕ) VFault → Result (ℕ × ℕ) SourceFault
 after at (Ok r) = Ok (r.0, at + r.1)

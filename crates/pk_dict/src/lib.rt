@@ -52,6 +52,7 @@ pub(crate) mod fields;
 pub(crate) mod head;
 pub mod laws;
 pub mod look_up;
+pub(crate) mod near;
 pub(crate) mod steps;
 pub mod windows;
 pub mod writer;

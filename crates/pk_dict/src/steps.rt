@@ -1,6 +1,6 @@
 //! One term against the wanted one, and the terms of a group.
 
-ghost use Rattle.std.specs.Prelude.{◌≡◌, ◌≤◌, ◌<◌, ◌+◌, ◌*◌, ◌^◌, length, IfOk};
+ghost use Rattle.std.specs.Prelude.{◌≡◌, ◌≤◌, ◌<◌, ◌+◌, ◌*◌, ◌^◌, ℕ, length, IfOk, Ok};
 ghost use Rattle.pk_dict.specs.Place.{LiesIn, bytes_at};
 ghost use Rattle.pk_dict.specs.Reading.{
   Gives,
@@ -10,6 +10,7 @@ ghost use Rattle.pk_dict.specs.Reading.{
   group_at,
   head_at,
   next_at,
+  number_at,
   scan_at,
   step_at,
 };
@@ -20,7 +21,12 @@ use crate::compare::shared_with;
 use crate::entry::{DictPlace, Entry};
 use crate::fields::{byte, entry, number, offset};
 use crate::head::{Head, Step};
+use crate::near::step_in;
 use pk_posting::{ByteSource, SourceFault};
+use pk_vbyte::take;
+
+// How many bytes are asked for at a term: most terms and what is said of them have fewer.
+const NEAR: u32 = 32;
 
 // Where the rest of a term lies, what is said of the term, and where the next one begins.
 #[tactic(auto, unfolding(crate::specs::Reading::head_at))]
@@ -36,6 +42,25 @@ pub(crate) fn head<S: ByteSource>(
         4 result source.old source.new }
 {
     let (size, rest) = number(source, place, at)?;
+    head_after(source, place, size, rest)
+}
+
+// The same, where the size of the rest and its place were read at any place.
+#[tactic(auto, unfolding(crate::specs::Reading::head_at))]
+fn head_after<S: ByteSource>(
+    source: &mut S,
+    place: DictPlace,
+    size: u32,
+    rest: u32,
+) -> Result<Head, SourceFault>
+    requires { LiesIn place (length (S.content source.old)) }
+    ensures value { S.honest → (at : ℕ)
+        → number_at (bytes_at (S.content source.old) place) at ≡ Ok (size, rest)
+        → Gives result (head_at (bytes_at (S.content source.old) place) at) }
+    ensures inside { IfOk result (λ h. (h.rest + h.size ≤ place.bytes) × (h.next ≤ place.bytes)) }
+    ensures left { IsRead S.honest S.content S.asked S.failures S.keeps
+        3 result source.old source.new }
+{
     let end = match rest.checked_add(size) {
         Some(end) => end,
         None => return Err(SourceFault::Damaged),
@@ -108,8 +133,41 @@ fn apart<S: ByteSource>(
     Err(SourceFault::Damaged)
 }
 
+// What a term is to the wanted one, where the size of its rest and the place of that were read at
+// any place.
+#[tactic(auto, unfolding(crate::specs::Reading::step_at))]
+fn far_step<S: ByteSource>(
+    source: &mut S,
+    place: DictPlace,
+    term: &[u8],
+    kept: usize,
+    matched: usize,
+    size: u32,
+    rest: u32,
+) -> Result<Step, SourceFault>
+    requires lies { LiesIn place (length (S.content source.old)) }
+    requires within { matched ≤ length term.now }
+    ensures value { S.honest → (at : ℕ)
+        → number_at (bytes_at (S.content source.old) place) at ≡ Ok (size, rest)
+        → Gives result (step_at (bytes_at (S.content source.old) place) term.now kept matched at) }
+    ensures matched { IfOk result (IsWithin (length term.now)) }
+    ensures left { IsRead S.honest S.content S.asked S.failures S.keeps
+        (4 + stretches_of (length term.now)) result source.old source.new }
+{
+    let head = head_after(source, place, size, rest)?;
+    if matched < kept {
+        return Ok(Step::Less(matched, head.next));
+    }
+    if kept < matched {
+        return apart(source, place, head.rest, kept, term);
+    }
+    compared(source, place, head, term, matched)
+}
+
 // What the term at a place is to the wanted one: it keeps bytes of the term before, which is less
 // and shares `matched` bytes with the wanted one.
+//
+// A short piece mostly has all of the term; only where it has not, more is asked for.
 #[tactic(auto, unfolding(crate::specs::Reading::step_at))]
 pub(crate) fn step<S: ByteSource>(
     source: &mut S,
@@ -127,14 +185,17 @@ pub(crate) fn step<S: ByteSource>(
     ensures left { IsRead S.honest S.content S.asked S.failures S.keeps
         (5 + stretches_of (length term.now)) result source.old source.new }
 {
-    let head = head(source, place, at)?;
-    if matched < kept {
-        return Ok(Step::Less(matched, head.next));
+    if place.bytes < at {
+        return Err(SourceFault::Damaged);
     }
-    if kept < matched {
-        return apart(source, place, head.rest, kept, term);
+    let piece = source.bytes(place.at + at, (place.bytes - at).min(NEAR))?;
+    if let Some(step) = step_in(piece, at, at, term, kept, matched) {
+        return Ok(step);
     }
-    compared(source, place, head, term, matched)
+    let Ok((size, taken)) = take(piece) else {
+        return Err(SourceFault::Damaged);
+    };
+    far_step(source, place, term, kept, matched, size, at + taken as u32)
 }
 
 // What the next term of a group is to the wanted one: it says first how much it keeps.
@@ -154,7 +215,17 @@ fn next_step<S: ByteSource>(
     ensures left { IsRead S.honest S.content S.asked S.failures S.keeps
         (6 + stretches_of (length term.now)) result source.old source.new }
 {
-    let (kept, start) = number(source, place, at)?;
+    if place.bytes < at {
+        return Err(SourceFault::Damaged);
+    }
+    let piece = source.bytes(place.at + at, (place.bytes - at).min(NEAR))?;
+    let Ok((kept, taken)) = take(piece) else {
+        return Err(SourceFault::Damaged);
+    };
+    let start = at + taken as u32;
+    if let Some(step) = step_in(piece, at, start, term, kept as usize, matched) {
+        return Ok(step);
+    }
     step(source, place, term, kept as usize, matched, start)
 }
 

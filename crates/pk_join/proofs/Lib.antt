@@ -1,7 +1,9 @@
 -- The lemma pages.
+pub mod ComeLemmas
 pub mod DocLemmas
 pub mod InputLemmas
 pub mod JoinLemmas
+pub mod PartLemmas
 pub mod PostingLemmas
 pub mod TermWalkLemmas
 pub mod WalkLemmas

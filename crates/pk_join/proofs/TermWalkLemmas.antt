@@ -14,13 +14,13 @@ use Rattle.std.proofs.lemmas.Option.{slice_get-get_or}
 use Rattle.std.proofs.lemmas.Slice.Eq.{bytes_eq-Decides}
 use Rattle.unicode_segmentation.proofs.SegmentsLemmas.{length-filter-le}
 use Rattle.pk_model.specs.Terms.{terms_of}
-use Rattle.pk_model.proofs.TermLemmas.{has, has_term, rising_terms, term_has}
+use Rattle.pk_model.proofs.TermLemmas.{has_term, rising_terms, term_has}
 use Rattle.pk_segment.specs.Indexed.{list_with}
 use Rattle.pk_state.specs.Committed.{Stored, lists, live_in, live_of}
 use Rattle.pk_state.proofs.WholeLemmas.{live_cons}
 use Rattle.pk_join.specs.declared.lists.InputLists.{InputLists}
 use Rattle.pk_join.specs.declared.input.MergeInput.{MergeInput}
-use Rattle.pk_join.specs.Walking.{AreListed, IsAtHeads, IsPassed, head_at, is_word, least_of, lesser_of, stored_at, words_at}
+use Rattle.pk_join.specs.Walking.{AreListed, IsAtHeads, IsPassed, Walks, has, head_at, is_word, least_of, lesser_of, stored_at, to_come, words_at}
 use Rattle.pk_join.proofs.JoinLemmas.{list_append, list_front, list_left, list_next}
 use Rattle.pk_join.proofs.WalkLemmas.{found_within}
 use Rattle.pk_join.proofs.WordLemmas.{lesser_word, same_word, words_are}
@@ -233,12 +233,6 @@ left_all w ss i lt some =
     )
 
 -- ---- how far the heads have come
-
--- Of the terms of the documents that are left, the first are passed, and the others are to come.
-pub record Walks (ls : List InputLists) (heads : List ℕ) (stored : List Stored) (xs ys : List (List ℕ)) : Type 0 where
-  pub terms : terms_of (live_in stored) ≡ xs ++ ys
-  pub passed : (i k : ℕ) (y : List ℕ) → i < length ls → k < slice_index heads i → slice_get (words_at ls i) k ≡ Some y → has y ys ≡ false
-  pub coming : (i k : ℕ) (x : List ℕ) → i < length ls → slice_index heads i ≤ k → slice_get (words_at ls i) k ≡ Some x → has x xs ≡ false
 
 -- what is known of the inputs
 pub record Knows (ls : List InputLists) (stored : List Stored) : Type 0 where
@@ -485,10 +479,6 @@ walks_start ls heads stored zeros = record {
 }
 
 -- ---- how many words are to come
-
-abbrev pub to_come : List InputLists → List ℕ → ℕ → ℕ
-to_come ls heads zero = 0
-to_come ls heads (suc n) = to_come ls heads n + (length (words_at ls n) - slice_index heads n)
 
 no_more : (ls : List InputLists) (heads heads' : List ℕ) (w : List ℕ) (n : ℕ) → IsPassed ls w heads heads' → n ≤ length ls → to_come ls heads' n ≤ to_come ls heads n
 no_more ls heads heads' w zero passed le = omega arith

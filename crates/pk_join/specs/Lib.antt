@@ -3,4 +3,6 @@ pub mod Inputs
 pub mod Joining
 pub mod Listed
 pub mod Reading
+pub mod Walk
 pub mod Walking
+pub mod Words

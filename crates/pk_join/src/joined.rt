@@ -21,7 +21,7 @@ use std::alloc::{AllocError, Global};
 
 /// The numbers of a word so far, rising, in memory that was taken once.
 #[derive(Drop)]
-pub struct Joined {
+pub(crate) struct Joined {
     numbers: Vec<u32>,
     // How many there may be.
     room: usize,
@@ -35,7 +35,7 @@ impl Joined {
     ghost use Rattle.pk_join.specs.Joining.{MayJoin, joined_in, room_in};
 
     /// No number, and room for so many.
-    pub fn with_room(alloc: Global, room: usize) -> Result<Joined, AllocError>
+    pub(crate) fn with_room(alloc: Global, room: usize) -> Result<Joined, AllocError>
         requires { room ≤ 134217728 }
         ensures numbers { IfOk result (λ j. joined_in j ≡ []) }
         ensures room { IfOk result (λ j. room_in j ≡ room) }
@@ -53,7 +53,7 @@ impl Joined {
     }
 
     /// The numbers.
-    pub fn numbers(&self) -> &[u32]
+    pub(crate) fn numbers(&self) -> &[u32]
         ensures numbers { result.now ≡ joined_in self.now }
         ensures posting { IsPosting (joined_in self.now) }
         ensures within { length (joined_in self.now) ≤ room_in self.now }

@@ -11,25 +11,23 @@
 //! | `MergeInput` | a segment on the disk: its extent, its kind, and its deletion list |
 //! | `InputLists` | the words of an input, with their lists |
 //! | `read_lists` | those of a segment of either kind |
-//! | `least_head` | the word that comes next |
-//! | `join_all` | what all inputs leave of its list |
-//! | `pass_word` | goes over to the next one |
-//! | `Joined` | the list of one word, in memory that is taken once |
-//! | `widest` | the room that a list of texts needs |
+//! | `Walk` | goes through the words that the inputs leave, each with its numbers |
 //!
-//! Of an input of kind 2 the terms are in memory, and a list is read block by block when its word
-//! comes. Of one of kind 1 there is an index of the texts, in memory. Of the lists that are joined
-//! one word's is in memory at a time. After `read_lists` and `Joined::with_room` no call takes
-//! memory.
+//! Of an input of kind 2 the terms are in memory, end to end, and 16 bytes for each: where it ends,
+//! and where its list lies. A list is read when its word comes, one of at most 4,096 bytes at once, a
+//! longer one block by block. Of an input of kind 1 there is an index of the texts, in memory. Of the
+//! lists that are joined one word's is in memory at a time. After `read_lists` and `Walk::new` no
+//! call takes memory.
 //!
 //! # What is refused
 //!
 //! `Damaged` is a segment that is none, or numbers that don't rise, or are more than there is room
 //! for; `Disk` is answered exactly where a read failed; and `Memory` where memory was refused, by
-//! `read_lists` alone. The disk is only read.
+//! `read_lists` and `Walk::new` alone. The disk is only read.
 //!
-//! Where the words are: `specs/Inputs` has what inputs spell, `specs/Listed` what the words and
-//! lists of an input are, `specs/Joining` what is joined, `specs/Walking` the words side by side.
+//! Where the words are: `specs/Inputs` has what inputs spell, `specs/Words` how words lie end to
+//! end, `specs/Listed` what the words and lists of an input are, `specs/Joining` what is joined,
+//! `specs/Walking` the words side by side, `specs/Walk` where a walk has come.
 //! Lemma pages: `TermWalkLemmas` on the walk, whose words are the terms of the documents that are
 //! left; `JoinLemmas` on one word's list.
 #![tactic(auto)]
@@ -37,15 +35,16 @@
 mod input;
 mod joined;
 mod joining;
+mod lent;
 mod lists;
 mod reading;
 mod rooms;
 mod text_lists;
+mod walk;
 mod walking;
+mod words;
 
 pub use input::MergeInput;
-pub use joined::Joined;
 pub use lists::InputLists;
 pub use reading::read_lists;
-pub use rooms::widest;
-pub use walking::{join_all, least_head, pass_word};
+pub use walk::Walk;

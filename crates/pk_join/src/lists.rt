@@ -22,10 +22,10 @@ ghost use Rattle.pk_join.specs.Listed.{
   AreIndexed,
   AreListsOf,
   room_for,
-  stored_words,
   text_words,
   words_in,
 };
+ghost use Rattle.pk_dict.specs.declared.entry.Entry.{Entry};
 ghost use Rattle.pk_join.specs.Inputs.{LiesInside};
 ghost use Rattle.pk_model.specs.Collection.{Doc};
 ghost use Rattle.pk_posting.specs.Source.{CountsFaults};
@@ -35,10 +35,11 @@ ghost use Rattle.pk_segment.specs.Spelling.{SegmentSpells};
 
 use crate::input::MergeInput;
 use crate::joined::Joined;
-use crate::joining::{join_list, join_numbers};
+use crate::joining::join_numbers;
+use crate::lent::join_at;
 use crate::text_lists::TextLists;
+use crate::words::StoredWords;
 use pk_dead::Dead;
-use pk_dict::Entry;
 use pk_disk::Disk;
 use pk_posting::{ListPlace, SourceFault};
 use pk_segment::ExtentSource;
@@ -48,10 +49,7 @@ use pk_segment::ExtentSource;
 pub enum InputLists {
     /// Those of a segment of kind 2: the terms of its dictionary, and where in the segment its
     /// posting lists begin.
-    Stored {
-        terms: Vec<(Vec<u8>, Entry)>,
-        postings: u32,
-    },
+    Stored { words: StoredWords, postings: u32 },
     /// Those of the texts of a segment of kind 1.
     Indexed(TextLists),
 }
@@ -62,19 +60,9 @@ impl InputLists {
         ensures { option_map (λ w. w.now) result ≡ slice_get (words_in self.now) k }
     {
         match self {
-            InputLists::Stored { terms, .. } => stored_word(terms, k),
+            InputLists::Stored { words, .. } => words.word(k),
             InputLists::Indexed(lists) => text_word(lists, k),
         }
-    }
-}
-
-fn stored_word(terms: &[(Vec<u8>, Entry)], k: usize) -> Option<&[u8]>
-    ensures { option_map (λ w. w.now) result ≡ slice_get (stored_words terms.now) k }
-{
-    if k < terms.len() {
-        Some(terms[k].0.as_slice())
-    } else {
-        None
     }
 }
 
@@ -112,43 +100,42 @@ pub(crate) fn join_word<D: Disk>(
     ensures faults { CountsFaults (D.failed_reads disk.old) (D.failed_reads disk.new) result }
 {
     match lists {
-        InputLists::Stored { terms, postings } => {
-            join_stored(disk, input, &terms[k], *postings, joined)
+        InputLists::Stored { words, postings } => {
+            join_stored(disk, input, words.place(k), *postings, joined)
         }
         InputLists::Indexed(lists) => join_indexed(lists, input.dead, k, room, joined),
     }
 }
 
-// The same of a term of a segment of kind 2: its list lies behind where the lists begin.
+// The same of a word of a segment of kind 2: its list lies at a place behind where the lists begin.
 fn join_stored<D: Disk>(
     disk: &mut D,
     input: &MergeInput,
-    term: &(Vec<u8>, Entry),
+    list: ListPlace,
     postings: u32,
     joined: &mut Joined,
 ) -> Result<(), SourceFault>
     requires inside { LiesInside (length (D.content disk.old)) input.now }
-    ensures joined { D.honest → (docs : List Doc)
+    ensures joined { D.honest → (docs : List Doc) (w : List ℕ) (e : Entry)
         → SegmentSpells (extent_bytes (D.content disk.old) input.now.extent) docs 2
-        → LeadsTo docs term.now.0.items term.now.1 → postings ≡ postings_at docs
-        → MayJoin joined.old (numbers_left input.now.dead.now (list_with term.now.0.items docs))
+        → LeadsTo docs w e → list ≡ e.place → postings ≡ postings_at docs
+        → MayJoin joined.old (numbers_left input.now.dead.now (list_with w docs))
         → MatchResult result (λ _. joined_in joined.new
-        ≡ joined_in joined.old ++ numbers_left input.now.dead.now (list_with term.now.0.items docs))
+        ≡ joined_in joined.old ++ numbers_left input.now.dead.now (list_with w docs))
         (λ e. e ≡ SourceFault.Disk) }
     ensures room { joined.new.room ≡ joined.old.room }
     ensures keeps { KeepsDisk D.Disk disk.old disk.new }
     ensures faults { CountsFaults (D.failed_reads disk.old) (D.failed_reads disk.new) result }
 {
-    let entry = term.1;
-    let Some(at) = postings.checked_add(entry.place.at) else {
+    let Some(at) = postings.checked_add(list.at) else {
         return Err(SourceFault::Damaged);
     };
     let place = ListPlace {
         at,
-        bytes: entry.place.bytes,
+        bytes: list.bytes,
     };
     let mut source = ExtentSource::on(disk, input.extent);
-    join_list(&mut source, place, input.dead, joined)
+    join_at(&mut source, place, input.dead, joined)
 }
 
 // The same of a word of texts: its list is made in the room.

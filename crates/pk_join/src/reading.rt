@@ -11,6 +11,7 @@ ghost use Rattle.pk_segment.specs.Spelling.{SegmentSpells};
 
 use crate::lists::InputLists;
 use crate::text_lists::TextLists;
+use crate::words::StoredWords;
 use pk_posting::ByteSource;
 use pk_segment::{Directory, ReadFault, Segment};
 use std::alloc::Global;
@@ -75,8 +76,9 @@ pub fn read_lists<S: ByteSource>(
 {
     if kind == 2 {
         let terms = segment.terms(alloc, source)?;
+        let words = StoredWords::of(alloc, &terms)?;
         let postings = segment.postings();
-        return Ok(InputLists::Stored { terms, postings });
+        return Ok(InputLists::Stored { words, postings });
     }
     let lists = text_lists(alloc, source, segment, directory)?;
     Ok(InputLists::Indexed(lists))

@@ -25,7 +25,7 @@ fn greater(a: usize, b: usize) -> usize
 }
 
 /// For how many numbers there must be room to join a word of any of them: the most that one needs.
-pub fn widest(lists: &[InputLists]) -> usize
+pub(crate) fn widest(lists: &[InputLists]) -> usize
     ensures enough { All (λ l. room_for l ≤ result) lists.now }
     ensures least { (n : ℕ) → All (λ l. room_for l ≤ n) lists.now → result ≤ n }
 {

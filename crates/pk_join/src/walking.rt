@@ -13,6 +13,8 @@ ghost use Rattle.std.specs.Prelude.{
   length,
   slice_get,
   All,
+  IfOk,
+  IfSome,
   MatchResult,
   OnOk,
 };
@@ -26,10 +28,13 @@ ghost use Rattle.pk_join.specs.Walking.{
   CanHold,
   IsAtHeads,
   IsPassed,
+  PassesAs,
+  Walks,
   head_at,
   is_word,
   least_of,
   lesser_of,
+  to_come,
 };
 ghost use Rattle.pk_posting.specs.Source.{CountsFaults};
 ghost use Rattle.pk_segment.specs.Indexed.{list_with};
@@ -60,7 +65,7 @@ fn lesser<'a>(a: Option<&'a [u8]>, b: Option<&'a [u8]>) -> Option<&'a [u8]>
 }
 
 /// The least of the words at the heads of the inputs; none where all have come to their ends.
-pub fn least_head<'a>(lists: &'a [InputLists], heads: &[usize]) -> Option<&'a [u8]>
+fn least_head<'a>(lists: &'a [InputLists], heads: &[usize]) -> Option<&'a [u8]>
     requires { length heads.now ≡ length lists.now }
     ensures { option_map (λ w. w.now) result ≡ least_of lists.now heads.now (length lists.now) }
 {
@@ -82,7 +87,7 @@ fn is_head(lists: &InputLists, head: usize, word: &[u8]) -> bool
 }
 
 /// Passes a word: each input that has it at its head goes one on.
-pub fn pass_word(lists: &[InputLists], heads: &mut [usize], word: &[u8])
+fn pass_word(lists: &[InputLists], heads: &mut [usize], word: &[u8])
     requires { length heads.old ≡ length lists.now }
     ensures { IsPassed lists.now word.now heads.old heads.new }
 {
@@ -124,7 +129,7 @@ fn join_head<D: Disk>(
 
 /// Joins what all inputs leave of the list of a word, which those have at their heads that have
 /// it. It takes no memory.
-pub fn join_all<D: Disk>(
+fn join_all<D: Disk>(
     disk: &mut D,
     inputs: &[MergeInput],
     lists: &[InputLists],
@@ -152,4 +157,41 @@ pub fn join_all<D: Disk>(
         join_head(disk, &inputs[i], &lists[i], heads[i], word, room, joined)?;
     }
     Ok(())
+}
+
+/// Passes words until the inputs leave numbers of one: that word, whose numbers are then joined. It
+/// takes no memory.
+pub(crate) fn next_word<'a, D: Disk>(
+    disk: &mut D,
+    inputs: &[MergeInput],
+    lists: &'a [InputLists],
+    heads: &mut [usize],
+    room: &mut [u32],
+    joined: &mut Joined,
+) -> Result<Option<&'a [u8]>, SourceFault>
+    requires heads { length heads.old ≡ length lists.now }
+    requires inputs { length inputs.now ≡ length lists.now }
+    requires inside { All (LiesInside (length (D.content disk.old))) inputs.now }
+    requires room { All (λ l. room_for l ≤ length room.old) lists.now }
+    ensures passed { D.honest → (stored : List Stored) (xs ys : List (List ℕ))
+        → SpellsInputs (D.content disk.old) inputs.now stored
+        → AreListed inputs.now lists.now stored → CanHold stored (room_in joined.old)
+        → Walks lists.now heads.old stored xs ys
+        → MatchResult result (λ o. PassesAs lists.now heads.new stored xs ys (joined_in joined.new)
+        (option_map (λ w. w.now) o)) (λ e. e ≡ SourceFault.Disk) }
+    ensures fewer { IfOk result (λ o. IfSome o (λ _.
+        to_come lists.now heads.new (length lists.now)
+        < to_come lists.now heads.old (length lists.now))) }
+    ensures room { room_in joined.new ≡ room_in joined.old }
+    ensures keeps { KeepsDisk D.Disk disk.old disk.new }
+    ensures faults { CountsFaults (D.failed_reads disk.old) (D.failed_reads disk.new) result }
+{
+    'words: while let Some(word) = least_head(lists, heads) {
+        join_all(disk, inputs, lists, heads, word, room, joined)?;
+        pass_word(lists, heads, word);
+        if !joined.numbers().is_empty() {
+            return Ok(Some(word));
+        }
+    }
+    Ok(None)
 }

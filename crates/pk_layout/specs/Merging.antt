@@ -6,9 +6,12 @@ use Rattle.std.specs.List.{list_any}
 use Rattle.pk_disk.specs.Disk.{in_range}
 use Rattle.pk_disk.specs.Units.{start_of}
 use Rattle.pk_disk.specs.declared.units.Extent.{Extent}
+use Rattle.pk_join.specs.declared.input.MergeInput.{MergeInput}
 use Rattle.pk_manifest.specs.declared.manifest.Part.{Part as Entry}
 use Rattle.pk_manifest.specs.Sound.{named}
 use Rattle.pk_manifest.specs.Spelling.{Body, view}
+use Rattle.pk_merge.specs.declared.prepared.Prepared.{Prepared}
+use Rattle.pk_merge.specs.Prepared.{IsPrepared}
 use Rattle.pk_model.specs.declared.commands.Refusal.{Refusal}
 use Rattle.pk_model.specs.declared.commands.Refusal.TheVariants.{SegmentTooLarge, Full, Memory}
 use Rattle.pk_model.specs.declared.commands.Refusal.TheVariants.{Damaged, Disk}
@@ -186,3 +189,16 @@ PlansMergeRightly size b opened new (Ok m) = PlansRightly size b opened new m
 PlansMergeRightly size b opened new (Err (Full need largest)) =
     FullAs b.units (named b) (lengths_in new) need largest
 PlansMergeRightly size b opened new (Err why) = Unit {0}
+
+-- what is prepared opens as what is going to be written, where it is a merge of some documents
+abbrev pub OpensRun : Option Prepared → Result (Option NewSegment) Refusal → Type 0
+OpensRun None (Ok None) = Unit {0}
+OpensRun None (Ok (Some new)) = ⊥
+OpensRun (Some p) (Ok None) = ⊥
+OpensRun (Some p) (Ok (Some new)) = (new.bytes ≡ p.size) × IsSized (Some new)
+    × ((bytes : List ℕ) (inputs : List MergeInput) (stored : List Stored)
+    → IsPrepared bytes inputs stored p → IsSegmentTo (live_in stored) new)
+OpensRun None (Err why) = ⊥
+OpensRun (Some p) (Err Damaged) = (bytes : List ℕ) (inputs : List MergeInput)
+    (stored : List Stored) → IsPrepared bytes inputs stored p → ⊥
+OpensRun (Some p) (Err why) = ⊥

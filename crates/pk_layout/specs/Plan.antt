@@ -24,6 +24,7 @@ use Rattle.pk_segment.specs.Opened.{IsSegmentOf}
 use Rattle.pk_posting.specs.Spelling.{spelling as list_spelling}
 use Rattle.pk_search.specs.declared.opened.OpenSegment.{OpenSegment}
 use Rattle.pk_search.specs.Opened.{AreOpenOf, pends, present}
+pub use Rattle.pk_search.specs.Opening.{IsGrown}
 use Rattle.pk_segment.specs.Spelling.{SegmentSpells, longest}
 use Rattle.pk_segment.specs.Spelling.{segment_length, segment_spelling}
 use Rattle.pk_space.specs.declared.runs.Full.{Full as NoRoom}
@@ -88,10 +89,6 @@ commit_to c opened (d ∷ docs) next (e ∷ extents) = record {
       (relisted c.body.entries opened extents ++ new_entry c.body e ∷ []);
   stored = present opened c.stored ++ new_stored (d ∷ docs) ∷ [];
 }
-
--- no number of its deletion list is forgotten among those that are deleted, as far as counting goes
-abbrev pub IsGrown : OpenSegment → Type 0
-IsGrown o = length o.dead ≤ length o.deleted
 
 -- bytes, each from the start of the extent at its place
 abbrev pub laid_in : List Extent → List (List ℕ) → List Claim

@@ -6,7 +6,7 @@
 ghost use Rattle.std.specs.Prelude.{◌≡◌, ◌≤◌, ◌<◌, ◌+◌, List, ℕ, All, Some, None, Ok, length};
 ghost use Rattle.std.specs.Prelude.{IfOk};
 ghost use Rattle.pk_layout.specs.Merging.{BeginsFrom, EntryApart};
-ghost use Rattle.pk_layout.specs.Merging.{IsSized, PlansMerged, PutsPending, TakesPending};
+ghost use Rattle.pk_layout.specs.Merging.{IsSized, OpensRun, PlansMerged, PutsPending, TakesPending};
 ghost use Rattle.pk_layout.specs.Merging.{body_merged, opened_in};
 ghost use Rattle.pk_layout.specs.Refusing.{merge_refusal};
 ghost use Rattle.pk_manifest.specs.Sound.{IsBody};
@@ -28,7 +28,7 @@ use crate::planning::{Plan, plan_for};
 use pk_dead::Dead;
 use pk_disk::Extent;
 use pk_manifest::{Manifest, Part};
-use pk_merge::{MergeFault, MergeInput};
+use pk_merge::{MergeFault, MergeInput, Prepared};
 use pk_model::Refusal;
 use pk_search::OpenSegment;
 use pk_segment::Segment;
@@ -238,4 +238,22 @@ pub fn plan_merged(
         Some(new) => plan_one(alloc, manifest, opened, from, count, new),
         None => Ok(plan_none(alloc, manifest, opened, from, count)?),
     }
+}
+
+/// The segment of what is prepared: what a merge is going to write, if that is anything.
+///
+/// Refused as damaged where what is prepared opens as no segment, which is that of no merge.
+pub fn new_segment(prepared: &Option<Prepared>) -> Result<Option<NewSegment>, Refusal>
+    ensures { OpensRun prepared.now result }
+{
+    let Some(prepared) = prepared else {
+        return Ok(None);
+    };
+    let Some(segment) = prepared.segment() else {
+        return Err(Refusal::Damaged);
+    };
+    Ok(Some(NewSegment {
+        bytes: prepared.size(),
+        segment,
+    }))
 }

@@ -10,3 +10,4 @@ pub mod Output
 pub mod Prepared
 pub mod ReadAll
 pub mod Streaming
+pub mod Writing

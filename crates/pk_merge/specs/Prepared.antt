@@ -2,7 +2,7 @@
 use Rattle.std.specs.Prelude.{◌≡◌, ◌≤◌, ◌+◌, ◌*◌, ℕ, List, [], ◌++◌, length, All, Option, Some, None, Result, Ok, Err}
 use Rattle.pk_join.specs.declared.input.MergeInput.{MergeInput}
 use Rattle.pk_join.specs.Inputs.{LiesInside}
-use Rattle.pk_join.specs.Joining.{room_in}
+use Rattle.pk_join.specs.Walk.{walk_room}
 use Rattle.pk_join.specs.Walking.{AreListed, CanHold}
 use Rattle.pk_merge.specs.declared.fault.MergeFault.{MergeFault}
 use Rattle.pk_merge.specs.declared.prepared.Prepared.{Prepared}
@@ -23,7 +23,7 @@ pub record IsPrepared (bytes : List ℕ) (inputs : List MergeInput) (stored : Li
     (p : Prepared) : Type 0 where
   pub listed : AreListed inputs p.lists.items stored
   pub kept : AreKept bytes p.documents.items (live_in stored)
-  pub can : CanHold stored (room_in p.joined)
+  pub can : CanHold stored (walk_room p.walk)
   pub dictionary_is : p.dictionary.items ≡ dictionary (live_in stored)
   pub front_is : p.front.items ≡ header_in (live_in stored) 2 ++ directory 0 (live_in stored)
   pub enough : All (λ w. length (list_spelling (list_with w (live_in stored)))

@@ -1,12 +1,12 @@
 //! A merge that is prepared: all that it needs to be written, and its memory.
 
-ghost use Rattle.std.specs.Prelude.{◌≡◌, ◌≤◌, ◌<◌, ◌^◌, ℕ, length, slice_index, All};
-ghost use Rattle.pk_join.specs.Listed.{room_for};
+ghost use Rattle.std.specs.Prelude.{◌≤◌, ◌<◌, ◌^◌, length, All};
+ghost use Rattle.pk_join.specs.Walk.{IsAtStart, IsWalkOf};
 ghost use Rattle.pk_merge.specs.Keeping.{EndBy};
 ghost use Rattle.pk_segment.specs.Spelling.{longest};
 
 use crate::kept::Kept;
-use pk_join::{InputLists, Joined};
+use pk_join::{InputLists, Walk};
 use pk_posting::SliceSource;
 use pk_segment::Segment;
 
@@ -20,13 +20,9 @@ pub struct Prepared {
     pub(crate) disk_bytes: u64,
     // The words of each input, with their lists,
     pub(crate) lists: Vec<InputLists>,
-    // and how many of them were passed: none.
-    pub(crate) heads: Vec<usize>,
-    // Where a list of texts is made.
-    pub(crate) room: Vec<u32>,
-    // Where the list of a word is joined.
-    pub(crate) joined: Joined,
-    // Where it is spelled.
+    // and the walk through them, before the first word.
+    pub(crate) walk: Walk,
+    // Where the list of a word is spelled.
     pub(crate) encoded: Vec<u8>,
     // Where bytes are held until they are written.
     pub(crate) buffer: Vec<u8>,
@@ -36,9 +32,8 @@ pub struct Prepared {
     pub(crate) dictionary: Vec<u8>,
     // How many bytes the segment has.
     pub(crate) size: u32,
-    ghost start: { (i : ℕ) → slice_index heads.items i ≡ 0 },
-    ghost heads_long: { length heads.items ≡ length lists.items },
-    ghost enough: { All (λ l. room_for l ≤ length room.items) lists.items },
+    ghost start: { IsAtStart walk },
+    ghost walk_of: { IsWalkOf lists.items walk },
     ghost some: { 0 < length buffer.items },
     ghost inside: { All (EndBy disk_bytes) documents.items },
     ghost short: { length front.items < 2 ^ 32 },
@@ -47,7 +42,7 @@ pub struct Prepared {
 }
 
 impl Prepared {
-    ghost use Rattle.std.specs.Prelude.{List};
+    ghost use Rattle.std.specs.Prelude.{◌≡◌, ℕ, List};
     ghost use Rattle.pk_join.specs.declared.input.MergeInput.{MergeInput};
     ghost use Rattle.pk_merge.specs.Prepared.{IsPrepared, OpensAsMerged};
     ghost use Rattle.pk_segment.specs.Spelling.{segment_length};

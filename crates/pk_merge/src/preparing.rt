@@ -4,16 +4,15 @@ ghost use Rattle.std.specs.Prelude.{◌≡◌, ◌≤◌, ◌⊎◌, ℕ, List, 
 ghost use Rattle.std.specs.List.Sorted.{IsStrictlyIncreasing};
 ghost use Rattle.pk_disk.specs.Frames.{KeepsDisk};
 ghost use Rattle.pk_join.specs.Inputs.{HasKind, LiesInside, SpellsInputs};
-ghost use Rattle.pk_join.specs.Listed.{room_for};
+ghost use Rattle.pk_join.specs.Walk.{IsWalkOf, walk_room};
 ghost use Rattle.pk_join.specs.Walking.{AreListed, CanHold};
 ghost use Rattle.pk_merge.specs.Keeping.{AreKept};
 ghost use Rattle.pk_merge.specs.Left.{kept_in};
 ghost use Rattle.pk_merge.specs.Merging.{CountsMerge};
-ghost use Rattle.pk_merge.specs.Planned.{HasPlanned, IsWritten, PlansWordsAs};
+ghost use Rattle.pk_merge.specs.Planned.{HasPlanned, IsWritten};
 ghost use Rattle.pk_merge.specs.Prepared.{IsReady, PreparesAs, PreparesOneAs};
 ghost use Rattle.pk_model.specs.Collection.{numbers_of};
 ghost use Rattle.pk_model.specs.Terms.{terms_of};
-ghost use Rattle.pk_segment.specs.Spelling.{AreDocuments};
 ghost use Rattle.pk_state.specs.Committed.{Stored, all_in, live_in};
 
 use crate::fault::MergeFault;
@@ -25,54 +24,24 @@ use crate::prepared::Prepared;
 use crate::reading::read_all;
 use crate::word_plan::WordPlan;
 use pk_disk::Disk;
-use pk_join::{InputLists, Joined, MergeInput, widest};
+use pk_join::{InputLists, MergeInput, Walk};
 use pk_model::limits::MAX_SEGMENT_BYTES;
 use std::alloc::Global;
-
-// The index of the documents that the inputs leave, so many of them.
-fn plan_index<D: Disk>(
-    alloc: Global,
-    disk: &mut D,
-    inputs: &[MergeInput],
-    lists: &[InputLists],
-    documents: usize,
-) -> Result<WordPlan, MergeFault>
-    requires inputs { length inputs.now ≡ length lists.now }
-    requires inside { All (LiesInside (length (D.content disk.old))) inputs.now }
-    requires few { documents ≤ 134217728 }
-    ensures planned { D.honest → (stored : List Stored)
-        → SpellsInputs (D.content disk.old) inputs.now stored
-        → AreListed inputs.now lists.now stored → CanHold stored documents
-        → PlansWordsAs (live_in stored) result }
-    ensures written { IfOk result IsWritten }
-    ensures keeps { KeepsDisk D.Disk disk.old disk.new }
-    ensures reads { CountsMerge (D.failed_reads disk.old) (D.failed_reads disk.new) result }
-{
-    let mut room = vec![in alloc; 0u32; widest(lists)]?;
-    let mut heads = vec![in alloc; 0usize; lists.len()]?;
-    let mut joined = Joined::with_room(alloc, documents)?;
-    plan_words(
-        alloc,
-        disk,
-        inputs,
-        lists,
-        &mut heads,
-        &mut room,
-        &mut joined,
-    )
-}
 
 // The merge of documents that are left, whose index is planned: its length, and its memory.
 fn prepare_of(
     alloc: Global,
     left: Left,
     lists: Vec<InputLists>,
+    mut walk: Walk,
     plan: WordPlan,
 ) -> Result<Prepared, MergeFault>
-    requires { IsWritten plan }
+    requires written { IsWritten plan }
+    requires walk { IsWalkOf lists.items walk }
     ensures prepared { (bytes : List ℕ) (inputs : List MergeInput) (stored : List Stored)
         → AreListed inputs lists.items stored → AreKept bytes (kept_in left) (live_in stored)
-        → AreDocuments (live_in stored) → HasPlanned plan (terms_of (live_in stored)) (live_in stored)
+        → CanHold stored (walk_room walk)
+        → HasPlanned plan (terms_of (live_in stored)) (live_in stored)
         → PreparesOneAs bytes inputs stored result }
     ensures documents { IfOk result (λ p. p.documents.items ≡ kept_in left) }
     ensures disk_bytes { IfOk result (λ p. p.disk_bytes ≡ left.disk_bytes) }
@@ -94,9 +63,7 @@ fn prepare_of(
         terms: plan.terms,
     };
     let front = front_of(alloc, counts, &left.documents)?;
-    let room = vec![in alloc; 0u32; widest(&lists)]?;
-    let heads = vec![in alloc; 0usize; lists.len()]?;
-    let joined = Joined::with_room(alloc, left.documents.len())?;
+    walk.restart();
     let encoded = vec![in alloc; 0u8; plan.longest_list as usize]?;
     let buffer = vec![in alloc; 0u8; WRITE]?;
     let dictionary = plan.writer.finish(alloc)?;
@@ -104,9 +71,7 @@ fn prepare_of(
         documents: left.documents,
         disk_bytes: left.disk_bytes,
         lists,
-        heads,
-        room,
-        joined,
+        walk,
         encoded,
         buffer,
         front,
@@ -140,7 +105,8 @@ pub fn prepare<D: Disk>(
     if left.documents.is_empty() {
         return Ok(None);
     }
-    let plan = plan_index(alloc, disk, inputs, &lists, left.documents.len())?;
-    let prepared = prepare_of(alloc, left, lists, plan)?;
+    let mut walk = Walk::new(alloc, &lists, left.documents.len())?;
+    let plan = plan_words(alloc, disk, inputs, &lists, &mut walk)?;
+    let prepared = prepare_of(alloc, left, lists, walk, plan)?;
     Ok(Some(prepared))
 }

@@ -9,8 +9,8 @@ ghost use Rattle.std.specs.Prelude.{
   ◌++◌,
   ℕ,
   List,
+  [],
   length,
-  slice_index,
   take,
   drop,
   All,
@@ -19,9 +19,7 @@ ghost use Rattle.std.specs.Prelude.{
 };
 ghost use Rattle.pk_disk.specs.Disk.{in_range};
 ghost use Rattle.pk_join.specs.Inputs.{LiesInside, SpellsInputs};
-ghost use Rattle.pk_join.specs.Joining.{room_in};
-ghost use Rattle.pk_join.specs.Listed.{room_for};
-ghost use Rattle.pk_join.specs.Walking.{AreListed, CanHold};
+ghost use Rattle.pk_join.specs.Walk.{HasCome, IsWalkOf};
 ghost use Rattle.pk_merge.specs.Keeping.{AreKept, EndBy, KeptApart};
 ghost use Rattle.pk_merge.specs.Output.{AreGiven, IsGiven, LiesApart};
 ghost use Rattle.pk_merge.specs.Prepared.{CanMerge, IsPrepared};
@@ -41,7 +39,7 @@ use crate::prepared::Prepared;
 use crate::texts::write_texts;
 use crate::writing::write_lists;
 use pk_disk::{Disk, UNIT};
-use pk_join::{InputLists, Joined, MergeInput};
+use pk_join::{InputLists, MergeInput, Walk};
 use pk_replace::StreamFault;
 
 // Gives header, directory and texts.
@@ -71,23 +69,19 @@ fn write_index<D: Disk>(
     disk: &mut D,
     inputs: &[MergeInput],
     lists: &[InputLists],
-    heads: &mut [usize],
-    room: &mut [u32],
-    joined: &mut Joined,
+    walk: &mut Walk,
     encoded: &mut [u8],
     dictionary: &[u8],
     output: &mut Output,
 ) -> Result<(), StreamFault>
-    requires heads { length heads.old ≡ length lists.now }
-    requires start { (i : ℕ) → slice_index heads.old i ≡ 0 }
+    requires walk { IsWalkOf lists.now walk.old }
     requires inputs { length inputs.now ≡ length lists.now }
     requires inside { All (LiesInside (length (D.content disk.old))) inputs.now }
-    requires room { All (λ l. room_for l ≤ length room.old) lists.now }
     requires stretch { output.old.end ≤ length (D.content disk.old) }
     ensures given { IsGiven D.Disk disk.old disk.new output.old output.new result }
     ensures bytes { D.honest → (stored : List Stored)
-        → SpellsInputs (D.content disk.old) inputs.now stored
-        → AreListed inputs.now lists.now stored → CanHold stored (room_in joined.old)
+        → HasCome (D.content disk.old) inputs.now lists.now stored walk.old []
+        (terms_of (live_in stored))
         → All (LiesApart output.old.start output.old.end) inputs.now
         → All (λ w. length (list_spelling (list_with w (live_in stored))) ≤ length encoded.old)
         (terms_of (live_in stored))
@@ -96,7 +90,7 @@ fn write_index<D: Disk>(
         → AreGiven D.Disk disk.old disk.new output.old output.new
         (postings (live_in stored) ++ dictionary.now) result }
 {
-    write_lists(disk, inputs, lists, heads, room, joined, encoded, output)?;
+    write_lists(disk, inputs, lists, walk, encoded, output)?;
     output.offer(disk, dictionary)
 }
 
@@ -131,17 +125,13 @@ impl Prepared {
             self.disk_bytes,
             &mut output,
         )?;
-        let mut heads = self.heads;
-        let mut room = self.room;
-        let mut joined = self.joined;
+        let mut walk = self.walk;
         let mut encoded = self.encoded;
         write_index(
             disk,
             inputs,
             &self.lists,
-            &mut heads,
-            &mut room,
-            &mut joined,
+            &mut walk,
             &mut encoded,
             &self.dictionary,
             &mut output,

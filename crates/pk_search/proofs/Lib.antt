@@ -1,5 +1,6 @@
 -- The lemma pages; those that callers cite are public.
 pub mod CacheLemmas
+pub mod EntryLemmas
 pub mod FindingLemmas
 mod JoinLemmas
 mod ListLemmas

@@ -3,3 +3,4 @@ pub mod Cached
 pub mod Finding
 pub mod Matching
 pub mod Opened
+pub mod Opening

@@ -9,6 +9,7 @@
 //!
 //! | call | answers | reads |
 //! |---|---|---|
+//! | `open_segments` | the segments of a body, with what is deleted of each | headers, ends of directories, deletion lists |
 //! | `find_stored` | the numbers of the live documents that satisfy a query | posting lists, or each document |
 //! | `text_stored` | the text of the live document of a number, or none | one text, by halving |
 //! | `place_stored` | the place of the segment that has it, or none | one directory, by halving |
@@ -42,9 +43,11 @@ mod kept;
 mod listed;
 mod lists;
 mod opened;
+mod opening;
 mod planned;
 mod showing;
 
 pub use finding::find_stored;
 pub use opened::OpenSegment;
+pub use opening::open_segments;
 pub use showing::{count_stored, place_stored, text_stored};

@@ -29,6 +29,7 @@ use Rattle.pk_store.specs.declared.refused.OpenFault.{OpenFault}
 use Rattle.pk_store.specs.declared.refused.OpenFault.TheVariants.{TooSmall, NotAStore, Damaged}
 use Rattle.pk_store.specs.declared.refused.OpenFault.TheVariants.{Disk, Memory}
 use Rattle.pk_store.specs.declared.refused.Refused.{Refused}
+use Rattle.pk_search.specs.Opening.{OpenAsSegments}
 use Rattle.pk_store.specs.View.{Means, StoreView, volume_of}
 
 -- the fewest units of a store
@@ -39,39 +40,6 @@ least_units = 64
 abbrev pub disk_of : {D F : Type 0} → Result (StoreView D) (Refused D F) → D
 disk_of (Ok s) = s.volume.disk
 disk_of (Err refused) = refused.disk
-
--- The bytes are the posting list of these numbers, no more than so many.
-pub record SpellsFew (bytes : List ℕ) (count : ℕ) (dead : List ℕ) : Type 0 where
-  pub posting : IsPosting dead
-  pub same : bytes ≡ list_spelling dead
-  pub few : length dead ≤ count
-
--- the dead numbers are those of the entry's deletion list, no more than so many; without one there
--- are none
-abbrev pub OpensAsList : List ℕ → Option Extent → ℕ → List ℕ → Type 0
-OpensAsList bytes None count dead = dead ≡ []
-OpensAsList bytes (Some e) count dead = SpellsFew (extent_bytes bytes e) count dead
-
--- the header and the directory's ends in the entry's extent open as this segment of its kind
-abbrev pub ExtentOpensAs : List ℕ → Entry → Segment → Type 0
-ExtentOpensAs bytes e s = IsOpened (extent_bytes bytes e.extent) e.extent.bytes e.kind s
-
--- The entry's extent opens as this segment, with the dead numbers of its deletion list; no other
--- one is deleted.
-pub record OpensAsSegment (bytes : List ℕ) (e : Entry) (o : OpenSegment) : Type 0 where
-  pub opened : ExtentOpensAs bytes e o.segment
-  pub list : OpensAsList bytes e.dead (count_of o.segment) o.dead
-  pub deleted : o.deleted ≡ o.dead
-
--- Each entry opens as the segment at its place; their numbers rise from segment to segment, above
--- low, and stay below next.
-abbrev pub OpenAsSegments : List ℕ → ℕ → ℕ → List Entry → List OpenSegment → Type 0
-OpenAsSegments bytes low next [] [] = Unit {0}
-OpenAsSegments bytes low next [] (o ∷ os) = ⊥
-OpenAsSegments bytes low next (e ∷ es) [] = ⊥
-OpenAsSegments bytes low next (e ∷ es) (o ∷ os) =
-    OpensAsSegment bytes e o × (low < first_of o.segment) × (last_of o.segment < next)
-    × OpenAsSegments bytes (last_of o.segment) next es os
 
 -- WHAT OPENING JUDGES: the body in force, the ends of its segments and their deletion lists,
 -- nothing else.

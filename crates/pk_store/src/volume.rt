@@ -16,7 +16,7 @@ ghost use Rattle.pk_state.specs.Holds.{IndexesEntries};
 ghost use Rattle.pk_store.specs.Deleting.{DeletesAt, DeletesIn};
 ghost use Rattle.pk_merge.specs.Choosing.{ChoosesAs};
 ghost use Rattle.pk_state.specs.Writing.{is_merged, sizes_of};
-ghost use Rattle.pk_store.specs.Merging.{AreInputsOf, MergesRun, OpensRun, PlansRun};
+ghost use Rattle.pk_store.specs.Merging.{AreInputsOf, MergesRun, PlansRun};
 ghost use Rattle.pk_layout.specs.Plan.{AreNext, DueAs, GoesOn, IsPlan, PlansAs};
 ghost use Rattle.pk_store.specs.Carrying.{Carries, Goes, MeetsNone};
 ghost use Rattle.pk_store.specs.View.{IsCached, IsReady, KeepsVolume, StandFor, committed_by};
@@ -26,7 +26,7 @@ use pk_cache::BlockCache;
 use pk_disk::Disk;
 use pk_index::Index;
 use pk_layout::{
-    CommitPlan, MAX_DELETED, MergePlan, NewSegment, Plan, copy_of, inputs_of, plan_commit,
+    CommitPlan, MAX_DELETED, MergePlan, Plan, copy_of, inputs_of, new_segment, plan_commit,
     plan_merged, refusal_of, written_kind,
 };
 use pk_manifest::{Half, Manifest};
@@ -45,22 +45,6 @@ use std::marker::Model;
 struct RunPlan {
     merge: MergePlan,
     prepared: Option<Prepared>,
-}
-
-// The segment that is going to be written, if there is one.
-fn new_segment(prepared: &Option<Prepared>) -> Result<Option<NewSegment>, Refusal>
-    ensures { OpensRun prepared.now result }
-{
-    let Some(prepared) = prepared else {
-        return Ok(None);
-    };
-    let Some(segment) = prepared.segment() else {
-        return Err(Refusal::Damaged);
-    };
-    Ok(Some(NewSegment {
-        bytes: prepared.size(),
-        segment,
-    }))
 }
 
 /// What is committed, on its disk, and what of it is deleted.

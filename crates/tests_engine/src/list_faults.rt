@@ -334,19 +334,19 @@ const MERGE_DONE: &str = "
 /// |---|---|
 /// | 1 to 16 | opening |
 /// | 17 | the deletion: the entry of document 2 |
-/// | 18 to 103 | the segments' headers, directories, dictionaries and lists |
-/// | 104 to 106 | the read of gate B, its close, a sync |
-/// | 107 to 123 | the texts that are left, and the lists once more |
-/// | 124 to 126 | the segment, the body, a sync |
-/// | 127, 128 | the gate, a sync |
+/// | 18 to 87 | the segments' headers, directories, dictionaries and lists |
+/// | 88 to 90 | the read of gate B, its close, a sync |
+/// | 91 to 100 | the texts that are left, and the lists once more |
+/// | 101 to 103 | the segment, the body, a sync |
+/// | 104, 105 | the gate, a sync |
 const MERGING: [(u64, u64, &[&str], &str); 7] = [
-    (18, 104, ONCE, MERGE_AGAIN),
-    (18, 104, ON, MERGE_REFUSED),
-    (105, 106, EITHER, MERGE_CUT),
-    (107, 123, ONCE, MERGE_AGAIN),
-    (107, 123, ON, MERGE_REFUSED),
-    (124, 128, EITHER, MERGE_CUT),
-    (129, 129, ON, MERGE_DONE),
+    (18, 88, ONCE, MERGE_AGAIN),
+    (18, 88, ON, MERGE_REFUSED),
+    (89, 90, EITHER, MERGE_CUT),
+    (91, 100, ONCE, MERGE_AGAIN),
+    (91, 100, ON, MERGE_REFUSED),
+    (101, 105, EITHER, MERGE_CUT),
+    (106, 106, ON, MERGE_DONE),
 ];
 
 #[test]

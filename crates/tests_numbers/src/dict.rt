@@ -280,7 +280,8 @@ fn damage_is_answered(rt: HostRuntime) -> Result<(), Fail> {
     Ok(())
 }
 
-// Of 17 terms the second group is read: the offsets are asked for once, and each group.
+// Of 17 terms the second group is read: the windows are asked for its offset and for its term,
+// which one piece has; the offsets are asked for once, and each group.
 #[test]
 fn windows_ask_once(rt: HostRuntime) -> Result<(), Fail> {
     let alloc = rt.alloc();
@@ -292,7 +293,7 @@ fn windows_ask_once(rt: HostRuntime) -> Result<(), Fail> {
     assert_eq!(rt; windows.len() as usize, bytes.len());
     let found = look_up_in(&mut windows, place, b"aaadc");
     assert_eq!(rt; found, Ok(Some(entry_at(16))));
-    assert_eq!(rt; windows.asked(), 6);
+    assert_eq!(rt; windows.asked(), 2);
     assert_eq!(rt; source.asked(), 2);
     Ok(())
 }

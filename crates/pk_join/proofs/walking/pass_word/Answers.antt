@@ -2,9 +2,19 @@
 use Rattle.std.proofs.Common.{◌∙◌, ◌<◌, ℕ, List, true, false, length, slice_index, sym, ap, arith}
 use Rattle.std.specs.Prelude.{slice_get}
 use Rattle.pk_join.specs.Walking.{is_word}
-use Rattle.pk_join.proofs.WalkLemmas.{passed_more, words_at_is}
+use Rattle.pk_join.specs.Listed.{words_in}
+use Rattle.pk_join.proofs.WalkLemmas.{found_at, found_within, passed_more, words_at_is}
+use Rattle.pk_join.proofs.WordLemmas.{words_few}
 use Rattle.pk_join.proofs.walking.pass_word.Goals as goal
 use Rattle.pk_join.proofs.walking.pass_word.Goals.{then-is_head, else-is_head}
+
+-- a head that is not at the end may go on
+pub overflow_add-heads : goal.overflow_add-heads
+overflow_add-heads c =
+    let words = c.index-lists-i.result in
+    let head = slice_index c.loop-i.heads c.loop-i.i in
+    let found = found_at words head c.args.word.now (sym c.is_head.ensures ∙ c.if-is_head.true) in
+    omega (arith, found_within (words_in words) head c.args.word.now found, words_few words)
 
 pub loop-i-preserved : goal.loop-i-preserved
 loop-i-preserved c =

@@ -6,7 +6,9 @@ use Rattle.std.proofs.lemmas.Bool.{cases_lt, eq-eqb, eqb-true}
 use Rattle.std.proofs.lemmas.Result.{err_from_is_err_and}
 use Rattle.pk_join.specs.declared.lists.InputLists.{InputLists}
 use Rattle.pk_join.specs.Inputs.{SpellsInputs}
+use Rattle.pk_join.specs.Walk.{walk_room}
 use Rattle.pk_join.specs.Walking.{AreListed, CanHold}
+use Rattle.pk_join.proofs.ComeLemmas.{come_start}
 use Rattle.pk_state.specs.Committed.{all_in, live_in}
 use Rattle.pk_merge.specs.declared.fault.MergeFault.{MergeFault}
 use Rattle.pk_merge.specs.declared.kept.Kept.{Kept}
@@ -56,15 +58,15 @@ returns-in_err-plan-clause-prepared g c = λ honest stored spells rising.
     let left = c.read_all.new.left in
     let some : 0 < length (kept_in left) = omega (arith, some_of left.documents.len (sym c.is_empty.ensures ∙ c.if-is_empty.false), left.documents.ok) in
     let long = kept_long content (kept_in left) (live_in stored) read.1 in
-    let can : CanHold stored c.len-2.result = record {
+    let can : CanHold stored (walk_room c.in_ok-walk.walk) = record {
       are = live_are content c.args.inputs.now stored spells start (omega (arith, some, long));
       fits = omega (arith, kept_size content (kept_in left) (live_in stored) read.1, left.size, left.fits);
-      few = omega (arith, long, left.documents.ok, c.len-2.ensures);
+      few = omega (arith, long, left.documents.ok, c.len-2.ensures, c.in_ok-walk.ensures.room);
     } in
     let same = (c.read_all.ensures.keeps.read honest).bytes in
     let here = subst (λ (b : List ℕ). SpellsInputs b c.args.inputs.now stored) (sym same) spells in
-    let listed = subst (λ (ls : List InputLists). AreListed c.args.inputs.now ls stored) (sym c.deref.ensures.value) read.0 in
-    let fault = c.in_err-plan.ensures.planned honest stored here listed can in
+    let listed = subst (λ (ls : List InputLists). AreListed c.args.inputs.now ls stored) (sym c.deref-2.ensures.value) read.0 in
+    let fault = c.in_err-plan.ensures.planned honest stored (come_start _ c.args.inputs.now _ stored c.in_ok-walk.walk here listed can c.in_ok-walk.ensures.start) in
     let found = err_from_is_err_and c.from_residual-in_err-plan.result c.from_residual-in_err-plan.ensures.1 in
     rw found.1 (subst (λ (x : MergeFault). MergeFails (live_in stored) 2 x) (sym found.2) fault)
 
@@ -79,16 +81,17 @@ returns-in_err-prepared-clause-prepared g c = λ honest stored spells rising.
     let some : 0 < length (kept_in left) = omega (arith, some_of left.documents.len (sym c.is_empty.ensures ∙ c.if-is_empty.false), left.documents.ok) in
     let long = kept_long content (kept_in left) (live_in stored) read.1 in
     let are = live_are content c.args.inputs.now stored spells start (omega (arith, some, long)) in
-    let can : CanHold stored c.len-2.result = record {
+    let can : CanHold stored (walk_room c.in_ok-walk.walk) = record {
       are = are;
       fits = omega (arith, kept_size content (kept_in left) (live_in stored) read.1, left.size, left.fits);
-      few = omega (arith, long, left.documents.ok, c.len-2.ensures);
+      few = omega (arith, long, left.documents.ok, c.len-2.ensures, c.in_ok-walk.ensures.room);
     } in
     let same = (c.read_all.ensures.keeps.read honest).bytes in
     let here = subst (λ (b : List ℕ). SpellsInputs b c.args.inputs.now stored) (sym same) spells in
-    let listed = subst (λ (ls : List InputLists). AreListed c.args.inputs.now ls stored) (sym c.deref.ensures.value) read.0 in
-    let planned = c.in_ok-plan.ensures.planned honest stored here listed can in
-    let fault = c.in_err-prepared.ensures.prepared content c.args.inputs.now stored read.0 read.1 are planned in
+    let listed = subst (λ (ls : List InputLists). AreListed c.args.inputs.now ls stored) (sym c.deref-2.ensures.value) read.0 in
+    let planned = c.in_ok-plan.ensures.planned honest stored (come_start _ c.args.inputs.now _ stored c.in_ok-walk.walk here listed can c.in_ok-walk.ensures.start) in
+    let can_still = subst (CanHold stored) (sym c.plan_words.ensures.room) can in
+    let fault = c.in_err-prepared.ensures.prepared content c.args.inputs.now stored read.0 read.1 can_still planned in
     let found = err_from_is_err_and c.from_residual-in_err-prepared.result c.from_residual-in_err-prepared.ensures.1 in
     rw found.1 (subst (λ (x : MergeFault). MergeFails (live_in stored) 2 x) (sym found.2) fault)
 
@@ -103,16 +106,17 @@ returns-clause-prepared g c = λ honest stored spells rising.
     let some : 0 < length (kept_in left) = omega (arith, some_of left.documents.len (sym c.is_empty.ensures ∙ c.if-is_empty.false), left.documents.ok) in
     let long = kept_long content (kept_in left) (live_in stored) read.1 in
     let are = live_are content c.args.inputs.now stored spells start (omega (arith, some, long)) in
-    let can : CanHold stored c.len-2.result = record {
+    let can : CanHold stored (walk_room c.in_ok-walk.walk) = record {
       are = are;
       fits = omega (arith, kept_size content (kept_in left) (live_in stored) read.1, left.size, left.fits);
-      few = omega (arith, long, left.documents.ok, c.len-2.ensures);
+      few = omega (arith, long, left.documents.ok, c.len-2.ensures, c.in_ok-walk.ensures.room);
     } in
     let same = (c.read_all.ensures.keeps.read honest).bytes in
     let here = subst (λ (b : List ℕ). SpellsInputs b c.args.inputs.now stored) (sym same) spells in
-    let listed = subst (λ (ls : List InputLists). AreListed c.args.inputs.now ls stored) (sym c.deref.ensures.value) read.0 in
-    let planned = c.in_ok-plan.ensures.planned honest stored here listed can in
-    c.in_ok-prepared.ensures.prepared content c.args.inputs.now stored read.0 read.1 are planned
+    let listed = subst (λ (ls : List InputLists). AreListed c.args.inputs.now ls stored) (sym c.deref-2.ensures.value) read.0 in
+    let planned = c.in_ok-plan.ensures.planned honest stored (come_start _ c.args.inputs.now _ stored c.in_ok-walk.walk here listed can c.in_ok-walk.ensures.start) in
+    let can_still = subst (CanHold stored) (sym c.plan_words.ensures.room) can in
+    c.in_ok-prepared.ensures.prepared content c.args.inputs.now stored read.0 read.1 can_still planned
 
 pub returns-clause-ready : goal.returns-clause-ready
 returns-clause-ready g c =

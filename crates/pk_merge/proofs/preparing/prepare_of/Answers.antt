@@ -1,12 +1,7 @@
 -- The lengths of the parts make that of the segment.
-use Rattle.std.proofs.Common.{◌≡◌, ◌∙◌, ◌≤◌, ◌+◌, ◌-◌, ◌*◌, inl, inr, List, ℕ, length, slice_index, refl, ap, subst, arith}
-use Rattle.std.specs.Prelude.{All}
-use Rattle.std.proofs.Math.ListN.{replicate}
-use Rattle.std.proofs.lemmas.Bool.{cases_lt}
-use Rattle.std.proofs.lemmas.List.{get_or-replicate, get_or_past, length-replicate}
+use Rattle.std.proofs.Common.{◌≡◌, ◌∙◌, ◌+◌, ◌-◌, ◌*◌, List, length, refl, ap, sym, subst, arith}
 use Rattle.pk_dict.specs.Dictionary.{spelling as dictionary_spelling}
-use Rattle.pk_join.specs.declared.lists.InputLists.{InputLists}
-use Rattle.pk_join.specs.Listed.{room_for}
+use Rattle.pk_join.specs.Walking.{CanHold}
 use Rattle.pk_model.specs.Collection.{Doc}
 use Rattle.pk_model.specs.Terms.{terms_of}
 use Rattle.pk_segment.specs.Indexed.{dictionary, items_of}
@@ -22,13 +17,8 @@ dictionary_long : (docs : List Doc) → length (dictionary_spelling (items_of do
 unfolding dictionary
 dictionary_long docs = refl
 
-pub invariant_of-result-clause-heads_long : goal.invariant_of-result-clause-heads_long
-invariant_of-result-clause-heads_long c = omega (arith, c.in_ok-heads.ensures.len, c.in_ok-heads.heads.ok, c.len.ensures, c.args.lists.ok)
-
-pub invariant_of-result-clause-enough : goal.invariant_of-result-clause-enough
-invariant_of-result-clause-enough c = λ k d within.
-    let all = subst (All (λ (l : InputLists). room_for l ≤ c.widest.result)) c.deref-2.ensures.value c.widest.ensures.enough in
-    omega (arith, all k d within, c.in_ok-room.ensures.len, c.in_ok-room.room.ok)
+pub invariant_of-result-clause-walk_of : goal.invariant_of-result-clause-walk_of
+invariant_of-result-clause-walk_of c = c.restart.ensures.walk c.args.lists.items c.requires.walk
 
 pub invariant_of-result-clause-some : goal.invariant_of-result-clause-some
 invariant_of-result-clause-some c = omega (arith, c.in_ok-buffer.ensures.len, c.in_ok-buffer.buffer.ok)
@@ -46,7 +36,7 @@ pub invariant_of-result-clause-short : goal.invariant_of-result-clause-short
 invariant_of-result-clause-short c = omega (arith, c.in_ok-front.ensures.long, ap length c.deref.ensures.value, c.bytes-plain.ensures.value, c.bytes-plain.ensures.fits)
 
 pub returns-then-size-from-clause-prepared : goal.returns-then-size-from-clause-prepared
-returns-then-size-from-clause-prepared c = λ bytes inputs stored listed kept are planned.
+returns-then-size-from-clause-prepared c = λ bytes inputs stored listed kept can planned.
     let docs = live_in stored in
     let plain = c.bytes-plain.ensures.value ∙ kept_size bytes (kept_in c.args.left) docs kept in
     let lists = planned.postings_are ∙ ap length (lists_all docs (terms_of docs) refl) in
@@ -54,7 +44,7 @@ returns-then-size-from-clause-prepared c = λ bytes inputs stored listed kept ar
     omega (arith, c.if-size-from.true, c.from.ensures, c.from-2.ensures, c.from-3.ensures, size_sum docs c.bytes-plain.result c.args.plan.postings c.size.result plain lists words)
 
 pub returns-clause-prepared : goal.returns-clause-prepared
-returns-clause-prepared c = λ bytes inputs stored listed kept are planned.
+returns-clause-prepared c = λ bytes inputs stored listed kept can planned.
     let docs = live_in stored in
     let ks = kept_in c.args.left in
     let plain = c.bytes-plain.ensures.value ∙ kept_size bytes ks docs kept in
@@ -67,11 +57,7 @@ returns-clause-prepared c = λ bytes inputs stored listed kept are planned.
     record {
       listed = listed;
       kept = kept;
-      can = record {
-        are = are;
-        fits = omega (arith, plain, c.bytes-plain.ensures.fits);
-        few = omega (arith, long, c.args.left.documents.ok, c.in_ok-joined.ensures.room, c.len-2.ensures);
-      };
+      can = subst (CanHold stored) (sym c.restart.ensures.room) can;
       dictionary_is = dictionary_is docs c.in_ok-dictionary.dictionary.items (c.in_ok-dictionary.ensures (items_of docs) planned.added);
       front_is = c.in_ok-front.ensures.bytes ∙ front_same docs c.len-documents.result (c.bytes-plain.result - 24 - 12 * c.len-documents.result) c.args.plan.postings (c.from.result + c.from-2.result + c.size.result - c.bytes-plain.result - c.args.plan.postings) c.args.plan.terms (kept_directory 0 c.deref.result.now)
           count (omega (arith, plain, front_of docs, count)) lists (omega (arith, c.from.ensures, c.from-2.ensures, words_are)) planned.terms_are (ap (kept_directory 0) c.deref.ensures.value ∙ directory_is bytes 0 ks docs kept);
@@ -79,12 +65,3 @@ returns-clause-prepared c = λ bytes inputs stored listed kept are planned.
       size_is = omega (arith, c.from.ensures, c.from-2.ensures, whole);
       fits = omega (arith, c.if-size-from.false, c.from-3.ensures);
     }
-
-zeros : (n i : ℕ) → slice_index (replicate n 0) i ≡ 0
-zeros n i = elim (cases_lt i n) [
-  | inl lt ↦ get_or-replicate n i 0 0 lt
-  | inr le ↦ get_or_past (replicate n 0) i 0 (omega (arith, le, length-replicate {A = ℕ} n 0))
-]
-
-pub invariant_of-result-clause-start : goal.invariant_of-result-clause-start
-invariant_of-result-clause-start c = λ i. ap (λ (l : List ℕ). slice_index l i) (c.in_ok-heads.ensures.items_if_clones_equal (λ y e. e)) ∙ zeros c.len.result i

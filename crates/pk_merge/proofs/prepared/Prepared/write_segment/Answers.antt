@@ -4,6 +4,7 @@ use Rattle.std.specs.Prelude.{All}
 use Rattle.std.proofs.lemmas.Result.{err_from_is_err_and}
 use Rattle.pk_join.specs.declared.lists.InputLists.{InputLists}
 use Rattle.pk_join.specs.Walking.{AreListed}
+use Rattle.pk_join.proofs.ComeLemmas.{come_start}
 use Rattle.pk_model.specs.Terms.{terms_of}
 use Rattle.pk_posting.specs.Spelling.{spelling as list_spelling}
 use Rattle.pk_replace.specs.declared.stream.StreamFault.{StreamFault}
@@ -66,11 +67,11 @@ returns-in_err-write_index-clause-undamaged g c = λ honest stored spells is.
     let before = apart_there c.args.inputs.now p.start p.end o.start o.end (sym given.stretch.start) (sym given.stretch.end) apart in
     let here = spells_stays (content c.args.disk.now) (content c.write_front.new.disk) c.args.inputs.now stored o.start o.end given.writes.size (given.writes.changed honest).same before spells in
     let listed = subst (λ (ls : List InputLists). AreListed c.args.inputs.now ls stored) (sym c.deref-3.ensures.value) is.listed in
-    let enough = subst (λ (l : List ℕ). All (λ w. length (list_spelling (list_with w docs)) ≤ length l) (terms_of docs)) (sym c.deref_mut-3.ensures.value) is.enough in
+    let enough = subst (λ (l : List ℕ). All (λ w. length (list_spelling (list_with w docs)) ≤ length l) (terms_of docs)) (sym c.deref_mut.ensures.value) is.enough in
     let words = c.deref-4.ensures.value ∙ is.dictionary_is in
     let whole = two_lengths docs c.deref.result.now c.deref-4.result.now front words in
     let more : p.at + p.filled + length (postings docs ++ c.deref-4.result.now) ≤ p.end = omega (arith, whole, is.size_is, one.count, fresh.at_is, fresh.end_is, fresh.none_held, given.stretch.end, c.from.ensures) in
-    let cause = (c.in_err-write_index.ensures.bytes honest stored here listed is.can apart enough more).undamaged in
+    let cause = (c.in_err-write_index.ensures.bytes honest stored (come_start _ c.args.inputs.now _ stored self.walk here listed is.can self.start) apart enough more).undamaged in
     let found = err_from_is_err_and c.from_residual-in_err-write_index.result c.from_residual-in_err-write_index.ensures.1 in
     subst (λ (r : Result (Unit {0}) StreamFault). IsUndamaged r) (sym found.1) (subst (λ (x : StreamFault). IsUndamaged {T = Unit {0}} (Err x)) (sym found.2) cause)
 
@@ -109,11 +110,11 @@ returns-clause-there g c = λ honest stored spells is.
     let before = apart_there c.args.inputs.now p.start p.end o.start o.end (sym given.stretch.start) (sym given.stretch.end) apart in
     let here = spells_stays (content c.args.disk.now) (content c.write_front.new.disk) c.args.inputs.now stored o.start o.end given.writes.size (given.writes.changed honest).same before spells in
     let listed = subst (λ (ls : List InputLists). AreListed c.args.inputs.now ls stored) (sym c.deref-3.ensures.value) is.listed in
-    let enough = subst (λ (l : List ℕ). All (λ w. length (list_spelling (list_with w docs)) ≤ length l) (terms_of docs)) (sym c.deref_mut-3.ensures.value) is.enough in
+    let enough = subst (λ (l : List ℕ). All (λ w. length (list_spelling (list_with w docs)) ≤ length l) (terms_of docs)) (sym c.deref_mut.ensures.value) is.enough in
     let words = c.deref-4.ensures.value ∙ is.dictionary_is in
     let whole = two_lengths docs c.deref.result.now c.deref-4.result.now front words in
     let more : p.at + p.filled + length (postings docs ++ c.deref-4.result.now) ≤ p.end = omega (arith, whole, is.size_is, one.count, fresh.at_is, fresh.end_is, fresh.none_held, given.stretch.end, c.from.ensures) in
-    let two = c.in_ok-write_index.ensures.bytes honest stored here listed is.can apart enough more in
+    let two = c.in_ok-write_index.ensures.bytes honest stored (come_start _ c.args.inputs.now _ stored self.walk here listed is.can self.start) apart enough more in
     let q = c.write_index.new.output in
     let xs = c.deref.result.now ++ texts docs in
     let ys = postings docs ++ c.deref-4.result.now in
