@@ -8,5 +8,6 @@ pub mod OpenLemmas
 pub mod OutputLemmas
 pub mod ReadLemmas
 pub mod RiseLemmas
+pub mod SpanLemmas
 pub mod StreamLemmas
 pub mod TextLemmas

@@ -9,5 +9,6 @@ pub mod Planned
 pub mod Output
 pub mod Prepared
 pub mod ReadAll
+pub mod Spans
 pub mod Streaming
 pub mod Writing

@@ -25,10 +25,14 @@
 //! Its list is joined from those of the inputs without the dead numbers, and only its length and its
 //! entry are kept. So the exact length is known, and all memory taken, before the first write.
 //!
-//! `merge_into` then writes header and directory, copies the texts one after the other, goes
-//! through the words a second time, which gives the posting lists, and writes the dictionary: in
-//! writes of 65,536 bytes, the last one perhaps shorter. It takes no memory. It writes no position
-//! outside the segment's place, whatever it reads and answers, and its bytes are those of `merged`.
+//! `merge_into` then writes header and directory and the texts, goes through the words a second
+//! time, which gives the posting lists, and writes the dictionary: in writes of 65,536 bytes, the
+//! last one perhaps shorter. It takes no memory. It writes no position outside the segment's place,
+//! whatever it reads and answers, and its bytes are those of `merged`.
+//!
+//! Texts are read in spans: the next ones at once, as many as stand within 65,536 bytes from the
+//! first one's place on, with what was deleted between them. So some hundred short texts are one
+//! read, which is too long for a page cache to keep. A text that is a span alone is copied.
 //!
 //! What is prepared takes memory for:
 //!
@@ -39,6 +43,7 @@
 //! | an input of kind 1 | the index of its texts, and its words |
 //! | the dictionary | its bytes |
 //! | the longest posting list | its bytes |
+//! | the texts that are read at once | 65,536 bytes |
 //! | what is to be written | 65,536 bytes |
 //!
 //! It keeps no texts (of an input of kind 1 one at a time), and of inputs of kind 2 no lists but
@@ -61,9 +66,10 @@
 //! Where the words are: `specs/Merging` has what a merge answers (what inputs spell is in pk_join's
 //! `specs/Inputs`), `specs/Gathering` what stands in memory on the way, `specs/Choosing` what is
 //! chosen, `specs/Prepared` what is prepared, `specs/Keeping` where the texts stand that are kept,
-//! `specs/Output` what was given to be written, `specs/Streaming` what `MergeWriter` promises. Lemma
-//! pages: `RiseLemmas` on the order of the numbers, `GatherLemmas` on what was gathered,
-//! `LiveLemmas` on the documents that are left, `GivenLemmas` and `StreamLemmas` on what is given
+//! `specs/Spans` which of them are read at once, `specs/Output` what was given to be written,
+//! `specs/Streaming` what `MergeWriter` promises. Lemma pages: `RiseLemmas` on the order of the
+//! numbers, `GatherLemmas` on what was gathered, `LiveLemmas` on the documents that are left,
+//! `SpanLemmas` on texts that are read at once, `GivenLemmas` and `StreamLemmas` on what is given
 //! part after part; pk_join's `TermWalkLemmas` on the walk through the words.
 #![tactic(auto)]
 

@@ -216,4 +216,27 @@ impl Output {
         }
         Ok(())
     }
+
+    /// Gives bytes that stand elsewhere on the disk where there is room for them, else they are
+    /// `Damaged`.
+    pub(crate) fn offer_from<D: Disk>(
+        &mut self,
+        disk: &mut D,
+        from: u64,
+        len: u64,
+    ) -> Result<(), StreamFault>
+        requires stretch { self.old.end ≤ length (D.content disk.old) }
+        requires source { from + len ≤ length (D.content disk.old) }
+        requires low { from + len < 2 ^ 64 }
+        requires apart { (from + len ≤ self.old.start) ⊎ (self.old.end ≤ from) }
+        ensures given { IsGiven D.Disk disk.old disk.new self.old self.new result }
+        ensures bytes { D.honest → self.old.at + self.old.filled + len ≤ self.old.end
+            → AreGiven D.Disk disk.old disk.new self.old self.new
+            (take len (drop from (D.content disk.old))) result }
+    {
+        if len > self.room() {
+            return Err(StreamFault::Damaged);
+        }
+        self.copy(disk, from, len)
+    }
 }

@@ -3,6 +3,7 @@
 ghost use Rattle.std.specs.Prelude.{◌≤◌, ◌<◌, ◌^◌, length, All};
 ghost use Rattle.pk_join.specs.Walk.{IsAtStart, IsWalkOf};
 ghost use Rattle.pk_merge.specs.Keeping.{EndBy};
+ghost use Rattle.pk_merge.specs.declared.texts.TheConstants.{SPAN_BYTES};
 ghost use Rattle.pk_segment.specs.Spelling.{longest};
 
 use crate::kept::Kept;
@@ -24,6 +25,8 @@ pub struct Prepared {
     pub(crate) walk: Walk,
     // Where the list of a word is spelled.
     pub(crate) encoded: Vec<u8>,
+    // Where the texts that are read at once stand.
+    pub(crate) room: Vec<u8>,
     // Where bytes are held until they are written.
     pub(crate) buffer: Vec<u8>,
     // The header and the directory.
@@ -35,6 +38,7 @@ pub struct Prepared {
     ghost start: { IsAtStart walk },
     ghost walk_of: { IsWalkOf lists.items walk },
     ghost some: { 0 < length buffer.items },
+    ghost room_for_texts: { SPAN_BYTES ≤ length room.items },
     ghost inside: { All (EndBy disk_bytes) documents.items },
     ghost short: { length front.items < 2 ^ 32 },
     ghost least: { 1 ≤ size },

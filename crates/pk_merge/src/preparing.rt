@@ -22,6 +22,7 @@ use crate::output::WRITE;
 use crate::planning::plan_words;
 use crate::prepared::Prepared;
 use crate::reading::read_all;
+use crate::texts::SPAN_BYTES;
 use crate::word_plan::WordPlan;
 use pk_disk::Disk;
 use pk_join::{InputLists, MergeInput, Walk};
@@ -65,6 +66,7 @@ fn prepare_of(
     let front = front_of(alloc, counts, &left.documents)?;
     walk.restart();
     let encoded = vec![in alloc; 0u8; plan.longest_list as usize]?;
+    let room = vec![in alloc; 0u8; SPAN_BYTES]?;
     let buffer = vec![in alloc; 0u8; WRITE]?;
     let dictionary = plan.writer.finish(alloc)?;
     Ok(Prepared {
@@ -73,6 +75,7 @@ fn prepare_of(
         lists,
         walk,
         encoded,
+        room,
         buffer,
         front,
         dictionary,

@@ -36,7 +36,7 @@ use crate::fault::MergeFault;
 use crate::kept::Kept;
 use crate::output::Output;
 use crate::prepared::Prepared;
-use crate::texts::write_texts;
+use crate::texts::{SPAN_BYTES, write_texts};
 use crate::writing::write_lists;
 use pk_disk::{Disk, UNIT};
 use pk_join::{InputLists, MergeInput, Walk};
@@ -48,10 +48,12 @@ fn write_front<D: Disk>(
     front: &[u8],
     documents: &[Kept],
     disk_bytes: u64,
+    room: &mut [u8],
     output: &mut Output,
 ) -> Result<(), StreamFault>
     requires disk_bytes { disk_bytes ≡ length (D.content disk.old) }
     requires inside { All (EndBy disk_bytes) documents.now }
+    requires room { SPAN_BYTES ≤ length room.old }
     requires stretch { output.old.end ≤ length (D.content disk.old) }
     requires apart { All (KeptApart output.old.start output.old.end) documents.now }
     ensures given { IsGiven D.Disk disk.old disk.new output.old output.new result }
@@ -61,7 +63,7 @@ fn write_front<D: Disk>(
         result }
 {
     output.offer(disk, front)?;
-    write_texts(disk, documents, disk_bytes, output)
+    write_texts(disk, documents, disk_bytes, room, output)
 }
 
 // Gives posting lists and dictionary.
@@ -118,11 +120,13 @@ impl Prepared {
     {
         let start = UNIT * u64::from(first);
         let mut output = Output::over(self.buffer, start, start + u64::from(self.size));
+        let mut room = self.room;
         write_front(
             disk,
             &self.front,
             &self.documents,
             self.disk_bytes,
+            &mut room,
             &mut output,
         )?;
         let mut walk = self.walk;

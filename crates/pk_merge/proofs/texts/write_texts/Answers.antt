@@ -1,56 +1,61 @@
--- One text after the other.
-use Rattle.std.proofs.Common.{◌≡◌, ◌∙◌, ◌++◌, ◌+◌, ◌<◌, List, ℕ, length, take, drop, get_or, sym, ap, subst, arith, length-drop}
-use Rattle.std.proofs.lemmas.List.{length-take-le, take_all}
+-- One span after the other.
+use Rattle.std.proofs.Common.{List, ℕ, length, take, drop, sym, ap, subst, arith, length-drop, Err}
+use Rattle.std.specs.Prelude.{All}
+use Rattle.std.proofs.lemmas.List.{take_all, take_rest}
+use Rattle.std.proofs.lemmas.Result.{err_from_is_err_and}
 use Rattle.pk_model.specs.Collection.{Doc}
+use Rattle.pk_replace.specs.declared.stream.StreamFault.{StreamFault}
+use Rattle.pk_replace.specs.Cause.{IsUndamaged}
 use Rattle.pk_segment.specs.Spelling.{texts}
-use Rattle.pk_merge.specs.declared.kept.Kept.{Kept}
+use Rattle.pk_merge.specs.Keeping.{EndBy}
 use Rattle.pk_merge.specs.Output.{AreGiven}
-use Rattle.pk_merge.proofs.GivenLemmas.{are_given_then, is_given_then, well}
-use Rattle.pk_merge.proofs.KeepLemmas.{bytes_next, bytes_within, kept_long, kept_texts}
-use Rattle.pk_merge.proofs.TextLemmas.{text_given, text_stays, texts_next}
+use Rattle.pk_merge.proofs.GivenLemmas.{are_given_then, err_given, is_given_then, well}
+use Rattle.pk_merge.proofs.KeepLemmas.{kept_long}
+use Rattle.pk_merge.proofs.SpanLemmas.{more_within, rest_kept, texts_more}
 use Rattle.pk_merge.proofs.texts.write_texts.Goals as goal
 
-none : Kept
-none = record { number = 0; at = 0; len = 0 }
-
-pub returns-then-from-room-clause-bytes : goal.returns-then-from-room-clause-bytes
-unfolding none
-returns-then-from-room-clause-bytes g c = λ honest docs are room.
-    let ks = c.args.documents.now in
-    let i = c.loop-kept.kept-index in
-    absurd (omega (arith, c.loop-kept.invariant.count, bytes_next ks i none c.loop-kept-test.true, bytes_within ks (i + 1), kept_texts (g.D.Disk.content c.args.disk.now) ks docs are, room, c.loop-kept.invariant.given.stretch.end, c.from.ensures, c.room.ensures, c.if-from-room.true))
-
-pub loop-kept-preserved : goal.loop-kept-preserved
-unfolding none
-loop-kept-preserved g c =
-    let ks = c.args.documents.now in
-    let i = c.loop-kept.kept-index in
-    let k = get_or ks i none in
+pub returns-in_err-write_span-clause-bytes : goal.returns-in_err-write_span-clause-bytes
+returns-in_err-write_span-clause-bytes g c = λ honest docs are room.
     let d = g.D.Disk in
-    let inv = c.loop-kept.invariant in
-    let w = c.in_ok-copy.ensures in
-    let given = is_given_then d c.args.disk.now c.loop-kept.disk c.copy.new.disk c.args.output.now c.loop-kept.output c.copy.new.self (tt {0}) inv.given
-    (record { stretch = w.stretch; writes = w.writes; buffer = w.buffer; cause = w.cause }) in
-    let long : length (take c.from-in-loop-kept.result (drop k.at (d.content c.loop-kept.disk))) ≡ c.from-in-loop-kept.result =
-    length-take-le c.from-in-loop-kept.result (drop k.at (d.content c.loop-kept.disk))
-    (omega (arith, length-drop k.at (d.content c.loop-kept.disk), c.requires.inside i none c.loop-kept-test.true, c.requires.disk_bytes, inv.given.writes.size, c.from-in-loop-kept.ensures)) in
+    let content = d.content in
+    let ks = c.args.documents.now in
+    let i = c.loop-done.done in
+    let n = c.span_of-span.result.count in
+    let inv = c.loop-done.invariant in
+    let w = inv.given.writes in
+    let so_far = inv.texts honest docs are room in
+    let inside = subst (λ (m : ℕ). All (EndBy m) ks) c.requires.disk_bytes c.requires.inside in
+    let kept = rest_kept (content c.loop-done.disk) (content c.args.disk.now) ks docs i c.args.output.now.start c.args.output.now.end w.size (w.changed honest).same c.requires.apart inside are in
+    let given = c.in_err-write_span.ensures.bytes honest (drop i docs) kept (omega (arith, so_far.count, more_within docs i n, room, inv.given.stretch.end)) in
+    let found = err_from_is_err_and c.from_residual.result c.from_residual.ensures.1 in
+    err_given d c.args.disk.now c.write_span.new.disk c.args.output.now c.write_span.new.output (texts docs) c.from_residual.result found.0 found.1
+    (subst (λ (x : StreamFault). IsUndamaged {T = Unit {0}} (Err x)) (sym found.2) given.undamaged)
+
+pub loop-done-preserved : goal.loop-done-preserved
+loop-done-preserved g c =
+    let d = g.D.Disk in
+    let content = d.content in
+    let ks = c.args.documents.now in
+    let i = c.loop-done.done in
+    let n = c.span_of-span.result.count in
+    let inv = c.loop-done.invariant in
     record {
-      given = given;
-      count = omega (arith, w.count, inv.count, bytes_next ks i none c.loop-kept-test.true, long, c.from-in-loop-kept.ensures);
-      texts = λ honest docs are.
-          let lt : i < length docs = omega (arith, c.loop-kept-test.true, kept_long (d.content c.args.disk.now) ks docs are) in
-          let there = ap (λ (n : ℕ). take n (drop k.at (d.content c.loop-kept.disk))) c.from-in-loop-kept.ensures
-          ∙ text_stays (d.content c.loop-kept.disk) (d.content c.args.disk.now) k.at k.len c.args.output.now.start c.args.output.now.end inv.given.writes.size (inv.given.writes.changed honest).same
-          (c.requires.apart i none c.loop-kept-test.true) (omega (arith, c.requires.inside i none c.loop-kept-test.true, c.requires.disk_bytes))
-          ∙ text_given (d.content c.args.disk.now) ks docs i none are c.loop-kept-test.true in
-          let all = are_given_then d c.args.disk.now c.loop-kept.disk c.copy.new.disk c.args.output.now c.loop-kept.output c.copy.new.self (texts (take i docs)) (take c.from-in-loop-kept.result (drop k.at (d.content c.loop-kept.disk))) (tt {0})
-          (inv.texts honest docs are) (record { count = w.count; given_are = w.given_are honest; undamaged = tt }) in
-          subst (λ (l : List ℕ). AreGiven d c.args.disk.now c.copy.new.disk c.args.output.now c.copy.new.self l well) (ap (λ (l : List ℕ). texts (take i docs) ++ l) there ∙ sym (texts_next docs i lt)) all;
+      most = omega (arith, c.span_of-span.ensures.most, ap length (take_rest ks i), length-drop i ks, inv.most);
+      room = omega (arith, c.write_span.auto.room, inv.room);
+      given = is_given_then d c.args.disk.now c.loop-done.disk c.write_span.new.disk c.args.output.now c.loop-done.output c.write_span.new.output (tt {0}) inv.given c.in_ok-write_span.ensures.given;
+      texts = λ honest docs are room.
+          let w = inv.given.writes in
+          let so_far = inv.texts honest docs are room in
+          let inside = subst (λ (m : ℕ). All (EndBy m) ks) c.requires.disk_bytes c.requires.inside in
+          let kept = rest_kept (content c.loop-done.disk) (content c.args.disk.now) ks docs i c.args.output.now.start c.args.output.now.end w.size (w.changed honest).same c.requires.apart inside are in
+          let given = c.in_ok-write_span.ensures.bytes honest (drop i docs) kept (omega (arith, so_far.count, more_within docs i n, room, inv.given.stretch.end)) in
+          let all = are_given_then d c.args.disk.now c.loop-done.disk c.write_span.new.disk c.args.output.now c.loop-done.output c.write_span.new.output (texts (take i docs)) (texts (take n (drop i docs))) (tt {0}) so_far given in
+          subst (λ (l : List ℕ). AreGiven d c.args.disk.now c.write_span.new.disk c.args.output.now c.write_span.new.output l well) (sym (texts_more docs i n)) all;
     }
 
 pub returns-clause-bytes : goal.returns-clause-bytes
 returns-clause-bytes g c = λ honest docs are room.
-    let i = c.loop-kept.kept-index in
-    let all = take_all i docs (omega (arith, c.loop-kept-test.false, kept_long (g.D.Disk.content c.args.disk.now) c.args.documents.now docs are)) in
-    let so_far = subst (λ (ds : List Doc). AreGiven g.D.Disk c.args.disk.now c.loop-kept.disk c.args.output.now c.loop-kept.output (texts ds) well) all (c.loop-kept.invariant.texts honest docs are) in
+    let i = c.loop-done.done in
+    let all = take_all i docs (omega (arith, c.loop-done-test.false, kept_long (g.D.Disk.content c.args.disk.now) c.args.documents.now docs are)) in
+    let so_far = subst (λ (ds : List Doc). AreGiven g.D.Disk c.args.disk.now c.loop-done.disk c.args.output.now c.loop-done.output (texts ds) well) all (c.loop-done.invariant.texts honest docs are room) in
     record { count = so_far.count; given_are = so_far.given_are; undamaged = tt }
