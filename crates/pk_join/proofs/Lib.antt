@@ -1,4 +1,5 @@
 -- The lemma pages.
+pub mod AheadLemmas
 pub mod ComeLemmas
 pub mod DocLemmas
 pub mod InputLemmas

@@ -1,5 +1,5 @@
 -- Going through the words of all inputs gives the terms of the documents that are left, in order.
-use Rattle.std.proofs.Common.{◌≡◌, ◌⊎◌, inl, inr, ℕ, zero, suc, ◌+◌, ◌-◌, ◌<◌, ◌≤◌, ◌||◌, Bool, true, false, cond, Less, Equal, Greater, Ordering, List, [], ◌∷◌, ◌++◌, length, take, drop, Option, Some, None, get_or, slice_index, refl, sym, ap, subst, ◌∙◌, append_assoc, arith}
+use Rattle.std.proofs.Common.{◌≡◌, ◌⊎◌, inl, inr, ℕ, zero, suc, ◌+◌, ◌<◌, ◌≤◌, ◌||◌, Bool, true, false, cond, Less, Equal, Greater, Ordering, List, [], ◌∷◌, ◌++◌, length, take, drop, Option, Some, None, get_or, slice_index, refl, sym, ap, subst, ◌∙◌, append_assoc, arith}
 use Rattle.std.specs.Prelude.{not, slice_get}
 use Rattle.std.specs.Cmp.Lexicographic.{slice_cmp}
 use Rattle.std.specs.List.{AllByRecursion}

@@ -1,4 +1,5 @@
 -- The definitions that the contracts cite.
+pub mod Ahead
 pub mod Inputs
 pub mod Joining
 pub mod Listed

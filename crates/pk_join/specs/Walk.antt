@@ -1,5 +1,6 @@
 -- A walk through the words of several inputs.
 use Rattle.std.specs.Prelude.{◌≡◌, ◌≤◌, ◌++◌, ℕ, List, [], ◌∷◌, length, slice_index, All, Option, None, Some}
+use Rattle.pk_join.specs.Ahead.{HoldInputs, HoldsNone}
 use Rattle.pk_join.specs.declared.input.MergeInput.{MergeInput}
 use Rattle.pk_join.specs.declared.lists.InputLists.{InputLists}
 use Rattle.pk_join.specs.declared.walk.Walk.{Walk}
@@ -21,23 +22,27 @@ walk_numbers walk = walk.joined.numbers.items
 abbrev pub words_to_come : List InputLists → Walk → ℕ
 words_to_come ls walk = to_come ls walk.heads.items (length ls)
 
--- no word is passed
-abbrev pub IsAtStart : Walk → Type 0
-IsAtStart walk = (i : ℕ) → slice_index walk.heads.items i ≡ 0
+-- No word is passed, and nothing is read ahead.
+pub record IsAtStart (walk : Walk) : Type 0 where
+  pub heads : (i : ℕ) → slice_index walk.heads.items i ≡ 0
+  pub aheads : All HoldsNone walk.aheads.items
 
 -- It is a walk through the words of so many inputs, with room for a list of each.
 pub record IsWalkOf (ls : List InputLists) (walk : Walk) : Type 0 where
   pub heads : length walk.heads.items ≡ length ls
+  pub aheads : length walk.aheads.items ≡ length ls
   pub room : All (λ l. room_for l ≤ length walk.room.items) ls
 
 -- The inputs spell what is stored, and of the terms of the documents that are left the walk through
--- their words has passed the first, and the others are to come.
+-- their words has passed the first, and the others are to come. What it read ahead of each input
+-- stands in it.
 pub record HasCome (bytes : List ℕ) (inputs : List MergeInput) (ls : List InputLists)
     (stored : List Stored) (walk : Walk) (xs ys : List (List ℕ)) : Type 0 where
   pub spells : SpellsInputs bytes inputs stored
   pub listed : AreListed inputs ls stored
   pub can : CanHold stored (walk_room walk)
   pub walks : Walks ls walk.heads.items stored xs ys
+  pub hold : HoldInputs bytes inputs walk.aheads.items
 
 -- The walk has passed the word, the first of those that were to come, and has what is left of its
 -- list.

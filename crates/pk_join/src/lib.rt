@@ -12,26 +12,34 @@
 //! | `InputLists` | the words of an input, with their lists |
 //! | `read_lists` | those of a segment of either kind |
 //! | `Walk` | goes through the words that the inputs leave, each with its numbers |
+//! | `Ahead` | bytes of an extent that were read ahead, 32,768 at once |
+//! | `AheadSource` | an extent as a source that reads ahead |
 //!
 //! Of an input of kind 2 the terms are in memory, end to end, and 16 bytes for each: where it ends,
-//! and where its list lies. A list is read when its word comes, one of at most 4,096 bytes at once, a
-//! longer one block by block. Of an input of kind 1 there is an index of the texts, in memory. Of the
-//! lists that are joined one word's is in memory at a time. After `read_lists` and `Walk::new` no
-//! call takes memory.
+//! and where its list lies. A list is read when its word comes, and with it what stands behind: a
+//! `Walk` holds 32,768 bytes of each input of kind 2, and lends lists of them as long as they last,
+//! since they lie in the order of their words. A longer list is read beside, block by block. Of an
+//! input of kind 1 there is an index of the texts, in memory. Of the lists that are joined one word's
+//! is in memory at a time. After `read_lists`, `Walk::new` and `Ahead::new` no call takes memory.
 //!
 //! # What is refused
 //!
 //! `Damaged` is a segment that is none, or numbers that don't rise, or are more than there is room
-//! for; `Disk` is answered exactly where a read failed; and `Memory` where memory was refused, by
-//! `read_lists` and `Walk::new` alone. The disk is only read.
+//! for; `Disk` is answered exactly where a read failed, and then nothing of that input is held; and
+//! `Memory` where memory was refused, by `read_lists`, `Walk::new` and `Ahead::new` alone. The disk is
+//! only read.
 //!
-//! Where the words are: `specs/Inputs` has what inputs spell, `specs/Words` how words lie end to
-//! end, `specs/Listed` what the words and lists of an input are, `specs/Joining` what is joined,
-//! `specs/Walking` the words side by side, `specs/Walk` where a walk has come.
+//! Where the words are: `specs/Ahead` says what is held of an extent, `specs/Inputs` has what inputs
+//! spell, `specs/Words` how words lie end to end, `specs/Listed` what the words and lists of an input
+//! are, `specs/Joining` what is joined, `specs/Walking` the words side by side, `specs/Walk` where a
+//! walk has come.
 //! Lemma pages: `TermWalkLemmas` on the walk, whose words are the terms of the documents that are
 //! left; `JoinLemmas` on one word's list.
 #![tactic(auto)]
 
+mod ahead;
+mod ahead_source;
+mod aheads;
 mod input;
 mod joined;
 mod joining;
@@ -44,6 +52,8 @@ mod walk;
 mod walking;
 mod words;
 
+pub use ahead::{Ahead, READ_AHEAD};
+pub use ahead_source::AheadSource;
 pub use input::MergeInput;
 pub use lists::InputLists;
 pub use reading::read_lists;

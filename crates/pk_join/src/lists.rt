@@ -17,6 +17,7 @@ ghost use Rattle.std.specs.Prelude.{
 ghost use Rattle.std.specs.Option.{option_map};
 ghost use Rattle.pk_disk.specs.Frames.{KeepsDisk};
 ghost use Rattle.pk_disk.specs.Units.{extent_bytes};
+ghost use Rattle.pk_join.specs.Ahead.{HoldsOf};
 ghost use Rattle.pk_join.specs.Joining.{MayJoin, joined_in, numbers_left};
 ghost use Rattle.pk_join.specs.Listed.{
   AreIndexed,
@@ -33,10 +34,11 @@ ghost use Rattle.pk_segment.specs.Indexed.{list_with};
 ghost use Rattle.pk_segment.specs.Listing.{LeadsTo, postings_at};
 ghost use Rattle.pk_segment.specs.Spelling.{SegmentSpells};
 
+use crate::ahead::Ahead;
 use crate::input::MergeInput;
 use crate::joined::Joined;
-use crate::joining::join_numbers;
-use crate::lent::join_at;
+use crate::joining::{join_list, join_numbers};
+use crate::lent::join_ahead;
 use crate::text_lists::TextLists;
 use crate::words::StoredWords;
 use pk_dead::Dead;
@@ -76,12 +78,14 @@ fn text_word(lists: &TextLists, k: usize) -> Option<&[u8]>
     }
 }
 
-/// Puts what an input leaves of its kth word's list behind what is joined. It takes no memory.
+/// Puts what an input leaves of its kth word's list behind what is joined. What is read ahead is of
+/// its extent. It takes no memory.
 pub(crate) fn join_word<D: Disk>(
     disk: &mut D,
     input: &MergeInput,
     lists: &InputLists,
     k: usize,
+    ahead: &mut Ahead,
     room: &mut [u32],
     joined: &mut Joined,
 ) -> Result<(), SourceFault>
@@ -89,40 +93,50 @@ pub(crate) fn join_word<D: Disk>(
     requires word { k < length (words_in lists.now) }
     requires room { room_for lists.now ≤ length room.old }
     ensures joined { D.honest → (docs : List Doc) (w : List ℕ)
+        → HoldsOf (extent_bytes (D.content disk.old) input.now.extent) ahead.old
         → SegmentSpells (extent_bytes (D.content disk.old) input.now.extent) docs input.now.kind
         → AreListsOf lists.now input.now.kind docs → slice_get (words_in lists.now) k ≡ Some w
         → MayJoin joined.old (numbers_left input.now.dead.now (list_with w docs))
         → MatchResult result (λ _. joined_in joined.new
         ≡ joined_in joined.old ++ numbers_left input.now.dead.now (list_with w docs))
         (λ e. e ≡ SourceFault.Disk) }
+    ensures holds { D.honest
+        → HoldsOf (extent_bytes (D.content disk.old) input.now.extent) ahead.old
+        → HoldsOf (extent_bytes (D.content disk.new) input.now.extent) ahead.new }
     ensures room { joined.new.room ≡ joined.old.room }
     ensures keeps { KeepsDisk D.Disk disk.old disk.new }
     ensures faults { CountsFaults (D.failed_reads disk.old) (D.failed_reads disk.new) result }
 {
     match lists {
         InputLists::Stored { words, postings } => {
-            join_stored(disk, input, words.place(k), *postings, joined)
+            join_stored(disk, input, words.place(k), *postings, ahead, joined)
         }
         InputLists::Indexed(lists) => join_indexed(lists, input.dead, k, room, joined),
     }
 }
 
 // The same of a word of a segment of kind 2: its list lies at a place behind where the lists begin.
+// A list for which there is room is read ahead; a longer one is read beside.
 fn join_stored<D: Disk>(
     disk: &mut D,
     input: &MergeInput,
     list: ListPlace,
     postings: u32,
+    ahead: &mut Ahead,
     joined: &mut Joined,
 ) -> Result<(), SourceFault>
     requires inside { LiesInside (length (D.content disk.old)) input.now }
     ensures joined { D.honest → (docs : List Doc) (w : List ℕ) (e : Entry)
+        → HoldsOf (extent_bytes (D.content disk.old) input.now.extent) ahead.old
         → SegmentSpells (extent_bytes (D.content disk.old) input.now.extent) docs 2
         → LeadsTo docs w e → list ≡ e.place → postings ≡ postings_at docs
         → MayJoin joined.old (numbers_left input.now.dead.now (list_with w docs))
         → MatchResult result (λ _. joined_in joined.new
         ≡ joined_in joined.old ++ numbers_left input.now.dead.now (list_with w docs))
         (λ e. e ≡ SourceFault.Disk) }
+    ensures holds { D.honest
+        → HoldsOf (extent_bytes (D.content disk.old) input.now.extent) ahead.old
+        → HoldsOf (extent_bytes (D.content disk.new) input.now.extent) ahead.new }
     ensures room { joined.new.room ≡ joined.old.room }
     ensures keeps { KeepsDisk D.Disk disk.old disk.new }
     ensures faults { CountsFaults (D.failed_reads disk.old) (D.failed_reads disk.new) result }
@@ -134,8 +148,11 @@ fn join_stored<D: Disk>(
         at,
         bytes: list.bytes,
     };
+    if place.bytes as usize <= ahead.room() {
+        return join_ahead(disk, input.extent, place, ahead, input.dead, joined);
+    }
     let mut source = ExtentSource::on(disk, input.extent);
-    join_at(&mut source, place, input.dead, joined)
+    join_list(&mut source, place, input.dead, joined)
 }
 
 // The same of a word of texts: its list is made in the room.

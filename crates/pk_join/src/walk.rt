@@ -1,5 +1,7 @@
 //! A walk through the words of several inputs, and the memory that it needs.
 
+use crate::ahead::Ahead;
+use crate::aheads::{aheads_for, clear_all};
 use crate::input::MergeInput;
 use crate::joined::Joined;
 use crate::lists::InputLists;
@@ -10,11 +12,14 @@ use pk_posting::SourceFault;
 use std::alloc::{AllocError, Global};
 
 /// A walk through the words of several inputs, side by side, from word to word that they leave. It
-/// borrows neither the words nor the disk: each call is handed the same inputs and lists.
+/// borrows neither the words nor the disk: each call is handed the same inputs and lists. What it
+/// reads ahead it keeps from call to call, so an input's bytes stay as they are up to a restart.
 #[derive(Drop)]
 pub struct Walk {
     // How many words of each input were passed.
     heads: Vec<usize>,
+    // What was read ahead of each input.
+    aheads: Vec<Ahead>,
     // Where a list of texts is made.
     room: Vec<u32>,
     // The numbers of the word that was passed last.
@@ -50,7 +55,8 @@ impl Walk {
     ghost use Rattle.pk_posting.specs.Source.{CountsFaults};
     ghost use Rattle.pk_state.specs.Committed.{Stored};
 
-    /// A walk before the first word, with memory for lists of so many numbers at the most.
+    /// A walk before the first word, with memory for lists of so many numbers at the most, and 32,768
+    /// bytes for each segment of kind 2.
     pub fn new(alloc: Global, lists: &[InputLists], most: usize) -> Result<Walk, AllocError>
         requires { most ≤ 134217728 }
         ensures walk { IfOk result (IsWalkOf lists.now) }
@@ -58,22 +64,25 @@ impl Walk {
         ensures start { IfOk result IsAtStart }
     {
         let heads = vec![in alloc; 0usize; lists.len()]?;
+        let aheads = aheads_for(alloc, lists)?;
         let room = vec![in alloc; 0u32; widest(lists)]?;
         let joined = Joined::with_room(alloc, most)?;
         Ok(Walk {
             heads,
+            aheads,
             room,
             joined,
         })
     }
 
-    /// Goes back before the first word. It takes no memory.
+    /// Goes back before the first word, and forgets what it read ahead. It takes no memory.
     pub fn restart(&mut self)
         ensures walk { (ls : List InputLists) → IsWalkOf ls self.old → IsWalkOf ls self.new }
         ensures room { walk_room self.new ≡ walk_room self.old }
         ensures start { IsAtStart self.new }
     {
         self.heads.fill(0);
+        clear_all(&mut self.aheads);
     }
 
     /// Goes on to the next word that the inputs leave, and joins what they leave of its list; none
@@ -106,6 +115,7 @@ impl Walk {
             inputs,
             lists,
             &mut self.heads,
+            &mut self.aheads,
             &mut self.room,
             &mut self.joined,
         )

@@ -20,6 +20,8 @@ ghost use Rattle.std.specs.Prelude.{
 };
 ghost use Rattle.std.specs.Option.{option_map};
 ghost use Rattle.pk_disk.specs.Frames.{KeepsDisk};
+ghost use Rattle.pk_disk.specs.Units.{extent_bytes};
+ghost use Rattle.pk_join.specs.Ahead.{HoldInputs, HoldsOf};
 ghost use Rattle.pk_join.specs.Joining.{MayJoin, joined_in, room_in};
 ghost use Rattle.pk_join.specs.Listed.{AreListsOf, room_for, words_in};
 ghost use Rattle.pk_join.specs.Inputs.{LiesInside, SpellsInput, SpellsInputs};
@@ -40,6 +42,7 @@ ghost use Rattle.pk_posting.specs.Source.{CountsFaults};
 ghost use Rattle.pk_segment.specs.Indexed.{list_with};
 ghost use Rattle.pk_state.specs.Committed.{Stored, live_in, live_of};
 
+use crate::ahead::Ahead;
 use crate::input::MergeInput;
 use crate::joined::Joined;
 use crate::lists::{InputLists, join_word};
@@ -105,18 +108,24 @@ fn join_head<D: Disk>(
     lists: &InputLists,
     head: usize,
     word: &[u8],
+    ahead: &mut Ahead,
     room: &mut [u32],
     joined: &mut Joined,
 ) -> Result<(), SourceFault>
     requires inside { LiesInside (length (D.content disk.old)) input.now }
     requires room { room_for lists.now ≤ length room.old }
-    ensures joined { D.honest → (s : Stored) → SpellsInput (D.content disk.old) input.now s
+    ensures joined { D.honest → (s : Stored)
+        → HoldsOf (extent_bytes (D.content disk.old) input.now.extent) ahead.old
+        → SpellsInput (D.content disk.old) input.now s
         → AreListsOf lists.now input.now.kind s.documents
         → (is_word word.now (slice_get (words_in lists.now) head) ≡ false
         → list_with word.now (live_of s) ≡ [])
         → MayJoin joined.old (list_with word.now (live_of s)) → MatchResult result
         (λ _. joined_in joined.new ≡ joined_in joined.old ++ list_with word.now (live_of s))
         (λ e. e ≡ SourceFault.Disk) }
+    ensures holds { D.honest
+        → HoldsOf (extent_bytes (D.content disk.old) input.now.extent) ahead.old
+        → HoldsOf (extent_bytes (D.content disk.new) input.now.extent) ahead.new }
     ensures room { joined.new.room ≡ joined.old.room }
     ensures keeps { KeepsDisk D.Disk disk.old disk.new }
     ensures faults { CountsFaults (D.failed_reads disk.old) (D.failed_reads disk.new) result }
@@ -124,37 +133,45 @@ fn join_head<D: Disk>(
     if !is_head(lists, head, word) {
         return Ok(());
     }
-    join_word(disk, input, lists, head, room, joined)
+    join_word(disk, input, lists, head, ahead, room, joined)
 }
 
 /// Joins what all inputs leave of the list of a word, which those have at their heads that have
-/// it. It takes no memory.
+/// it. What is read ahead at each place is of the input there. It takes no memory.
 fn join_all<D: Disk>(
     disk: &mut D,
     inputs: &[MergeInput],
     lists: &[InputLists],
     heads: &[usize],
     word: &[u8],
+    aheads: &mut [Ahead],
     room: &mut [u32],
     joined: &mut Joined,
 ) -> Result<(), SourceFault>
     requires heads { length heads.now ≡ length lists.now }
     requires inputs { length inputs.now ≡ length lists.now }
+    requires aheads { length aheads.old ≡ length lists.now }
     requires inside { All (LiesInside (length (D.content disk.old))) inputs.now }
     requires room { All (λ l. room_for l ≤ length room.old) lists.now }
     ensures joined { D.honest → (stored : List Stored)
+        → HoldInputs (D.content disk.old) inputs.now aheads.old
         → SpellsInputs (D.content disk.old) inputs.now stored
         → AreListed inputs.now lists.now stored → CanHold stored (room_in joined.old)
         → IsAtHeads lists.now heads.now word.now stored → MatchResult result
         (λ _. joined_in joined.new ≡ list_with word.now (live_in stored))
         (λ e. e ≡ SourceFault.Disk) }
+    ensures hold { D.honest → HoldInputs (D.content disk.old) inputs.now aheads.old
+        → OnOk result (HoldInputs (D.content disk.new) inputs.now aheads.new) }
     ensures room { room_in joined.new ≡ room_in joined.old }
     ensures keeps { KeepsDisk D.Disk disk.old disk.new }
     ensures faults { CountsFaults (D.failed_reads disk.old) (D.failed_reads disk.new) result }
 {
     joined.clear();
     for i in 0..lists.len() {
-        join_head(disk, &inputs[i], &lists[i], heads[i], word, room, joined)?;
+        let ahead = &mut aheads[i];
+        join_head(
+            disk, &inputs[i], &lists[i], heads[i], word, ahead, room, joined,
+        )?;
     }
     Ok(())
 }
@@ -166,19 +183,24 @@ pub(crate) fn next_word<'a, D: Disk>(
     inputs: &[MergeInput],
     lists: &'a [InputLists],
     heads: &mut [usize],
+    aheads: &mut [Ahead],
     room: &mut [u32],
     joined: &mut Joined,
 ) -> Result<Option<&'a [u8]>, SourceFault>
     requires heads { length heads.old ≡ length lists.now }
     requires inputs { length inputs.now ≡ length lists.now }
+    requires aheads { length aheads.old ≡ length lists.now }
     requires inside { All (LiesInside (length (D.content disk.old))) inputs.now }
     requires room { All (λ l. room_for l ≤ length room.old) lists.now }
     ensures passed { D.honest → (stored : List Stored) (xs ys : List (List ℕ))
+        → HoldInputs (D.content disk.old) inputs.now aheads.old
         → SpellsInputs (D.content disk.old) inputs.now stored
         → AreListed inputs.now lists.now stored → CanHold stored (room_in joined.old)
         → Walks lists.now heads.old stored xs ys
         → MatchResult result (λ o. PassesAs lists.now heads.new stored xs ys (joined_in joined.new)
         (option_map (λ w. w.now) o)) (λ e. e ≡ SourceFault.Disk) }
+    ensures hold { D.honest → HoldInputs (D.content disk.old) inputs.now aheads.old
+        → OnOk result (HoldInputs (D.content disk.new) inputs.now aheads.new) }
     ensures fewer { IfOk result (λ o. IfSome o (λ _.
         to_come lists.now heads.new (length lists.now)
         < to_come lists.now heads.old (length lists.now))) }
@@ -187,7 +209,7 @@ pub(crate) fn next_word<'a, D: Disk>(
     ensures faults { CountsFaults (D.failed_reads disk.old) (D.failed_reads disk.new) result }
 {
     'words: while let Some(word) = least_head(lists, heads) {
-        join_all(disk, inputs, lists, heads, word, room, joined)?;
+        join_all(disk, inputs, lists, heads, word, aheads, room, joined)?;
         pass_word(lists, heads, word);
         if !joined.numbers().is_empty() {
             return Ok(Some(word));

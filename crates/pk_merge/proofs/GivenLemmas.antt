@@ -2,7 +2,7 @@
 use Rattle.std.proofs.Common.{◌≡◌, ◌⊎◌, inl, inr, ℕ, ◌+◌, ◌-◌, ◌<◌, ◌≤◌, false, List, [], ◌∷◌, ◌++◌, length, get_or, refl, sym, ◌∙◌, ap, subst, append_assoc, arith, append-nil, length-append, Result, Ok, Err}
 use Rattle.std.specs.Prelude.{All}
 use Rattle.std.proofs.lemmas.Bool.{cases_lt}
-use Rattle.std.proofs.lemmas.List.Elements.{All-head, All-tail}
+use Rattle.std.proofs.lemmas.List.Elements.{All-head, All-tail, All-weaker}
 use Rattle.pk_disk.specs.declared.disk.Disk.{Ghosts}
 use Rattle.pk_disk.specs.declared.units.Extent.{Extent}
 use Rattle.pk_disk.specs.Disk.{in_range}
@@ -11,7 +11,8 @@ use Rattle.pk_disk.specs.Units.{extent_bytes, start_of}
 use Rattle.pk_disk.proofs.Images.{same_part}
 use Rattle.pk_disk.proofs.Ranges.{outside_range}
 use Rattle.pk_join.specs.declared.input.MergeInput.{MergeInput}
-use Rattle.pk_join.specs.Inputs.{SpellsInputs}
+use Rattle.pk_join.specs.Inputs.{HasSameBytes, SpellsInputs}
+use Rattle.pk_join.proofs.ComeLemmas.{spells_same}
 use Rattle.pk_model.specs.Collection.{Doc}
 use Rattle.pk_model.specs.Terms.{terms_of}
 use Rattle.pk_posting.specs.Spelling.{spelling as list_spelling}
@@ -19,7 +20,6 @@ use Rattle.pk_replace.specs.declared.stream.StreamFault.{StreamFault}
 use Rattle.pk_replace.specs.Cause.{IsUndamaged, NoneFailed}
 use Rattle.pk_replace.proofs.WritingLemmas.{reads_only}
 use Rattle.pk_segment.specs.Indexed.{list_with, lists_of, postings}
-use Rattle.pk_segment.specs.Spelling.{SegmentSpells}
 use Rattle.pk_segment.proofs.PlanLemmas.{lists_all}
 use Rattle.pk_state.specs.Committed.{Stored}
 use Rattle.pk_merge.specs.declared.output.Output.{Output}
@@ -39,18 +39,14 @@ extent_stays b b' e start end long same apart =
       | inr high ↦ elim (cases_lt p start) [ inl less ↦ inl less | inr more ↦ inr (omega (arith, high, above, more)) ]
     ]
 
+-- a write apart from the inputs leaves their bytes
+pub same_bytes : (b b' : List ℕ) (is : List MergeInput) (start end : ℕ) → length b' ≡ length b → ((p : ℕ) → in_range start (end - start) p ≡ false → get_or b' p 0 ≡ get_or b p 0) → All (LiesApart start end) is
+    → All (HasSameBytes b b') is
+same_bytes b b' is start end long same apart = All-weaker (LiesApart start end) (HasSameBytes b b') (λ x one. extent_stays b b' x.extent start end long same one) is apart
+
 pub spells_stays : (b b' : List ℕ) (is : List MergeInput) (ss : List Stored) (start end : ℕ) → length b' ≡ length b → ((p : ℕ) → in_range start (end - start) p ≡ false → get_or b' p 0 ≡ get_or b p 0)
     → All (LiesApart start end) is → SpellsInputs b is ss → SpellsInputs b' is ss
-spells_stays b b' [] [] start end long same apart spells = tt
-spells_stays b b' [] (s ∷ ss) start end long same apart spells = absurd spells
-spells_stays b b' (x ∷ is) [] start end long same apart spells = absurd spells
-spells_stays b b' (x ∷ is) (s ∷ ss) start end long same apart spells = (
-  record {
-    segment = subst (λ (l : List ℕ). SegmentSpells l s.documents x.kind) (sym (extent_stays b b' x.extent start end long same (All-head (LiesApart start end) x is apart))) spells.0.segment;
-    dead = spells.0.dead;
-  },
-  spells_stays b b' is ss start end long same (All-tail (LiesApart start end) x is apart) spells.1,
-)
+spells_stays b b' is ss start end long same apart spells = spells_same b b' is ss (same_bytes b b' is start end long same apart) spells
 
 -- ---- lists so far
 

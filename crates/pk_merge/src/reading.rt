@@ -32,9 +32,9 @@ use crate::fault::MergeFault;
 use crate::left::Left;
 use pk_dead::Dead;
 use pk_disk::{Disk, UNIT};
-use pk_join::{InputLists, MergeInput, read_lists};
+use pk_join::{Ahead, AheadSource, InputLists, MergeInput, READ_AHEAD, read_lists};
 use pk_posting::ByteSource;
-use pk_segment::{ExtentSource, Segment};
+use pk_segment::Segment;
 use std::alloc::Global;
 
 // The words of a segment that is all of a source, whose bytes begin at a position of the disk; and
@@ -70,7 +70,8 @@ fn read_from<S: ByteSource>(
     Ok(lists)
 }
 
-/// The words of an input, with their lists, and the documents that it leaves.
+/// The words of an input, with their lists, and the documents that it leaves. It reads 32,768 bytes
+/// at once.
 ///
 /// Answers `TooLarge` where even a segment without an index would be too long, `Damaged` where the
 /// input is no segment or the numbers don't rise, `Disk` where a read failed, or `Memory`.
@@ -97,7 +98,8 @@ pub(crate) fn read_input<D: Disk>(
     ensures reads { CountsMerge (D.failed_reads disk.old) (D.failed_reads disk.new) result }
 {
     let start = UNIT * u64::from(input.extent.first);
-    let mut source = ExtentSource::on(disk, input.extent);
+    let mut ahead = Ahead::new(alloc, READ_AHEAD)?;
+    let mut source = AheadSource::on(disk, input.extent, &mut ahead);
     read_from(alloc, &mut source, input.kind, start, input.dead, left)
 }
 

@@ -11,7 +11,7 @@ use Rattle.pk_join.proofs.WalkLemmas.{found_at, found_within}
 use Rattle.pk_join.proofs.walking.join_head.Goals as goal
 
 pub returns-then-not-is_head-clause-joined : goal.returns-then-not-is_head-clause-joined
-returns-then-not-is_head-clause-joined g c = λ honest s spells are absent may.
+returns-then-not-is_head-clause-joined g c = λ honest s holds spells are absent may.
     let none = absent (sym c.is_head.ensures ∙ c.if-not-is_head.true) in
     sym (append-nil (joined_in c.args.joined.now)) ∙ ap (λ (l : List ℕ). joined_in c.args.joined.now ++ l) (sym none)
 
@@ -20,7 +20,7 @@ join_word-requires-clause-word g c =
     found_within _ c.args.head c.args.word.now (found_at c.args.lists.now c.args.head c.args.word.now (sym c.is_head.ensures ∙ c.if-not-is_head.false))
 
 pub returns-clause-joined : goal.returns-clause-joined
-returns-clause-joined g c = λ honest s spells are absent may.
+returns-clause-joined g c = λ honest s holds spells are absent may.
     let w = c.args.word.now in
     let got = found_at c.args.lists.now c.args.head w (sym c.is_head.ensures ∙ c.if-not-is_head.false) in
     let docs = s.documents in
@@ -28,4 +28,4 @@ returns-clause-joined g c = λ honest s spells are absent may.
     let now = joined_in c.join_word.new.joined in
     let old = joined_in c.args.joined.now in
     subst (λ (ns : List ℕ). MatchResult c.join_word.result (λ _. now ≡ old ++ ns) (λ (e : SourceFault). e ≡ Disk)) list
-    (c.join_word.ensures.joined honest docs w spells.segment are got (subst (MayJoin c.args.joined.now) (sym list) may))
+    (c.join_word.ensures.joined honest docs w holds spells.segment are got (subst (MayJoin c.args.joined.now) (sym list) may))

@@ -3,7 +3,7 @@ use Rattle.std.proofs.Common.{◌≡◌, ◌∙◌, inl, inr, true, false, suc, 
 use Rattle.std.specs.Prelude.{◌==◌}
 use Rattle.std.proofs.lemmas.Bool.{cases_lt, eq-eqb, eqb-true}
 use Rattle.std.proofs.lemmas.Result.{err_from_is_err_and}
-use Rattle.pk_disk.proofs.FrameLemmas.{keeps_disk_none, keeps_disk_then}
+use Rattle.pk_disk.proofs.FrameLemmas.{keeps_disk_then}
 use Rattle.pk_join.specs.Inputs.{SpellsInputs}
 use Rattle.pk_join.specs.Walking.{CanHold, least_of}
 use Rattle.pk_join.proofs.TermWalkLemmas.{all_passed, at_heads, fewer, is_first, knows, some_least, walks_on, walks_over}
@@ -23,29 +23,29 @@ none_of [] e = refl
 none_of (x ∷ xs) e = absurd (let k : suc (length xs) ≡ 0 = eqb-true (suc (length xs)) 0 e in omega (arith, k))
 
 pub returns-in_err-join_all-clause-passed : goal.returns-in_err-join_all-clause-passed
-returns-in_err-join_all-clause-passed g c = λ honest stored xs ys spells are can start.
+returns-in_err-join_all-clause-passed g c = λ honest stored xs ys hold spells are can start.
     let inv = c.words.invariant in
     let ls = c.args.lists.now in
     let w = c.in-Some.word.now in
-    let walks = inv.walks honest stored xs ys spells are can start in
+    let walks = inv.walks honest stored xs ys hold spells are can start in
     let here = subst (λ (b : List ℕ). SpellsInputs b c.args.inputs.now stored) (sym (inv.keeps.read honest).bytes) spells in
     let least = some_least ls c.words.heads (length ls) w (sym c.in-Some.ensures) in
     let heads = at_heads ls c.words.heads stored xs ys w (knows c.args.inputs.now ls stored are) walks least in
-    let cause : c.in_err-join_all.field-0.0 ≡ Disk = c.in_err-join_all.ensures.joined honest stored here are (subst (CanHold stored) (sym inv.room) can) heads in
+    let cause : c.in_err-join_all.field-0.0 ≡ Disk = c.in_err-join_all.ensures.joined honest stored (inv.hold honest hold) here are (subst (CanHold stored) (sym inv.room) can) heads in
     let found = err_from_is_err_and c.from_residual.result c.from_residual.ensures.1 in
     rw found.1 (found.2 ∙ cause)
 
 pub returns-then-not-is_empty-clause-passed : goal.returns-then-not-is_empty-clause-passed
-returns-then-not-is_empty-clause-passed g c = λ honest stored xs ys spells are can start.
+returns-then-not-is_empty-clause-passed g c = λ honest stored xs ys hold spells are can start.
     let inv = c.words.invariant in
     let ls = c.args.lists.now in
     let w = c.in-Some.word.now in
     let know = knows c.args.inputs.now ls stored are in
-    let walks = inv.walks honest stored xs ys spells are can start in
+    let walks = inv.walks honest stored xs ys hold spells are can start in
     let here = subst (λ (b : List ℕ). SpellsInputs b c.args.inputs.now stored) (sym (inv.keeps.read honest).bytes) spells in
     let least = some_least ls c.words.heads (length ls) w (sym c.in-Some.ensures) in
     let heads = at_heads ls c.words.heads stored xs ys w know walks least in
-    let list = c.in_ok-join_all.ensures.joined honest stored here are (subst (CanHold stored) (sym inv.room) can) heads in
+    let list = c.in_ok-join_all.ensures.joined honest stored (inv.hold honest hold) here are (subst (CanHold stored) (sym inv.room) can) heads in
     let some : 0 < length (list_with w (live_in stored)) = omega (arith, some_of (length c.numbers.result.now) (sym c.is_empty.ensures ∙ c.if-not-is_empty.true), ap length (c.numbers.ensures.numbers ∙ list)) in
     let first = is_first ls c.words.heads stored xs ys w know walks least some in
     record {
@@ -81,19 +81,21 @@ words-preserved g c =
       room = c.join_all.ensures.room ∙ inv.room;
       long = omega (arith, c.join_all.auto.room, inv.long);
       heads = omega (arith, c.pass_word.auto.heads, inv.heads);
+      aheads = omega (arith, c.join_all.auto.aheads, inv.aheads);
+      hold = λ honest hold. c.in_ok-join_all.ensures.hold honest (inv.hold honest hold);
       fewer = omega (arith, inv.fewer, fewer ls c.words.heads c.pass_word.new.heads w (length ls) c.pass_word.ensures least (omega arith) least.at least.within least.there);
-      walks = λ honest stored xs ys spells are can start.
-          let walks = inv.walks honest stored xs ys spells are can start in
+      walks = λ honest stored xs ys hold spells are can start.
+          let walks = inv.walks honest stored xs ys hold spells are can start in
           let here = subst (λ (b : List ℕ). SpellsInputs b c.args.inputs.now stored) (sym (inv.keeps.read honest).bytes) spells in
           let heads = at_heads ls c.words.heads stored xs ys w (knows c.args.inputs.now ls stored are) walks least in
-          let list = c.in_ok-join_all.ensures.joined honest stored here are (subst (CanHold stored) (sym inv.room) can) heads in
+          let list = c.in_ok-join_all.ensures.joined honest stored (inv.hold honest hold) here are (subst (CanHold stored) (sym inv.room) can) heads in
           let none = none_of (list_with w (live_in stored)) (ap (λ (l : List ℕ). length l == 0) (sym list ∙ sym c.numbers.ensures.numbers) ∙ sym c.is_empty.ensures ∙ c.if-not-is_empty.false) in
           walks_over ls c.words.heads c.pass_word.new.heads stored xs ys w walks none c.pass_word.ensures;
     }
 
 pub returns-clause-passed : goal.returns-clause-passed
-returns-clause-passed g c = λ honest stored xs ys spells are can start.
+returns-clause-passed g c = λ honest stored xs ys hold spells are can start.
     let ls = c.args.lists.now in
-    let walks = c.words.invariant.walks honest stored xs ys spells are can start in
+    let walks = c.words.invariant.walks honest stored xs ys hold spells are can start in
     let none : least_of ls c.words.heads (length ls) ≡ None = sym c.in_default.ensures in
     all_passed ls c.words.heads stored xs ys (knows c.args.inputs.now ls stored are) walks none

@@ -1,6 +1,7 @@
 -- The inputs leave nothing of the words that were passed here, so as many terms are to come.
 use Rattle.std.proofs.Common.{◌≡◌, ◌≤◌, List, ℕ, length}
 use Rattle.pk_disk.specs.Frames.{KeepsDisk}
+use Rattle.pk_join.specs.Ahead.{HoldInputs}
 use Rattle.pk_join.specs.Inputs.{SpellsInputs}
 use Rattle.pk_join.specs.Joining.{room_in}
 use Rattle.pk_join.specs.Walking.{AreListed, CanHold, Walks, to_come}
@@ -19,7 +20,9 @@ invariant-words g l =
       room : room_in l.joined ≡ room_in l.fn.joined;
       long : length l.room ≡ length l.fn.room;
       heads : length l.heads ≡ length l.lists;
+      aheads : length l.aheads ≡ length l.lists;
       fewer : to_come l.lists l.heads (length l.lists) ≤ to_come l.lists l.fn.heads (length l.lists);
-      walks : disk.honest → (stored : List Stored) (xs ys : List (List ℕ)) → SpellsInputs (disk.content l.fn.disk) l.inputs stored → AreListed l.inputs l.lists stored → CanHold stored (room_in l.fn.joined)
+      hold : disk.honest → HoldInputs (disk.content l.fn.disk) l.inputs l.fn.aheads → HoldInputs (disk.content l.disk) l.inputs l.aheads;
+      walks : disk.honest → (stored : List Stored) (xs ys : List (List ℕ)) → HoldInputs (disk.content l.fn.disk) l.inputs l.fn.aheads → SpellsInputs (disk.content l.fn.disk) l.inputs stored → AreListed l.inputs l.lists stored → CanHold stored (room_in l.fn.joined)
           → Walks l.lists l.fn.heads stored xs ys → Walks l.lists l.heads stored xs ys;
     }

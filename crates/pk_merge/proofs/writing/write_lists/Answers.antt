@@ -12,7 +12,8 @@ use Rattle.pk_segment.proofs.PlanLemmas.{lists_all, lists_next}
 use Rattle.pk_state.specs.Committed.{live_in}
 use Rattle.pk_merge.specs.Output.{AreGiven}
 use Rattle.pk_merge.specs.Writing.{GoesOn}
-use Rattle.pk_merge.proofs.GivenLemmas.{all_mid, are_given_read, are_given_then, err_given, is_given_read, is_given_then, lists_within, spells_stays, well}
+use Rattle.pk_merge.proofs.GivenLemmas.{all_mid, are_given_read, are_given_then, err_given, is_given_read, is_given_then, lists_within, same_bytes, well}
+use Rattle.pk_merge.proofs.StreamLemmas.{apart_there}
 use Rattle.pk_merge.proofs.writing.write_lists.Goals as goal
 
 pub returns-in_err-write_list-clause-bytes : goal.returns-in_err-write_list-clause-bytes
@@ -60,11 +61,13 @@ words-preserved g c =
           let given = c.in_ok-write_list.ensures.bytes honest (omega (arith, is, most, inv.encoded))
           (omega (arith, is, room, known.3.count, lists_within docs ws w to.rest terms, inv.given.stretch.end)) in
           let all = are_given_then d c.args.disk.now c.go_on.new.disk c.write_list.new.disk c.args.output.now c.words.output c.write_list.new.output (lists_of ws docs) _ tt so_far given in
-          let one = is_given_then d c.args.disk.now c.go_on.new.disk c.write_list.new.disk c.args.output.now c.words.output c.write_list.new.output tt read c.in_ok-write_list.ensures.given in
-          let spells = spells_stays (content c.args.disk.now) (content c.write_list.new.disk) c.args.inputs.now stored c.args.output.now.start c.args.output.now.end one.writes.size (one.writes.changed honest).same apart start.spells in (
+          let own = c.in_ok-write_list.ensures.given.writes in
+          let stretch = inv.given.stretch in
+          let apart_now = apart_there c.args.inputs.now c.args.output.now.start c.args.output.now.end c.words.output.start c.words.output.end stretch.start stretch.end apart in
+          let inputs = same_bytes (content c.go_on.new.disk) (content c.write_list.new.disk) c.args.inputs.now c.words.output.start c.words.output.end own.size (own.changed honest).same apart_now in (
             ws ++ w ∷ [],
             to.rest,
-            come_stays (content c.go_on.new.disk) (content c.write_list.new.disk) c.args.inputs.now c.args.lists.now stored c.go_on.new.walk (ws ++ w ∷ []) to.rest spells to.come,
+            come_stays (content c.go_on.new.disk) (content c.write_list.new.disk) c.args.inputs.now c.args.lists.now stored c.go_on.new.walk (ws ++ w ∷ []) to.rest inputs to.come,
             subst (λ (l : List ℕ). AreGiven d c.args.disk.now c.write_list.new.disk c.args.output.now c.write_list.new.output l well)
                 (ap (λ (l : List ℕ). lists_of ws docs ++ list_spelling l) numbers ∙ sym (lists_next ws w docs)) all,
           );

@@ -1,0 +1,39 @@
+//! What is read ahead of all inputs.
+
+ghost use Rattle.std.specs.Prelude.{◌≡◌, length, All, IfOk};
+ghost use Rattle.pk_join.specs.Ahead.{HoldsNone, bytes_ahead};
+
+use crate::ahead::{Ahead, READ_AHEAD};
+use crate::lists::InputLists;
+use std::alloc::{AllocError, Global};
+
+// How many bytes of an input are read ahead: none where its lists are in memory.
+fn bytes_of(lists: &InputLists) -> usize
+    ensures { result ≡ bytes_ahead lists.now }
+{
+    match lists {
+        InputLists::Stored { .. } => READ_AHEAD,
+        InputLists::Indexed(_) => 0,
+    }
+}
+
+/// Memory to read ahead of each input. Nothing is read yet.
+pub(crate) fn aheads_for(alloc: Global, lists: &[InputLists]) -> Result<Vec<Ahead>, AllocError>
+    ensures none { IfOk result (λ v. All HoldsNone v.items) }
+    ensures long { IfOk result (λ v. length v.items ≡ length lists.now) }
+{
+    let mut aheads = Vec::with_capacity(alloc, lists.len())?;
+    for of_input in lists {
+        aheads.push(Ahead::new(alloc, bytes_of(of_input))?)?;
+    }
+    Ok(aheads)
+}
+
+/// Forgets what was read of all inputs.
+pub(crate) fn clear_all(aheads: &mut [Ahead])
+    ensures { All HoldsNone aheads.new }
+{
+    for ahead in aheads.iter_mut() {
+        ahead.clear();
+    }
+}
