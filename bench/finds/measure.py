@@ -268,6 +268,15 @@ def show_both(stored, asked, least, folder):
     show(f"{stored}, in a row, without waiting:", in_a_row, least, folder)
 
 
+def show_way(folder, word):
+    """Prints how long a line takes that is sent back as it is."""
+    echo, line = Peer(f"{folder}/echo"), f"find {word}\n".encode()
+    waited, reply = timed(echo, line)
+    in_a_row = timed_row(echo, line, waited, reply)
+    echo.close()
+    print(f"\nThe way over the pipe and back, alone: {waited:.1f} µs waited for, {in_a_row:.1f} µs in a row")
+
+
 def main():
     program, lines, folder = sys.argv[1:4]
     texts = pathlib.Path(lines).read_text(encoding="utf-8").splitlines()
@@ -287,10 +296,7 @@ def main():
     merge(program, folder)
     show_sizes(folder)
     show_both("Merged into one", ask_all(program, folder, finds, "compact"), least, folder)
-    pipe = Peer("cat")
-    spent, _ = timed(pipe, f"find {finds[0][1]}\n".encode())
-    pipe.close()
-    print(f"\nThe pipe alone, by a line that cat sends back: {spent:.1f} µs")
+    show_way(folder, finds[0][1])
 
 
 if __name__ == "__main__":

@@ -1,5 +1,5 @@
 -- What a piece at hand says, the dictionary's bytes say.
-use Rattle.std.proofs.Common.{◌≡◌, ◌≤◌, ◌<◌, ◌+◌, ◌-◌, ◌∙◌, ◌++◌, ℕ, List, length, take, drop, sym, ap, arith, get_or, Ok}
+use Rattle.std.proofs.Common.{◌≡◌, ◌≤◌, ◌<◌, ◌+◌, ◌-◌, ◌∙◌, ℕ, List, length, take, drop, sym, ap, arith, get_or, Ok}
 use Rattle.std.proofs.lemmas.Bool.{lt-ltb}
 use Rattle.std.proofs.lemmas.List.{drop-take, take-take, drop-drop, take-append-drop, take_rest, get_or-take, get_or-drop}
 use Rattle.pk_vbyte.specs.VariableByte.{taken}

@@ -1,6 +1,6 @@
 -- The terms of documents are the words that occur in them, and there is one rising list of these.
-use Rattle.std.proofs.Common.{Ordering, Less, Equal, Greater, ◌≡◌, ◌⊎◌, ℕ, ◌+◌, ◌<◌, ◌≤◌, ◌||◌, Bool, true, false, cond, List, [], ◌∷◌, ◌++◌, length, refl, sym, ap, subst, ◌∙◌, arith, inl, inr}
-use Rattle.std.specs.Prelude.{◌↔◌, Contains, filter, map}
+use Rattle.std.proofs.Common.{Ordering, Less, Equal, Greater, ◌≡◌, ℕ, ◌<◌, ◌||◌, Bool, true, false, cond, List, [], ◌∷◌, length, refl, sym, ap, subst, ◌∙◌, arith}
+use Rattle.std.specs.Prelude.{filter}
 use Rattle.std.specs.Cmp.Lexicographic.{slice_cmp}
 use Rattle.std.specs.List.{AllByRecursion, list_any}
 use Rattle.std.specs.List.Sorted.{IsStrictlySortedBy}
@@ -11,7 +11,7 @@ use Rattle.std.proofs.lemmas.Map.Text.{is_eq-slice_cmp}
 use Rattle.std.proofs.lemmas.Slice.Eq.{bytes_eq-Decides}
 use Rattle.pk_model.specs.Collection.{Doc, answer, is_hit, numbers_of}
 use Rattle.pk_model.specs.Terms.{AreTerms, terms_of, with_word, with_words}
-use Rattle.pk_model.specs.Tree.{Term, satisfies}
+use Rattle.pk_model.specs.Tree.{Term}
 use Rattle.pk_model.specs.Words.{words_of}
 use Rattle.pk_model.proofs.TreeLemmas.{term}
 

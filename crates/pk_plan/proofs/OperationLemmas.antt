@@ -1,6 +1,5 @@
 -- For crates above: the operation of each kind of plan.
-use Rattle.std.proofs.Common.{◌≡◌, List, ◌++◌, map, String, sym, ap, ◌∙◌}
-use Rattle.std.specs.declared.alloc.Global.{Global}
+use Rattle.std.proofs.Common.{◌≡◌, ◌++◌, map, sym, ap, ◌∙◌}
 use Rattle.std.specs.Global.{Box, Vec}
 use Rattle.pk_plan.specs.declared.plans.Plan.{Plan}
 use Rattle.pk_plan.specs.declared.plans.Plan.TheOpen.{Plan-F}

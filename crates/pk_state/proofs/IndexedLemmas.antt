@@ -1,5 +1,5 @@
 -- What spells documents indexes them.
-use Rattle.std.proofs.Common.{◌≡◌, ℕ, List, [], ◌∷◌, subst}
+use Rattle.std.proofs.Common.{ℕ, List, [], ◌∷◌, subst}
 use Rattle.pk_disk.specs.Units.{extent_bytes}
 use Rattle.pk_manifest.specs.declared.manifest.Part.{Part as Entry}
 use Rattle.pk_segment.proofs.ListingLemmas.{index_of}

@@ -42,10 +42,9 @@ impl<D: Disk> Store<D> {
         if self.volume.must_reopen() {
             return Err(Refusal::Reopen);
         }
-        if self.volume.is_merged() {
+        let Some(count) = self.volume.segments_to_merge() else {
             return Ok(());
-        }
-        let count = self.volume.segments();
+        };
         self.merge_run(alloc, 0, count)
     }
 

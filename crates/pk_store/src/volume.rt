@@ -15,7 +15,8 @@ ghost use Rattle.pk_state.specs.Committed.{Stored, live_in, whole_of};
 ghost use Rattle.pk_state.specs.Holds.{IndexesEntries};
 ghost use Rattle.pk_store.specs.Deleting.{DeletesAt, DeletesIn};
 ghost use Rattle.pk_merge.specs.Choosing.{ChoosesAs};
-ghost use Rattle.pk_state.specs.Writing.{is_merged, sizes_of};
+ghost use Rattle.pk_state.specs.Writing.{sizes_of};
+ghost use Rattle.pk_store.specs.Ways.{MergesAllAs};
 ghost use Rattle.pk_store.specs.Merging.{AreInputsOf, MergesRun, PlansRun};
 ghost use Rattle.pk_layout.specs.Plan.{AreNext, DueAs, GoesOn, IsPlan, PlansAs};
 ghost use Rattle.pk_store.specs.Carrying.{Carries, Goes, MeetsNone};
@@ -267,23 +268,21 @@ impl<D: Disk> Volume<D> {
         )
     }
 
-    /// Whether nothing is left to merge: there is no segment, or just one, of the kind that is
-    /// written and without a deletion list.
-    pub(crate) fn is_merged(&self) -> bool
-        ensures { result ≡ is_merged self.now.body.entries }
+    /// How many segments a merge makes one of: all. None where nothing is left to merge: there is no
+    /// segment, or just one, of the kind that is written and without a deletion list.
+    pub(crate) fn segments_to_merge(&self) -> Option<usize>
+        ensures { MergesAllAs self.now.body.entries result }
     {
-        match self.manifest.entries.as_slice() {
+        let entries = self.manifest.entries.as_slice();
+        let merged = match entries {
             [] => true,
             [entry] => entry.kind == written_kind() && entry.dead.is_none(),
             _ => false,
+        };
+        if merged {
+            return None;
         }
-    }
-
-    /// How many segments the body in force names.
-    pub(crate) fn segments(&self) -> usize
-        ensures { result ≡ length self.now.body.entries }
-    {
-        self.manifest.entries.len()
+        Some(entries.len())
     }
 
     /// The first place of the run that a tidy merges; none where there are fewer than eight

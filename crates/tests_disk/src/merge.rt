@@ -356,7 +356,7 @@ fn calls_to_prepare(alloc: Global) -> Result<u64, AllocError>
     Ok(0)
 }
 
-// Each call fails in turn. The last one that prepares is a read, and so are the two that copy the
+// Each call fails in turn. The last one that prepares is a read, and so is the one that reads both
 // texts. Then all bytes are written at once, and there is no further call.
 #[test]
 fn each_failing_call_of_a_written_merge_is_told(rt: HostRuntime) -> Result<(), Fail> {
@@ -365,9 +365,8 @@ fn each_failing_call_of_a_written_merge_is_told(rt: HostRuntime) -> Result<(), F
     for (more, fault) in [
         (0, Some(MergeFault::Disk)),
         (1, Some(MergeFault::Disk)),
-        (2, Some(MergeFault::Disk)),
-        (3, Some(MergeFault::NotWritten)),
-        (4, None),
+        (2, Some(MergeFault::NotWritten)),
+        (3, None),
     ] {
         assert_eq!(rt; told(rt.alloc(), calls + more)?, fault);
     }

@@ -334,19 +334,20 @@ const MERGE_DONE: &str = "
 /// |---|---|
 /// | 1 to 16 | opening |
 /// | 17 | the deletion: the entry of document 2 |
-/// | 18 to 87 | the segments' headers, directories, dictionaries and lists |
-/// | 88 to 90 | the read of gate B, its close, a sync |
-/// | 91 to 100 | the texts that are left, and the lists once more |
-/// | 101 to 103 | the segment, the body, a sync |
-/// | 104, 105 | the gate, a sync |
+/// | 18 to 20 | the segments, each at once |
+/// | 21 to 23 | the segments' lists, those of each at once |
+/// | 24 to 26 | the read of gate B, its close, a sync |
+/// | 27 to 30 | the texts that are left, at once, and the lists once more |
+/// | 31 to 33 | the segment, the body, a sync |
+/// | 34, 35 | the gate, a sync |
 const MERGING: [(u64, u64, &[&str], &str); 7] = [
-    (18, 88, ONCE, MERGE_AGAIN),
-    (18, 88, ON, MERGE_REFUSED),
-    (89, 90, EITHER, MERGE_CUT),
-    (91, 100, ONCE, MERGE_AGAIN),
-    (91, 100, ON, MERGE_REFUSED),
-    (101, 105, EITHER, MERGE_CUT),
-    (106, 106, ON, MERGE_DONE),
+    (18, 24, ONCE, MERGE_AGAIN),
+    (18, 24, ON, MERGE_REFUSED),
+    (25, 26, EITHER, MERGE_CUT),
+    (27, 30, ONCE, MERGE_AGAIN),
+    (27, 30, ON, MERGE_REFUSED),
+    (31, 35, EITHER, MERGE_CUT),
+    (36, 36, ON, MERGE_DONE),
 ];
 
 #[test]

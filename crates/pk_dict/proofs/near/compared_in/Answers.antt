@@ -1,7 +1,7 @@
 -- What is shared with the piece's rest is shared with the dictionary's, and its next byte is theirs.
-use Rattle.std.proofs.Common.{arith, refl, ◌≡◌, ◌+◌, List, ℕ, Ok, drop}
+use Rattle.std.proofs.Common.{arith, refl}
 use Rattle.std.proofs.lemmas.Bool.{eq-eqb, ne_eqb, lt-ltb, le-ltb}
-use Rattle.pk_dict.specs.Reading.{IsPieceAt, compared_at, shared_at}
+use Rattle.pk_dict.specs.Reading.{compared_at}
 use Rattle.pk_dict.proofs.Pieces.{shared_near, next_near}
 use Rattle.pk_dict.proofs.near.compared_in.Goals.{then-matched-term-2-via-then-matched-term-2, then-matched-term-2-via-else-matched-term-2+then-term-matched}
 use Rattle.pk_dict.proofs.near.compared_in.Goals as goal

@@ -1,5 +1,5 @@
 -- A piece that was lent has the first number, or the end, and mostly the term that follows.
-use Rattle.std.proofs.Common.{arith, refl, subst, ◌≡◌, ◌+◌, List, ℕ, Ok, Err}
+use Rattle.std.proofs.Common.{arith, refl, subst, ◌+◌, List, ℕ, Ok, Err}
 use Rattle.pk_dict.specs.Place.{bytes_at}
 use Rattle.pk_dict.specs.Reading.{Gives, next_at, step_at}
 use Rattle.pk_dict.proofs.Parts.{length_bytes_at, number_lent}
