@@ -1,7 +1,7 @@
 //! What is read ahead of all inputs.
 
-ghost use Rattle.std.specs.Prelude.{◌≡◌, length, All, IfOk};
-ghost use Rattle.pk_join.specs.Ahead.{HoldsNone, bytes_ahead};
+ghost use Rattle.std.specs.Prelude.{◌≡◌, length, map, All, IfOk};
+ghost use Rattle.pk_join.specs.Ahead.{HoldsNone, ahead_room, bytes_ahead};
 
 use crate::ahead::{Ahead, READ_AHEAD};
 use crate::lists::InputLists;
@@ -21,6 +21,7 @@ fn bytes_of(lists: &InputLists) -> usize
 pub(crate) fn aheads_for(alloc: Global, lists: &[InputLists]) -> Result<Vec<Ahead>, AllocError>
     ensures none { IfOk result (λ v. All HoldsNone v.items) }
     ensures long { IfOk result (λ v. length v.items ≡ length lists.now) }
+    ensures rooms { IfOk result (λ v. map ahead_room v.items ≡ map bytes_ahead lists.now) }
 {
     let mut aheads = Vec::with_capacity(alloc, lists.len())?;
     for of_input in lists {
