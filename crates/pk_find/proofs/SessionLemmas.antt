@@ -1,5 +1,5 @@
 -- What became of the disk is an era of it, by which each history goes on.
-use Rattle.std.proofs.Common.{◌≡◌, ◌≤◌, ℕ, List, [], Option, subst, Result, Ok, Err}
+use Rattle.std.proofs.Common.{◌≤◌, ℕ, List, [], Option, subst, Result, Ok, Err}
 use Rattle.pk_disk.specs.declared.disk.Disk.{Ghosts}
 use Rattle.pk_disk.specs.Disk.{IsImage}
 use Rattle.pk_find.specs.Endings.{IsMade, IsSession, era_of}
