@@ -13,7 +13,8 @@ run of the prover names its crate, and is counted
 with the processes that it waited for. When the command has ended the sums are printed as a table,
 and behind it what the table leaves out: the rest of the command's processor time, which is that of
 the tests and programs that ran, of `rt` itself, and of the last quarter of a second of each run.
-The clock's minutes are of the whole. The command's output goes to standard error.
+The clock's minutes are of the whole. The command's output goes to standard error. Where it fails, or
+is broken off by Ctrl-C, the table is of what was run until then, and the status is 1.
 """
 import collections
 import os
@@ -72,21 +73,24 @@ def look(top, runs):
 
 
 def watch(command):
-    """The processor seconds of each crate's parts, of the whole command, and its minutes."""
+    """The processor seconds of each crate's parts, of the whole command, its minutes and its
+    status."""
     runs = {}
     start = time.monotonic()
     child = subprocess.Popen(command, stdin=subprocess.DEVNULL, stdout=sys.stderr)
-    while child.poll() is None:
-        look(child.pid, runs)
-        time.sleep(LOOK_EACH)
+    try:
+        while child.poll() is None:
+            look(child.pid, runs)
+            time.sleep(LOOK_EACH)
+    except KeyboardInterrupt:
+        child.terminate()
+        child.wait()
     minutes = (time.monotonic() - start) / 60
-    if child.returncode:
-        sys.exit(f"{' '.join(command)} ended with status {child.returncode}")
     parts = collections.defaultdict(collections.Counter)
     for (_, (name, part)), seconds in runs.items():
         parts[name][part] += seconds
     used = resource.getrusage(resource.RUSAGE_CHILDREN)
-    return parts, used.ru_utime + used.ru_stime, minutes
+    return parts, used.ru_utime + used.ru_stime, minutes, child.returncode
 
 
 def row(name, costs):
@@ -95,7 +99,7 @@ def row(name, costs):
 
 
 def main(command):
-    parts, seconds, minutes = watch(command)
+    parts, seconds, minutes, status = watch(command)
     print("| crate | proof, s | tests, s | edits, s | together, min |")
     print("|---|---|---|---|---|")
     for name in sorted(parts):
@@ -105,6 +109,8 @@ def main(command):
     print(f"\nrunning, and what ended between two looks: {(seconds - together.total()) / 60:.1f} min")
     print(f"{seconds / 60:.1f} processor minutes in {minutes:.1f} minutes of the clock on "
           f"{os.cpu_count()} processors; the gate may take {BUDGET_MINUTES}")
+    if status:
+        sys.exit(f"{' '.join(command)} ended with status {status}: the figures are of a part of it")
 
 
 if __name__ == "__main__":

@@ -4,6 +4,7 @@ pub mod ComeLemmas
 pub mod DocLemmas
 pub mod InputLemmas
 pub mod JoinLemmas
+pub mod KeyLemmas
 pub mod PartLemmas
 pub mod PostingLemmas
 pub mod TermWalkLemmas

@@ -2,6 +2,7 @@
 pub mod Ahead
 pub mod Inputs
 pub mod Joining
+pub mod Keys
 pub mod Listed
 pub mod Reading
 pub mod Walk

@@ -5,6 +5,7 @@ use Rattle.pk_join.specs.declared.input.MergeInput.{MergeInput}
 use Rattle.pk_join.specs.declared.lists.InputLists.{InputLists}
 use Rattle.pk_join.specs.declared.walk.Walk.{Walk}
 use Rattle.pk_join.specs.Inputs.{SpellsInputs}
+use Rattle.pk_join.specs.Keys.{AreKeys}
 use Rattle.pk_join.specs.Listed.{room_for}
 use Rattle.pk_join.specs.Walking.{AreListed, CanHold, Walks, to_come}
 use Rattle.pk_segment.specs.Indexed.{list_with}
@@ -27,9 +28,11 @@ pub record IsAtStart (walk : Walk) : Type 0 where
   pub heads : (i : ℕ) → slice_index walk.heads.items i ≡ 0
   pub aheads : All HoldsNone walk.aheads.items
 
--- It is a walk through the words of so many inputs, with room for a list of each.
+-- It is a walk through the words of these inputs, whose keys it has, with room for a list of each.
 pub record IsWalkOf (ls : List InputLists) (walk : Walk) : Type 0 where
   pub heads : length walk.heads.items ≡ length ls
+  pub long : length walk.keys.items ≡ length ls
+  pub keys : AreKeys ls walk.heads.items walk.keys.items
   pub aheads : length walk.aheads.items ≡ length ls
   pub room : All (λ l. room_for l ≤ length walk.room.items) ls
 

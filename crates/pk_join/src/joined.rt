@@ -15,6 +15,7 @@ ghost use Rattle.std.specs.Prelude.{
   IsTrue,
   vec_capacity,
 };
+ghost use Rattle.std.specs.List.Sorted.{IsStrictlyIncreasing};
 ghost use Rattle.pk_posting.specs.Posting.{IsPosting};
 
 use std::alloc::{AllocError, Global};
@@ -71,16 +72,20 @@ impl Joined {
         }
     }
 
-    /// Puts a number behind the others. It takes no memory, and answers false where there is no
-    /// room, or the numbers would not rise.
-    pub(crate) fn put(&mut self, n: u32) -> bool
-        ensures numbers { IsTrue result → joined_in self.new ≡ joined_in self.old ++ n ∷ [] }
-        ensures may { (ns : List ℕ) → MayJoin self.old (n ∷ ns) → IsTrue result }
+    /// Puts rising numbers behind the others. It takes no memory, and answers false where there is
+    /// no room, or the first is not above the last.
+    pub(crate) fn put_all(&mut self, numbers: &[u32]) -> bool
+        requires { IsStrictlyIncreasing numbers.now }
+        ensures numbers { IsTrue result → joined_in self.new ≡ joined_in self.old ++ numbers.now }
+        ensures may { MayJoin self.old numbers.now → IsTrue result }
         ensures room { self.new.room ≡ self.old.room }
     {
-        if self.numbers.len() >= self.room || n <= self.last() {
+        let Some(first) = numbers.first() else {
+            return true;
+        };
+        if numbers.len() > self.room - self.numbers.len() || *first <= self.last() {
             return false;
         }
-        self.numbers.push(n).is_ok()
+        self.numbers.extend_from_slice(numbers).is_ok()
     }
 }

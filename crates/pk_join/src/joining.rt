@@ -13,6 +13,7 @@ ghost use Rattle.std.specs.Prelude.{
   MatchResult,
   OnOk,
 };
+ghost use Rattle.std.specs.List.Sorted.{IsStrictlyIncreasing};
 ghost use Rattle.pk_join.specs.Joining.{MayJoin, joined_in, numbers_left};
 ghost use Rattle.pk_posting.specs.Parts.{bytes_at};
 ghost use Rattle.pk_posting.specs.Posting.{Spells};
@@ -21,9 +22,10 @@ ghost use Rattle.pk_posting.specs.Source.{IsLeft};
 use crate::joined::Joined;
 use pk_dead::Dead;
 use pk_posting::{ByteSource, ListPlace, Shape, SourceFault, block_in, tail_in};
+use pk_sets::{is_rising, without};
 
-/// Puts the numbers that a deletion list leaves behind those that are joined. It takes no memory,
-/// and `Damaged` is that there is no room, or that the numbers don't rise.
+/// Puts the numbers that a deletion list leaves behind those that are joined, 128 at once. It takes
+/// no memory, and `Damaged` is that there is no room, or that the numbers don't rise.
 pub(crate) fn join_numbers(
     numbers: &[u32],
     dead: &Dead,
@@ -31,12 +33,18 @@ pub(crate) fn join_numbers(
 ) -> Result<(), SourceFault>
     ensures joined { OnOk result
         (joined_in joined.new ≡ joined_in joined.old ++ numbers_left dead.now numbers.now) }
-    ensures may { MayJoin joined.old (numbers_left dead.now numbers.now) → IsOk result }
+    ensures may { IsStrictlyIncreasing numbers.now
+        → MayJoin joined.old (numbers_left dead.now numbers.now) → IsOk result }
     ensures cause { IfErr result (λ e. e ≡ SourceFault.Damaged) }
     ensures room { joined.new.room ≡ joined.old.room }
 {
-    for n in numbers {
-        if !dead.contains(*n) && !joined.put(*n) {
+    let mut left = [0u32; 128];
+    for chunk in numbers.chunks(128) {
+        if !is_rising(chunk) {
+            return Err(SourceFault::Damaged);
+        }
+        let count = without(chunk, dead.numbers(), &mut left);
+        if !joined.put_all(&left[..count]) {
             return Err(SourceFault::Damaged);
         }
     }

@@ -4,6 +4,7 @@ use crate::ahead::Ahead;
 use crate::aheads::{aheads_for, clear_all};
 use crate::input::MergeInput;
 use crate::joined::Joined;
+use crate::keys::take_keys;
 use crate::lists::InputLists;
 use crate::rooms::widest;
 use crate::walking::next_word;
@@ -18,6 +19,8 @@ use std::alloc::{AllocError, Global};
 pub struct Walk {
     // How many words of each input were passed.
     heads: Vec<usize>,
+    // The key of the word at the head of each.
+    keys: Vec<u64>,
     // What was read ahead of each input.
     aheads: Vec<Ahead>,
     // Where a list of texts is made.
@@ -64,11 +67,14 @@ impl Walk {
         ensures start { IfOk result IsAtStart }
     {
         let heads = vec![in alloc; 0usize; lists.len()]?;
+        let mut keys = vec![in alloc; 0u64; lists.len()]?;
+        take_keys(lists, &heads, &mut keys);
         let aheads = aheads_for(alloc, lists)?;
         let room = vec![in alloc; 0u32; widest(lists)]?;
         let joined = Joined::with_room(alloc, most)?;
         Ok(Walk {
             heads,
+            keys,
             aheads,
             room,
             joined,
@@ -76,12 +82,14 @@ impl Walk {
     }
 
     /// Goes back before the first word, and forgets what it read ahead. It takes no memory.
-    pub fn restart(&mut self)
-        ensures walk { (ls : List InputLists) → IsWalkOf ls self.old → IsWalkOf ls self.new }
+    pub fn restart(&mut self, lists: &[InputLists])
+        requires { IsWalkOf lists.now self.old }
+        ensures walk { IsWalkOf lists.now self.new }
         ensures room { walk_room self.new ≡ walk_room self.old }
         ensures start { IsAtStart self.new }
     {
         self.heads.fill(0);
+        take_keys(lists, &self.heads, &mut self.keys);
         clear_all(&mut self.aheads);
     }
 
@@ -115,6 +123,7 @@ impl Walk {
             inputs,
             lists,
             &mut self.heads,
+            &mut self.keys,
             &mut self.aheads,
             &mut self.room,
             &mut self.joined,

@@ -64,7 +64,7 @@ fn prepare_of(
         terms: plan.terms,
     };
     let front = front_of(alloc, counts, &left.documents)?;
-    walk.restart();
+    walk.restart(&lists);
     let encoded = vec![in alloc; 0u8; plan.longest_list as usize]?;
     let room = vec![in alloc; 0u8; SPAN_BYTES]?;
     let buffer = vec![in alloc; 0u8; WRITE]?;

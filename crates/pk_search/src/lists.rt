@@ -1,5 +1,5 @@
 //! One posting list: taken out by a cursor or through the cache, or asked by a cursor's seeks.
-ghost use Rattle.std.specs.Prelude.{◌≡◌, ◌↔◌, ℕ, List, length, IsTrue, OnOk, MatchResult};
+ghost use Rattle.std.specs.Prelude.{◌≡◌, ℕ, List, length, OnOk, MatchResult};
 ghost use Rattle.std.specs.List.Sorted.{IsStrictlyIncreasing};
 ghost use Rattle.pk_model.specs.Collection.{Doc};
 ghost use Rattle.pk_search.specs.Cached.{AddsOnlyOf, AreServed, KeepsBlocksOf, Serves};
@@ -19,19 +19,8 @@ use pk_cursor::Cursor;
 use pk_dict::Entry;
 use pk_posting::{ByteSource, ListPlace};
 use pk_segment::{ReadFault, Segment};
+use pk_sets::is_rising;
 use std::alloc::Global;
-
-/// Whether each number is above the one before.
-pub(crate) fn is_rising(numbers: &[u32]) -> bool
-    ensures { IsTrue result ↔ IsStrictlyIncreasing numbers.now }
-{
-    for i in 1..numbers.len() {
-        if numbers[i] <= numbers[i - 1] {
-            return false;
-        }
-    }
-    true
-}
 
 // Where the posting list that an entry leads to lies in the segment.
 fn place_of(segment: &Segment, entry: Entry) -> Result<ListPlace, ReadFault>

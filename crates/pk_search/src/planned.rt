@@ -29,13 +29,14 @@ ghost use Rattle.pk_state.specs.Committed.{Stored, live_of};
 
 use crate::joining::{keep_both, keep_without, put_either};
 use crate::listed::WordLists;
-use crate::lists::{cut_word, is_rising, put_word};
+use crate::lists::{cut_word, put_word};
 use crate::opened::OpenSegment;
 use pk_cache::BlockCache;
 use pk_model::DocNo;
 use pk_plan::Plan;
 use pk_posting::ByteSource;
 use pk_segment::{ReadFault, Segment};
+use pk_sets::is_rising;
 use std::alloc::{AllocError, Global};
 
 // Puts the numbers of all documents of the segment into `out`. `Damaged` where they don't rise.

@@ -25,7 +25,8 @@
 //!
 //! Contracts see a set as its list. `specs/Sets.antt` has the operations by membership, and `laws`
 //! what follows from them: the results rise, the order of the two lists does not matter, and the
-//! sizes. Nothing is refused, and no call takes memory.
+//! sizes. `is_rising` tells whether numbers are a set at all. Nothing is refused, and no call takes
+//! memory.
 #![tactic(auto)]
 
 mod cursor;
@@ -35,6 +36,7 @@ mod galloping;
 mod intersecting;
 pub mod laws;
 mod merging;
+mod rising;
 mod uniting;
 mod writing;
 
@@ -42,4 +44,5 @@ pub use excluding::without;
 pub use galloping::both_gallop;
 pub use intersecting::both;
 pub use merging::both_merge;
+pub use rising::is_rising;
 pub use uniting::either;

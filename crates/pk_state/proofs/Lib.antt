@@ -1,5 +1,6 @@
 -- The lemma pages; those that callers cite are public.
 pub mod CallerLemmas
+pub mod DeadLemmas
 pub mod KindLemmas
 pub mod HoldsLemmas
 pub mod IndexedLemmas

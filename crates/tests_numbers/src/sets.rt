@@ -4,7 +4,7 @@ ghost use Rattle.std.specs.Prelude.{◌<◌, ◌≤◌, length};
 
 use crate::made::{apart, thinned};
 use crate::plain::rises;
-use pk_sets::{both, both_gallop, both_merge, either, without};
+use pk_sets::{both, both_gallop, both_merge, either, is_rising, without};
 use std::alloc::{AllocError, Global};
 use std::process::Abort;
 use std::test::Fail;
@@ -87,6 +87,14 @@ fn worked_rows(rt: HostRuntime) {
         without: &[],
     };
     answers(&rt, &[], &[], &none);
+}
+
+#[test]
+fn a_set_rises(rt: HostRuntime) {
+    assert!(rt; is_rising(&[]) && is_rising(&[5]));
+    assert!(rt; is_rising(&[0, 1, 7, 4_294_967_295]));
+    assert!(rt; !is_rising(&[1, 7, 7]));
+    assert!(rt; !is_rising(&[1, 7, 6]));
 }
 
 // 32 and 9984 are each the last number of a stretch of 32; 10001 is past the end.

@@ -3,12 +3,15 @@ use Rattle.std.proofs.Common.{◌≡◌, ◌∙◌, ◌+◌, ◌*◌, ◌++◌, 
 use Rattle.std.proofs.Math.Seq.{take-add}
 use Rattle.std.proofs.lemmas.List.{take-append-drop}
 use Rattle.std.proofs.lemmas.Result.{err_from_is_err_and}
+use Rattle.std.specs.List.Sorted.{IsStrictlyIncreasing}
+use Rattle.pk_dead.proofs.PostingLemmas.{posting_rises}
 use Rattle.pk_posting.specs.declared.source.SourceFault.{SourceFault}
 use Rattle.pk_posting.specs.declared.source.SourceFault.TheVariants.{Disk}
 use Rattle.pk_posting.specs.Parts.{HasShape, bytes_at}
-use Rattle.pk_posting.specs.Posting.{block}
+use Rattle.pk_posting.specs.Posting.{IsPosting, block}
 use Rattle.pk_join.specs.Joining.{MayJoin, joined_in, numbers_left}
 use Rattle.pk_join.proofs.JoinLemmas.{from_ok, left_both, may_part}
+use Rattle.pk_join.proofs.PostingLemmas.{rising_back, rising_front}
 use Rattle.pk_join.proofs.joining.join_list.Goals as goal
 
 next : (xs : List ℕ) (k : ℕ) → take (128 * (k + 1)) xs ≡ take (128 * k) xs ++ block k xs
@@ -18,6 +21,11 @@ three : (xs : List ℕ) (k : ℕ) → xs ≡ take (128 * k) xs ++ (block k xs ++
 three xs k =
     sym (take-append-drop (128 * (k + 1)) xs) ∙ ap (λ (l : List ℕ). l ++ drop (128 * (k + 1)) xs) (next xs k)
     ∙ append_assoc (take (128 * k) xs) (block k xs) (drop (128 * (k + 1)) xs)
+
+block_rises : (xs : List ℕ) (k : ℕ) → IsPosting xs → IsStrictlyIncreasing (block k xs)
+block_rises xs k p =
+    let rest = drop (128 * (k + 1)) xs in
+    rising_front (block k xs) rest (rising_back (take (128 * k) xs) (block k xs ++ rest) (subst IsStrictlyIncreasing (three xs k) (posting_rises xs p)))
 
 pub returns-in_err-block_in-clause-joined : goal.returns-in_err-block_in-clause-joined
 returns-in_err-block_in-clause-joined g c = λ honest xs inside is may.
@@ -33,7 +41,7 @@ returns-in_err-join_numbers-clause-joined g c = λ honest xs inside is may.
     let here = subst (λ (b : List ℕ). HasShape (bytes_at b c.args.place) c.in_ok-shape.shape xs) (sym (c.loop-k.invariant.same honest)) known.0 in
     let k = c.loop-k.k in
     let got = c.in_ok-block_in.ensures.spelled honest xs here c.loop-k-test.true in
-    let ok : false ≡ true = c.in_err-join_numbers.ensures.may (subst (λ (b : List ℕ). MayJoin c.loop-k.joined (numbers_left c.args.dead.now b)) (sym got)
+    let ok : false ≡ true = c.in_err-join_numbers.ensures.may (subst IsStrictlyIncreasing (sym got) (block_rises xs k is.posting)) (subst (λ (b : List ℕ). MayJoin c.loop-k.joined (numbers_left c.args.dead.now b)) (sym got)
     (may_part c.args.joined.now c.loop-k.joined c.args.dead.now (take (128 * k) xs) (block k xs) (drop (128 * (k + 1)) xs) xs (three xs k) known.1 c.loop-k.invariant.room may)) in
     absurd (cc (ok))
 
@@ -76,4 +84,4 @@ returns-clause-joined g c = λ honest xs inside is may.
     (λ (e : SourceFault). e ≡ Disk) c.join_numbers-2.result
     (λ is. left_both (joined_in c.args.joined.now) so_far now dead a b xs parts known.1 (is ∙ ap (λ (l : List ℕ). so_far ++ numbers_left dead l) tail))
     c.join_numbers-2.ensures.joined
-    (c.join_numbers-2.ensures.may (subst (λ (l : List ℕ). MayJoin c.loop-k.joined (numbers_left dead l)) (sym tail) may_tail))
+    (c.join_numbers-2.ensures.may (subst IsStrictlyIncreasing (sym tail) (rising_back a b (subst IsStrictlyIncreasing parts (posting_rises xs is.posting)))) (subst (λ (l : List ℕ). MayJoin c.loop-k.joined (numbers_left dead l)) (sym tail) may_tail))

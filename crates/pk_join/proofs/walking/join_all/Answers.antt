@@ -1,5 +1,5 @@
 -- One input after the other.
-use Rattle.std.proofs.Common.{◌≡◌, ◌∙◌, ◌<◌, ◌≤◌, ◌++◌, false, ap, sym, subst, arith, List, ℕ, length, slice_index}
+use Rattle.std.proofs.Common.{◌≡◌, ◌∙◌, ◌<◌, ◌≤◌, ◌++◌, false, refl, ap, sym, subst, arith, List, ℕ, length, slice_index}
 use Rattle.std.specs.Prelude.{slice_get}
 use Rattle.std.proofs.lemmas.Result.{err_from_is_err_and}
 use Rattle.std.proofs.lemmas.List.{take_all}
@@ -14,6 +14,7 @@ use Rattle.pk_join.specs.Walking.{CanHold, is_word, stored_at}
 use Rattle.pk_join.proofs.AheadLemmas.{hold_at, hold_set}
 use Rattle.pk_join.proofs.InputLemmas.{input_at, inputs_long}
 use Rattle.pk_join.proofs.JoinLemmas.{list_next, may_next}
+use Rattle.pk_join.proofs.KeyLemmas.{key_here}
 use Rattle.pk_join.proofs.WalkLemmas.{lists_at, words_at_is}
 use Rattle.pk_join.proofs.walking.join_all.Goals as goal
 
@@ -22,7 +23,7 @@ returns-in_err-join_head-clause-joined g c = λ honest stored hold spells are ca
     let content = g.D.Disk.content in
     let inv = c.loop-i.invariant in
     let i = c.loop-i.i in
-    let w = c.args.word.now in
+    let w = c.args.sought.word.now in
     let ls = c.args.lists.now in
     let lt : i < length c.args.inputs.now = omega (arith, c.loop-i-test.true, c.requires.inputs) in
     let lt' : i < length stored = omega (arith, lt, inputs_long (content c.args.disk.now) c.args.inputs.now stored spells) in
@@ -37,6 +38,9 @@ returns-in_err-join_head-clause-joined g c = λ honest stored hold spells are ca
     let found = err_from_is_err_and c.from_residual.result c.from_residual.ensures.1 in
     let cause : c.in_err-join_head.field-0.0 ≡ Disk = c.in_err-join_head.ensures.joined honest (stored_at stored i) ahead input listed none may in
     rw found.1 (found.2 ∙ cause)
+
+pub join_head-requires-clause-key : goal.join_head-requires-clause-key
+join_head-requires-clause-key g c = key_here c.args.lists.now c.args.heads.now c.args.keys.now c.loop-i.i _ _ c.index-lists-i.result c.loop-i-test.true c.index-lists-i.is refl refl c.requires.keys
 
 pub loop-i-preserved : goal.loop-i-preserved
 loop-i-preserved g c =
@@ -57,7 +61,7 @@ loop-i-preserved g c =
           hold_set (content c.join_head.new.disk) inputs c.loop-i.aheads i input c.join_head.new.ahead still lt c.index-inputs-i.is (c.join_head.ensures.holds honest ahead);
       joined = λ honest stored hold spells are can absent.
           let i = c.loop-i.i in
-          let w = c.args.word.now in
+          let w = c.args.sought.word.now in
           let ls = c.args.lists.now in
           let lt : i < length c.args.inputs.now = omega (arith, c.loop-i-test.true, c.requires.inputs) in
           let lt' : i < length stored = omega (arith, lt, inputs_long (content c.args.disk.now) c.args.inputs.now stored spells) in
@@ -77,4 +81,4 @@ loop-i-preserved g c =
 pub returns-clause-joined : goal.returns-clause-joined
 returns-clause-joined g c = λ honest stored hold spells are can absent.
     let all : length stored ≤ c.loop-i.i = omega (arith, c.loop-i-test.false, c.requires.inputs, inputs_long (g.D.Disk.content c.args.disk.now) c.args.inputs.now stored spells) in
-    c.loop-i.invariant.joined honest stored hold spells are can absent ∙ ap (λ (ss : List Stored). list_with c.args.word.now (live_in ss)) (take_all c.loop-i.i stored all)
+    c.loop-i.invariant.joined honest stored hold spells are can absent ∙ ap (λ (ss : List Stored). list_with c.args.sought.word.now (live_in ss)) (take_all c.loop-i.i stored all)

@@ -18,5 +18,5 @@ invariant-loop-i g l =
       room : l.joined.room ≡ l.fn.joined.room;
       hold : disk.honest → HoldInputs (disk.content l.fn.disk) l.inputs l.fn.aheads → HoldInputs (disk.content l.disk) l.inputs l.aheads;
       joined : disk.honest → (stored : List Stored) → HoldInputs (disk.content l.fn.disk) l.inputs l.fn.aheads → SpellsInputs (disk.content l.fn.disk) l.inputs stored → AreListed l.inputs l.lists stored → CanHold stored l.fn.joined.room
-          → IsAtHeads l.lists l.heads l.word stored → joined_in l.joined ≡ list_with l.word (live_in (take l.i stored));
+          → IsAtHeads l.lists l.heads l.sought.word.now stored → joined_in l.joined ≡ list_with l.sought.word.now (live_in (take l.i stored));
     }

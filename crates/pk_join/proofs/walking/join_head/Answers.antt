@@ -17,11 +17,11 @@ returns-then-not-is_head-clause-joined g c = λ honest s holds spells are absent
 
 pub join_word-requires-clause-word : goal.join_word-requires-clause-word
 join_word-requires-clause-word g c =
-    found_within _ c.args.head c.args.word.now (found_at c.args.lists.now c.args.head c.args.word.now (sym c.is_head.ensures ∙ c.if-not-is_head.false))
+    found_within _ c.args.head c.args.sought.word.now (found_at c.args.lists.now c.args.head c.args.sought.word.now (sym c.is_head.ensures ∙ c.if-not-is_head.false))
 
 pub returns-clause-joined : goal.returns-clause-joined
 returns-clause-joined g c = λ honest s holds spells are absent may.
-    let w = c.args.word.now in
+    let w = c.args.sought.word.now in
     let got = found_at c.args.lists.now c.args.head w (sym c.is_head.ensures ∙ c.if-not-is_head.false) in
     let docs = s.documents in
     let list = sym (list_left w c.args.input.now.dead.now docs) ∙ ap (λ (ns : List ℕ). list_with w (live_of (record { documents = docs; dead = ns }))) spells.dead in

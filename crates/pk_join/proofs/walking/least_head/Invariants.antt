@@ -5,4 +5,4 @@ use Rattle.pk_join.specs.Walking.{least_of}
 use Rattle.pk_join.proofs.walking.least_head.Given as goal
 
 abbrev pub invariant-loop-i : goal.invariant-loop-i
-invariant-loop-i l = option_map (λ w. w.now) l.least ≡ least_of l.lists l.heads l.i
+invariant-loop-i l = option_map (λ s. s.word.now) l.least ≡ least_of l.lists l.heads l.i

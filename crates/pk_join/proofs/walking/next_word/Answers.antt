@@ -26,7 +26,7 @@ pub returns-in_err-join_all-clause-passed : goal.returns-in_err-join_all-clause-
 returns-in_err-join_all-clause-passed g c = λ honest stored xs ys hold spells are can start.
     let inv = c.words.invariant in
     let ls = c.args.lists.now in
-    let w = c.in-Some.word.now in
+    let w = c.in-Some.sought.word.now in
     let walks = inv.walks honest stored xs ys hold spells are can start in
     let here = subst (λ (b : List ℕ). SpellsInputs b c.args.inputs.now stored) (sym (inv.keeps.read honest).bytes) spells in
     let least = some_least ls c.words.heads (length ls) w (sym c.in-Some.ensures) in
@@ -39,7 +39,7 @@ pub returns-then-not-is_empty-clause-passed : goal.returns-then-not-is_empty-cla
 returns-then-not-is_empty-clause-passed g c = λ honest stored xs ys hold spells are can start.
     let inv = c.words.invariant in
     let ls = c.args.lists.now in
-    let w = c.in-Some.word.now in
+    let w = c.in-Some.sought.word.now in
     let know = knows c.args.inputs.now ls stored are in
     let walks = inv.walks honest stored xs ys hold spells are can start in
     let here = subst (λ (b : List ℕ). SpellsInputs b c.args.inputs.now stored) (sym (inv.keeps.read honest).bytes) spells in
@@ -52,28 +52,28 @@ returns-then-not-is_empty-clause-passed g c = λ honest stored xs ys hold spells
       rest = first.0;
       first = first.1;
       numbers_are = list;
-      walks = walks_on ls c.words.heads c.pass_word.new.heads stored xs ys first.0 w know walks least first.1 c.pass_word.ensures;
+      walks = walks_on ls c.words.heads c.pass_word.new.heads stored xs ys first.0 w know walks least first.1 c.pass_word.ensures.passed;
     }
 
 pub returns-then-not-is_empty-clause-fewer : goal.returns-then-not-is_empty-clause-fewer
 returns-then-not-is_empty-clause-fewer g c =
     let ls = c.args.lists.now in
-    let w = c.in-Some.word.now in
+    let w = c.in-Some.sought.word.now in
     let least = some_least ls c.words.heads (length ls) w (sym c.in-Some.ensures) in
-    omega (arith, c.words.invariant.fewer, fewer ls c.words.heads c.pass_word.new.heads w (length ls) c.pass_word.ensures least (omega arith) least.at least.within least.there)
+    omega (arith, c.words.invariant.fewer, fewer ls c.words.heads c.pass_word.new.heads w (length ls) c.pass_word.ensures.passed least (omega arith) least.at least.within least.there)
 
 pub words-smaller : goal.words-smaller
 words-smaller g c =
     let ls = c.args.lists.now in
-    let w = c.in-Some.word.now in
+    let w = c.in-Some.sought.word.now in
     let least = some_least ls c.words.heads (length ls) w (sym c.in-Some.ensures) in
-    fewer ls c.words.heads c.pass_word.new.heads w (length ls) c.pass_word.ensures least (omega arith) least.at least.within least.there
+    fewer ls c.words.heads c.pass_word.new.heads w (length ls) c.pass_word.ensures.passed least (omega arith) least.at least.within least.there
 
 pub words-preserved : goal.words-preserved
 words-preserved g c =
     let inv = c.words.invariant in
     let ls = c.args.lists.now in
-    let w = c.in-Some.word.now in
+    let w = c.in-Some.sought.word.now in
     let least = some_least ls c.words.heads (length ls) w (sym c.in-Some.ensures) in
     record {
       keeps = keeps_disk_then _ _ _ _ inv.keeps c.join_all.ensures.keeps;
@@ -81,16 +81,18 @@ words-preserved g c =
       room = c.join_all.ensures.room ∙ inv.room;
       long = omega (arith, c.join_all.auto.room, inv.long);
       heads = omega (arith, c.pass_word.auto.heads, inv.heads);
+      keys_long = omega (arith, c.pass_word.auto.keys, inv.keys_long);
+      keys = c.pass_word.ensures.keys;
       aheads = omega (arith, c.join_all.auto.aheads, inv.aheads);
       hold = λ honest hold. c.in_ok-join_all.ensures.hold honest (inv.hold honest hold);
-      fewer = omega (arith, inv.fewer, fewer ls c.words.heads c.pass_word.new.heads w (length ls) c.pass_word.ensures least (omega arith) least.at least.within least.there);
+      fewer = omega (arith, inv.fewer, fewer ls c.words.heads c.pass_word.new.heads w (length ls) c.pass_word.ensures.passed least (omega arith) least.at least.within least.there);
       walks = λ honest stored xs ys hold spells are can start.
           let walks = inv.walks honest stored xs ys hold spells are can start in
           let here = subst (λ (b : List ℕ). SpellsInputs b c.args.inputs.now stored) (sym (inv.keeps.read honest).bytes) spells in
           let heads = at_heads ls c.words.heads stored xs ys w (knows c.args.inputs.now ls stored are) walks least in
           let list = c.in_ok-join_all.ensures.joined honest stored (inv.hold honest hold) here are (subst (CanHold stored) (sym inv.room) can) heads in
           let none = none_of (list_with w (live_in stored)) (ap (λ (l : List ℕ). length l == 0) (sym list ∙ sym c.numbers.ensures.numbers) ∙ sym c.is_empty.ensures ∙ c.if-not-is_empty.false) in
-          walks_over ls c.words.heads c.pass_word.new.heads stored xs ys w walks none c.pass_word.ensures;
+          walks_over ls c.words.heads c.pass_word.new.heads stored xs ys w walks none c.pass_word.ensures.passed;
     }
 
 pub returns-clause-passed : goal.returns-clause-passed

@@ -4,6 +4,7 @@ use Rattle.pk_disk.specs.Frames.{KeepsDisk}
 use Rattle.pk_join.specs.Ahead.{HoldInputs}
 use Rattle.pk_join.specs.Inputs.{SpellsInputs}
 use Rattle.pk_join.specs.Joining.{room_in}
+use Rattle.pk_join.specs.Keys.{AreKeys}
 use Rattle.pk_join.specs.Walking.{AreListed, CanHold, Walks, to_come}
 use Rattle.pk_state.specs.Committed.{Stored}
 use Rattle.pk_join.proofs.walking.next_word.Given as goal
@@ -20,6 +21,8 @@ invariant-words g l =
       room : room_in l.joined ≡ room_in l.fn.joined;
       long : length l.room ≡ length l.fn.room;
       heads : length l.heads ≡ length l.lists;
+      keys_long : length l.keys ≡ length l.lists;
+      keys : AreKeys l.lists l.heads l.keys;
       aheads : length l.aheads ≡ length l.lists;
       fewer : to_come l.lists l.heads (length l.lists) ≤ to_come l.lists l.fn.heads (length l.lists);
       hold : disk.honest → HoldInputs (disk.content l.fn.disk) l.inputs l.fn.aheads → HoldInputs (disk.content l.disk) l.inputs l.aheads;

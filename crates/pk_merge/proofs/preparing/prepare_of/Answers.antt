@@ -7,6 +7,8 @@ use Rattle.pk_model.specs.Terms.{terms_of}
 use Rattle.pk_segment.specs.Indexed.{dictionary, items_of}
 use Rattle.pk_segment.proofs.PlanLemmas.{dictionary_is, lists_all, size_sum}
 use Rattle.pk_state.specs.Committed.{live_in}
+use Rattle.pk_join.specs.declared.lists.InputLists.{InputLists}
+use Rattle.pk_join.specs.Walk.{IsWalkOf}
 use Rattle.pk_merge.specs.Keeping.{kept_directory}
 use Rattle.pk_merge.specs.Left.{kept_in}
 use Rattle.pk_merge.proofs.GatherLemmas.{front_of}
@@ -18,7 +20,7 @@ unfolding dictionary
 dictionary_long docs = refl
 
 pub invariant_of-result-clause-walk_of : goal.invariant_of-result-clause-walk_of
-invariant_of-result-clause-walk_of c = c.restart.ensures.walk c.args.lists.items c.requires.walk
+invariant_of-result-clause-walk_of c = subst (λ (ls : List InputLists). IsWalkOf ls c.restart.new.self) c.deref-2.ensures.value c.restart.ensures.walk
 
 pub invariant_of-result-clause-some : goal.invariant_of-result-clause-some
 invariant_of-result-clause-some c = omega (arith, c.in_ok-buffer.ensures.len, c.in_ok-buffer.buffer.ok)

@@ -43,14 +43,15 @@ returns-clause-goes g c = λ honest stored xs ys come.
     let spells = subst (λ (b : List ℕ). SpellsInputs b inputs stored) (sym (c.next_word.ensures.keeps.read honest).bytes) come.spells in
     let can = subst (CanHold stored) (sym c.next_word.ensures.room) come.can in
     let start = subst (λ (hs : List ℕ). Walks ls hs stored xs ys) (sym c.deref_mut.ensures.value) come.walks in
-    let held = subst (HoldInputs (g.D.Disk.content c.args.disk.now) inputs) (sym c.deref_mut-2.ensures.value) come.hold in
+    let held = subst (HoldInputs (g.D.Disk.content c.args.disk.now) inputs) (sym c.deref_mut-3.ensures.value) come.hold in
     let walk : Walk = record {
       heads = with_items old.heads c.next_word.new.heads;
+      keys = with_items old.keys c.next_word.new.keys;
       aheads = with_items old.aheads c.next_word.new.aheads;
       room = with_items old.room c.next_word.new.room;
       joined = c.next_word.new.joined;
     } in
     let heads : walk.heads.items ≡ c.next_word.new.heads = with_items_is old.heads _ (omega (arith, c.next_word.auto.heads, old.heads.ok, ap length c.deref_mut.ensures.value)) in
-    let aheads : walk.aheads.items ≡ c.next_word.new.aheads = with_items_is old.aheads _ (omega (arith, c.next_word.auto.aheads, old.aheads.ok, ap length c.deref_mut-2.ensures.value)) in
+    let aheads : walk.aheads.items ≡ c.next_word.new.aheads = with_items_is old.aheads _ (omega (arith, c.next_word.auto.aheads, old.aheads.ok, ap length c.deref_mut-3.ensures.value)) in
     had c.next_word.result _ _ _ _ (λ o hold passes. gone bytes inputs ls stored walk c.next_word.new.heads xs ys _ heads (subst (HoldInputs bytes inputs) (sym aheads) hold) spells come.listed can passes)
     (c.next_word.ensures.hold honest held) (c.next_word.ensures.passed honest stored xs ys held come.spells come.listed come.can start)

@@ -63,5 +63,5 @@ returns-then-contains-clause-between c = λ start end out before. before
 
 pub returns-clause-between : goal.returns-clause-between
 returns-clause-between c =
-    let k : Kept = record { number = c.number-number.result; at = c.saturating_add-at.result; len = c.text_place-offset.result.1 } in
+    let k : Kept = record { at = c.saturating_add-at.result; len = c.text_place-offset.result.1; number = c.number-number.result } in
     keeps_between (kept_in c.args.self.now) c.args.self.now.bytes c.args.texts c.args.end k c.keep.new.self c.keep.result (omega (arith, c.saturating_add-at.ensures, c.ranges.texts.fits)) (omega (arith, c.if-at-end.false, c.from-else-at-end.ensures, c.if-from-end.false)) c.keep.ensures.kept

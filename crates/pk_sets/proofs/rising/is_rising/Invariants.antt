@@ -1,6 +1,6 @@
 -- The numbers so far rise.
 use Rattle.std.proofs.Common.{◌+◌, ◌<◌, ℕ, slice_index}
-use Rattle.pk_search.proofs.lists.is_rising.Given as goal
+use Rattle.pk_sets.proofs.rising.is_rising.Given as goal
 
 abbrev pub invariant-loop-i : goal.invariant-loop-i
 invariant-loop-i l = (k : ℕ) → k + 1 < l.i → slice_index l.numbers k < slice_index l.numbers (k + 1)
