@@ -8,6 +8,7 @@ ghost use Rattle.std.specs.Prelude.{
   ℕ,
   List,
   length,
+  take,
   IfErr,
   IsOk,
   MatchResult,
@@ -23,6 +24,39 @@ use crate::joined::Joined;
 use pk_dead::Dead;
 use pk_posting::{ByteSource, ListPlace, Shape, SourceFault, block_in, tail_in};
 use pk_sets::{is_rising, without};
+
+// So many deleted numbers for each number of a list are gone through; of more the halving of the
+// deletion list for each number is quicker.
+const GONE_THROUGH: usize = 64;
+
+// Writes the numbers that a deletion list leaves, and answers how many they are. Each is looked up.
+fn look_up_each(numbers: &[u32], dead: &Dead, left: &mut [u32]) -> usize
+    requires { length numbers.now ≤ length left.old }
+    ensures within { result ≤ length left.new }
+    ensures found { take result left.new ≡ numbers_left dead.now numbers.now }
+{
+    let mut count = 0;
+    for n in numbers {
+        if !dead.contains(*n) {
+            left[count] = *n;
+            count += 1;
+        }
+    }
+    count
+}
+
+// The same of numbers that rise, in the quicker way.
+fn left_of(numbers: &[u32], dead: &Dead, left: &mut [u32]) -> usize
+    requires rising { IsStrictlyIncreasing numbers.now }
+    requires room { length numbers.now ≤ length left.old }
+    ensures within { result ≤ length left.new }
+    ensures found { take result left.new ≡ numbers_left dead.now numbers.now }
+{
+    if dead.len() / GONE_THROUGH > numbers.len() {
+        return look_up_each(numbers, dead, left);
+    }
+    without(numbers, dead.numbers(), left)
+}
 
 /// Puts the numbers that a deletion list leaves behind those that are joined, 128 at once. It takes
 /// no memory, and `Damaged` is that there is no room, or that the numbers don't rise.
@@ -43,7 +77,7 @@ pub(crate) fn join_numbers(
         if !is_rising(chunk) {
             return Err(SourceFault::Damaged);
         }
-        let count = without(chunk, dead.numbers(), &mut left);
+        let count = left_of(chunk, dead, &mut left);
         if !joined.put_all(&left[..count]) {
             return Err(SourceFault::Damaged);
         }

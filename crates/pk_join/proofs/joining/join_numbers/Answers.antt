@@ -1,30 +1,25 @@
 -- What is left of a chunk rises, and may follow where what is left of all may.
-use Rattle.std.proofs.Common.{rules, ◌≡◌, ◌∙◌, ◌++◌, ℕ, List, not, subst, sym, ap, append_assoc}
+use Rattle.std.proofs.Common.{◌∙◌, ◌++◌, ℕ, List, not, subst, sym, ap, append_assoc}
 use Rattle.std.proofs.lemmas.List.Kept.{IsStrictlyIncreasing-filter}
 use Rattle.std.specs.List.Sorted.{IsStrictlyIncreasing}
 use Rattle.std.specs.Slice.Iter.{chunks_rest}
-use Rattle.pk_sets.specs.Sets.{difference, has}
-use Rattle.pk_state.proofs.DeadLemmas.{left_without}
+use Rattle.pk_state.specs.Committed.{lists}
 use Rattle.pk_join.specs.Joining.{MayJoin, joined_in, numbers_left}
 use Rattle.pk_join.proofs.JoinLemmas.{left_append, may_front}
 use Rattle.pk_join.proofs.PostingLemmas.{rising_back}
 use Rattle.pk_join.proofs.joining.join_numbers.Goals as goal
 
--- what is put is what is left of the chunk
-is_left : (dead own ns put : List ℕ) → put ≡ difference ns own → own ≡ dead → put ≡ numbers_left dead ns
-is_left dead own ns put is same = is ∙ ap (difference ns) same ∙ sym (left_without dead ns)
-
-still_rises : (own ns put : List ℕ) → put ≡ difference ns own → IsStrictlyIncreasing ns → IsStrictlyIncreasing put
-still_rises own ns put is rises = subst IsStrictlyIncreasing (sym is) (IsStrictlyIncreasing-filter (λ n. not (has own n)) ns rises)
-
 pub put_all-requires : goal.put_all-requires
-put_all-requires c = still_rises _ c.in-Some.chunk.now _ c.without-count.ensures.found (c.is_rising.ensures.0 c.if-not-is_rising.false)
+put_all-requires c =
+    let dead = c.args.dead.now in
+    let ns = c.in-Some.chunk.now in
+    subst IsStrictlyIncreasing (sym c.left_of-count.ensures.found) (IsStrictlyIncreasing-filter (λ n. not (lists n dead)) ns (c.is_rising.ensures.0 c.if-not-is_rising.false))
 
 pub returns-then-not-put_all-clause-may : goal.returns-then-not-put_all-clause-may
 returns-then-not-put_all-clause-may c = λ rises may.
     let dead = c.args.dead.now in
     let ns = c.in-Some.chunk.now in
-    let left = is_left dead _ ns _ c.without-count.ensures.found (search rules) in
+    let left = c.left_of-count.ensures.found in
     let inv = c.loop-chunk.invariant in
     sym c.if-not-put_all.true ∙ c.put_all.ensures.may (subst (MayJoin c.loop-chunk.joined) (sym left)
     (may_front c.args.joined.now c.loop-chunk.joined dead (chunks_rest c.loop-chunk.chunk-iterator) ns (chunks_rest c.next.new.self) c.args.numbers.now c.in-Some.ensures.steps.1.0 inv.joined inv.room may))
@@ -35,7 +30,7 @@ loop-chunk-preserved c =
     let ns = c.in-Some.chunk.now in
     let before = c.loop-chunk.joined in
     let rest = chunks_rest c.next.new.self in
-    let left = is_left dead _ ns _ c.without-count.ensures.found (search rules) in
+    let left = c.left_of-count.ensures.found in
     let steps = c.in-Some.ensures.steps in
     let inv = c.loop-chunk.invariant in
     record {
