@@ -15,6 +15,7 @@ pub mod Order
 pub mod Parts
 pub mod Pieces
 pub mod Prefixes
+pub mod Probing
 pub mod Rising
 pub mod Room
 pub mod Same

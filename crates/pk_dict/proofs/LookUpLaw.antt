@@ -1,22 +1,17 @@
 -- What a look-up answers where the bytes spell a dictionary.
-use Rattle.std.proofs.Common.{arith, refl, sym, ap, subst, ◌∙◌, ◌≡◌, ◌≤◌, ◌<◌, ◌+◌, ◌-◌, ◌*◌, ℕ, zero, suc, List, length, Ok, Option, Result, min, inl, inr}
-use Rattle.std.specs.Prelude.{MatchResult}
-use Rattle.std.proofs.lemmas.Bool.{cases_eq, cases_lt, eq-eqb, ne_eqb, le-ltb}
+use Rattle.std.proofs.Common.{arith, refl, sym, ap, subst, ◌∙◌, ◌≡◌, ◌≤◌, ◌<◌, ◌+◌, ◌-◌, ◌*◌, ℕ, zero, suc, List, length, Ok, Result, min, inl, inr}
+use Rattle.std.proofs.lemmas.Bool.{cases_eq, cases_lt, eq-eqb, ne_eqb}
 use Rattle.pk_posting.specs.declared.source.SourceFault.{SourceFault}
-use Rattle.pk_posting.specs.declared.source.SourceFault.TheVariants as faults
-use Rattle.pk_dict.specs.declared.entry.DictPlace.{DictPlace}
-use Rattle.pk_dict.specs.declared.entry.Entry.{Entry}
 use Rattle.pk_dict.specs.declared.head.Standing.{Standing}
 use Rattle.pk_dict.specs.declared.head.Standing.TheVariants.{First, After}
 use Rattle.pk_dict.specs.declared.head.Step.{Step}
 use Rattle.pk_dict.specs.declared.head.Step.TheVariants.{Less, Found, Past}
 use Rattle.pk_dict.specs.Dictionary.{Item, DictSpells, entry_of, group_count}
-use Rattle.pk_dict.specs.LookUp.{narrow_at, standing_at, scanned, look_up_at, look_up_of}
-use Rattle.pk_dict.specs.Place.{bytes_at}
-use Rattle.pk_dict.specs.Reading.{Gives, group_at}
+use Rattle.pk_dict.specs.LookUp.{narrow_at, standing_at, scanned, look_up_at}
+use Rattle.pk_dict.specs.Reading.{group_at}
 use Rattle.pk_dict.specs.Search.{Known, IsStanding}
 use Rattle.pk_dict.proofs.Bounds.{group_law}
-use Rattle.pk_dict.proofs.Ends.{known_first, known_less, known_past, some_item, found_law, none_below, end_law, scan_gives}
+use Rattle.pk_dict.proofs.Ends.{known_first, known_less, known_past, some_item, found_law, none_below, end_law}
 use Rattle.pk_dict.proofs.Narrowing.{middle_of, narrow_by, narrow_done}
 use Rattle.pk_dict.proofs.Terms.{told}
 
@@ -27,7 +22,7 @@ pub record Stood (bytes : List ℕ) (es : List Item) (term : List ℕ) (read : R
   pub stands : IsStanding bytes es term standing
 
 -- a search among the groups from low to high that is known to end well
-abbrev Ends : ℕ → List ℕ → List Item → List ℕ → Type 0
+abbrev pub Ends : ℕ → List ℕ → List Item → List ℕ → Type 0
 Ends n bytes es term =
     (low high matched next : ℕ) → Known bytes es term low high matched next → low ≤ high → high ≤ group_count (length es) → high - low ≤ n → Stood bytes es term (narrow_at n bytes (4 * group_count (length es)) term low high matched next)
 
@@ -51,7 +46,7 @@ stood_on n bytes es term low high matched next Past d ends k lt most few step =
     let r = ends low m matched next (known_past bytes es term low high matched next m d k (omega arith) step) (omega arith) (omega arith) (omega arith) in
     record { standing = r.standing; is = narrow_by n bytes _ term low high matched next (Ok Past) lt step ∙ r.is; stands = r.stands }
 
-narrow_law : (n : ℕ) (bytes : List ℕ) (es : List Item) (term : List ℕ) → DictSpells bytes es → Ends n bytes es term
+pub narrow_law : (n : ℕ) (bytes : List ℕ) (es : List Item) (term : List ℕ) → DictSpells bytes es → Ends n bytes es term
 narrow_law zero bytes es term d low high matched next k order most few = stood_done zero bytes es term low high matched next k order most (omega arith)
 narrow_law (suc n) bytes es term d low high matched next k order most few =
     elim (cases_lt low high) [
@@ -70,7 +65,7 @@ standing_law bytes es term d =
     let n : ℕ = group_count (length es) in
     narrow_law n bytes es term d 0 n 0 0 (known_first bytes es term n 0 0 refl) (omega arith) (omega arith) (omega arith)
 
-scanned_law : (bytes : List ℕ) (es : List Item) (term : List ℕ) (s : Standing) → DictSpells bytes es → IsStanding bytes es term s → scanned bytes (length es) term s ≡ Ok (entry_of es term)
+pub scanned_law : (bytes : List ℕ) (es : List Item) (term : List ℕ) (s : Standing) → DictSpells bytes es → IsStanding bytes es term s → scanned bytes (length es) term s ≡ Ok (entry_of es term)
 scanned_law bytes es term (First group entry) d st = ap Ok (sym (found_law bytes es term group entry d st.0 st.1))
 scanned_law bytes es term (After groups matched next) d st =
     elim (cases_eq groups 0) [
@@ -84,10 +79,3 @@ unfolding look_up_at
 look_up_law bytes es terms term d len =
     let s = standing_law bytes es term d in
     ap (λ (n : ℕ). look_up_at bytes n term) (sym len) ∙ (rw s.is (scanned_law bytes es term s.standing d s.stands))
-
--- where it lies in a source that does not fail
-pub look_up_gives : (content : List ℕ) (es : List Item) (place : DictPlace) (term : List ℕ) (r : Result (Option Entry) SourceFault) → Gives r (look_up_of content place term)
-    → place.at + place.bytes ≤ length content → DictSpells (bytes_at content place) es → length es ≡ place.terms → MatchResult r (λ x. x ≡ entry_of es term) (λ e. e ≡ faults.Disk)
-unfolding look_up_of
-look_up_gives content es place term r gives lies d len =
-    scan_gives r _ (entry_of es term) (rw (le-ltb (length content) (place.at + place.bytes) lies) (look_up_law (bytes_at content place) es place.terms term d len)) gives

@@ -1,5 +1,5 @@
 -- The steps of a search among the groups, for any bytes.
-use Rattle.std.proofs.Common.{arith, refl, sym, ap, ◌∙◌, ◌≡◌, ◌≤◌, ◌<◌, ◌+◌, ◌-◌, ◌*◌, ◌/◌, ℕ, zero, suc, List, Ok, Err, Result}
+use Rattle.std.proofs.Common.{arith, refl, sym, ap, ◌∙◌, ◌≡◌, ◌≤◌, ◌<◌, ◌+◌, ◌-◌, ◌/◌, ℕ, zero, suc, List, Ok, Err, Result}
 use Rattle.std.proofs.lemmas.Bool.{lt-ltb, le-ltb}
 use Rattle.pk_posting.specs.declared.source.SourceFault.{SourceFault}
 use Rattle.pk_posting.specs.declared.source.SourceFault.TheVariants as faults
@@ -8,8 +8,7 @@ use Rattle.pk_dict.specs.declared.head.Standing.{Standing}
 use Rattle.pk_dict.specs.declared.head.Standing.TheVariants.{First, After}
 use Rattle.pk_dict.specs.declared.head.Step.{Step}
 use Rattle.pk_dict.specs.declared.head.Step.TheVariants.{Less, Found, Past}
-use Rattle.pk_dict.specs.Dictionary.{group_count}
-use Rattle.pk_dict.specs.LookUp.{halved, narrow_at, standing_at}
+use Rattle.pk_dict.specs.LookUp.{halved, narrow_at}
 use Rattle.pk_dict.specs.Reading.{◌>>=◌, Fails, group_at}
 
 -- the group in the middle
@@ -75,6 +74,6 @@ narrowing_fails bytes base term low high matched next faults.Disk all n lt e = t
 pub narrowing_done : (bytes : List ℕ) (base : ℕ) (term : List ℕ) (low high matched next : ℕ) (all : Result Standing SourceFault) → Narrowing bytes base term low high matched next all → high ≤ low → all ≡ Ok (After low matched next)
 narrowing_done bytes base term low high matched next all n h = sym n.same ∙ narrow_done n.left bytes base term low high matched next h
 
--- the search among all groups
-pub narrowing_init : (bytes : List ℕ) (groups terms : ℕ) (term : List ℕ) → groups ≡ group_count terms → Narrowing bytes (4 * groups) term 0 groups 0 0 (standing_at bytes terms term)
-narrowing_init bytes groups terms term e = record { left = groups; enough = omega arith; same = ap (λ (k : ℕ). narrow_at k bytes (4 * k) term 0 k 0 0) e }
+-- the search among groups of which so much is known
+pub narrowing_init : (bytes : List ℕ) (base first : ℕ) (term : List ℕ) (low high matched next : ℕ) → base ≡ first → Narrowing bytes base term low high matched next (narrow_at (high - low) bytes first term low high matched next)
+narrowing_init bytes base first term low high matched next e = record { left = high - low; enough = omega arith; same = ap (λ (b : ℕ). narrow_at (high - low) bytes b term low high matched next) e }

@@ -18,6 +18,9 @@ use Rattle.std.specs.Prelude.{
   Ok,
 }
 use Rattle.std.specs.Str.{bytes_eq}
+use Rattle.pk_dict.specs.declared.head.Between.{Between}
+use Rattle.pk_dict.specs.declared.head.Search.{Search}
+use Rattle.pk_dict.specs.declared.head.Search.TheVariants.{Open, Done}
 use Rattle.pk_dict.specs.declared.head.Standing.{Standing}
 use Rattle.pk_dict.specs.declared.head.Standing.TheVariants.{First, After}
 use Rattle.pk_dict.specs.declared.head.Step.TheVariants.{Found}
@@ -60,3 +63,19 @@ IsStanding bytes es term (After groups matched next) =
 abbrev pub IsAmong : ℕ → ℕ → Standing → Type 0
 IsAmong groups size (First group entry) = group < groups
 IsAmong groups size (After count matched next) = (count ≤ groups) × (matched ≤ size)
+
+-- a search goes on between some of so many groups, and no more is matched than the term has
+pub record IsAmid (groups size : ℕ) (b : Between) : Type 0 where
+  pub order : b.low ≤ b.high
+  pub most : b.high ≤ groups
+  pub within : b.matched ≤ size
+
+-- a search is at its end, or goes on, among so many groups
+abbrev pub Goes : ℕ → ℕ → Search → Type 0
+Goes groups size (Open between) = IsAmid groups size between
+Goes groups size (Done standing) = IsAmong groups size standing
+
+-- what a search has found out is true of a dictionary
+abbrev pub IsKnown : List ℕ → List Item → List ℕ → Search → Type 0
+IsKnown bytes es term (Open b) = Known bytes es term b.low b.high b.matched b.next
+IsKnown bytes es term (Done standing) = IsStanding bytes es term standing

@@ -35,3 +35,26 @@ pub(crate) enum Standing {
     /// with it, and the place after that term.
     After(u32, usize, u32),
 }
+
+/// What is known of the groups while a term is sought among their first terms.
+#[derive(Drop)]
+pub(crate) struct Between {
+    /// So many groups begin with a lesser term.
+    pub(crate) low: u32,
+    /// The groups from here on begin with a greater term.
+    pub(crate) high: u32,
+    /// How many bytes the term shares with the first term of the last group that begins with a
+    /// lesser one.
+    pub(crate) matched: usize,
+    /// The place after that first term.
+    pub(crate) next: u32,
+}
+
+/// A search among the groups.
+#[derive(Drop)]
+pub(crate) enum Search {
+    /// It goes on between these.
+    Open(Between),
+    /// It is at its end.
+    Done(Standing),
+}

@@ -60,6 +60,6 @@ pub mod writer;
 pub use dict::Dict;
 pub use entries::entries_in;
 pub use entry::{DictFault, DictPlace, EntriesFault, Entry};
-pub use look_up::look_up_in;
+pub use look_up::{look_up_in, look_up_near};
 pub use windows::Windows;
 pub use writer::DictWriter;

@@ -24,6 +24,7 @@ ghost use Rattle.pk_dict.specs.Reading.{
 use crate::compare::shared_front;
 use crate::entry::Entry;
 use crate::head::{Head, Step};
+use pk_keys::key;
 use pk_posting::ListPlace;
 use pk_vbyte::take;
 
@@ -44,6 +45,16 @@ fn number_in(piece: &[u8], start: u32, at: u32) -> Option<(u32, u32)>
         Ok((n, taken)) => Some((n, at + taken as u32)),
         Err(_) => None,
     }
+}
+
+/// The key of a rest that stands at the front of a piece with its length before it, as far as the
+/// piece has it; 0 where there is none.
+pub(crate) fn key_in(piece: &[u8]) -> u64 {
+    let Ok((size, taken)) = take(piece) else {
+        return 0;
+    };
+    let rest = &piece[taken..];
+    key(&rest[..rest.len().min(size as usize)])
 }
 
 // Where the parts of the term at a place lie, where the piece has all of them.

@@ -21,7 +21,7 @@ use crate::compare::shared_with;
 use crate::entry::{DictPlace, Entry};
 use crate::fields::{byte, entry, number, offset};
 use crate::head::{Head, Step};
-use crate::near::step_in;
+use crate::near::{key_in, step_in};
 use pk_posting::{ByteSource, SourceFault};
 use pk_vbyte::take;
 
@@ -167,7 +167,8 @@ fn far_step<S: ByteSource>(
 // What the term at a place is to the wanted one: it keeps bytes of the term before, which is less
 // and shares `matched` bytes with the wanted one.
 //
-// A short piece mostly has all of the term; only where it has not, more is asked for.
+// A short piece mostly has all of the term; only where it has not, more is asked for. The key of
+// what the piece has of the rest goes to `seen`.
 #[tactic(auto, unfolding(crate::specs::Reading::step_at))]
 pub(crate) fn step<S: ByteSource>(
     source: &mut S,
@@ -176,6 +177,7 @@ pub(crate) fn step<S: ByteSource>(
     kept: usize,
     matched: usize,
     at: u32,
+    seen: &mut u64,
 ) -> Result<Step, SourceFault>
     requires lies { LiesIn place (length (S.content source.old)) }
     requires within { matched ≤ length term.now }
@@ -189,6 +191,7 @@ pub(crate) fn step<S: ByteSource>(
         return Err(SourceFault::Damaged);
     }
     let piece = source.bytes(place.at + at, (place.bytes - at).min(NEAR))?;
+    *seen = key_in(piece);
     if let Some(step) = step_in(piece, at, at, term, kept, matched) {
         return Ok(step);
     }
@@ -226,7 +229,7 @@ fn next_step<S: ByteSource>(
     if let Some(step) = step_in(piece, at, start, term, kept as usize, matched) {
         return Ok(step);
     }
-    step(source, place, term, kept as usize, matched, start)
+    step(source, place, term, kept as usize, matched, start, &mut 0)
 }
 
 // The wanted term among the next terms of a group.
@@ -261,7 +264,8 @@ pub(crate) fn scan<S: ByteSource>(
     Ok(None)
 }
 
-// What the first term of a group is to the wanted one: the groups begin at `base`.
+// What the first term of a group is to the wanted one: the groups begin at `base`. The key of the
+// first term goes to `seen`, as `step` says.
 #[tactic(auto, unfolding(crate::specs::Reading::group_at))]
 pub(crate) fn group_step<S: ByteSource>(
     source: &mut S,
@@ -269,6 +273,7 @@ pub(crate) fn group_step<S: ByteSource>(
     base: u32,
     group: u32,
     term: &[u8],
+    seen: &mut u64,
 ) -> Result<Step, SourceFault>
     requires lies { LiesIn place (length (S.content source.old)) }
     requires few { group < 2 ^ 28 }
@@ -280,7 +285,7 @@ pub(crate) fn group_step<S: ByteSource>(
 {
     let offset = offset(source, place, 4 * group)?;
     match base.checked_add(offset) {
-        Some(start) => step(source, place, term, 0, 0, start),
+        Some(start) => step(source, place, term, 0, 0, start, seen),
         None => Err(SourceFault::Damaged),
     }
 }

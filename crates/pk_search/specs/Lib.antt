@@ -4,3 +4,4 @@ pub mod Finding
 pub mod Matching
 pub mod Opened
 pub mod Opening
+pub mod Pivots

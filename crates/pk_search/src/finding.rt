@@ -21,6 +21,7 @@ ghost use Rattle.pk_state.specs.Kept.{LieInside};
 
 use crate::listed::{WordEntry, WordLists, frequencies_of, look_up, words_in};
 use crate::opened::OpenSegment;
+use crate::pivots::PivotTables;
 use crate::planned::find_planned;
 use pk_buffer::is_hit;
 use pk_cache::BlockCache;
@@ -83,6 +84,7 @@ fn find_from<S: ByteSource>(
 fn look_up_in<'a, D: Disk>(
     alloc: Global,
     disk: &mut D,
+    pivots: &mut PivotTables,
     entry: &Part,
     opened: &OpenSegment,
     words: &[&'a str],
@@ -100,13 +102,20 @@ fn look_up_in<'a, D: Disk>(
         return Ok(Vec::new(alloc));
     }
     let mut source = ExtentSource::on(disk, entry.extent);
-    look_up(alloc, &mut source, &opened.segment, words)
+    let _ = pivots.prepare(alloc, entry);
+    if let Some(tables) = &mut pivots.tables {
+        if let Some(table) = tables.get_mut(&entry.segment) {
+            return look_up(alloc, &mut source, &opened.segment, table, words);
+        }
+    }
+    look_up(alloc, &mut source, &opened.segment, &mut [], words)
 }
 
 // What the dictionaries of all segments of kind 2 say of each word.
 fn look_up_all<'a, D: Disk>(
     alloc: Global,
     disk: &mut D,
+    pivots: &mut PivotTables,
     entries: &[Part],
     opened: &[OpenSegment],
     words: &[&'a str],
@@ -124,7 +133,7 @@ fn look_up_all<'a, D: Disk>(
 {
     let mut kept = Vec::new(alloc);
     for i in 0..entries.len().min(opened.len()) {
-        let words = look_up_in(alloc, disk, &entries[i], &opened[i], words)?;
+        let words = look_up_in(alloc, disk, pivots, &entries[i], &opened[i], words)?;
         let Ok(()) = kept.push(words) else {
             return Err(ReadFault::Memory);
         };
@@ -238,12 +247,16 @@ fn find_all<D: Disk>(
 /// Where there is a cache, the blocks of a list that is taken out whole go through it. Let it agree
 /// with the entries and their open segments, then it does so afterwards; a new one does.
 ///
+/// Words are looked up by the pivots of the segments' dictionaries, as far as there are tables of
+/// them; whatever these have, the answer is the same.
+///
 /// Answers `Damaged` where a segment is none, `Disk` where a read failed, or `Memory`; then some of
 /// the numbers may stand there.
 pub fn find_stored<D: Disk>(
     alloc: Global,
     disk: &mut D,
     cache: &mut Option<BlockCache>,
+    pivots: &mut PivotTables,
     entries: &[Part],
     opened: &[OpenSegment],
     query: &Query,
@@ -265,7 +278,7 @@ pub fn find_stored<D: Disk>(
     ensures reads { CountsReads (D.failed_reads disk.old) (D.failed_reads disk.new) result }
 {
     let words = words_in(alloc, query)?;
-    let kept = look_up_all(alloc, disk, entries, opened, &words)?;
+    let kept = look_up_all(alloc, disk, pivots, entries, opened, &words)?;
     let frequencies = frequencies_of(alloc, &words, &kept)?;
     let plan = plan(alloc, query, &frequencies)?;
     let planned = Planned { query, plan };

@@ -33,6 +33,9 @@
 //! name, can keep it from find to find: where it agrees with the entries and their open segments
 //! (`CacheAgrees` in specs/), it does so afterwards, and a new one always does.
 //!
+//! The caller also keeps tables of the pivots of the dictionaries (`pivots`), by which a look-up
+//! spares its first reads. Nothing that is in them is believed, and no contract speaks of it.
+//!
 //! A search is refused as damaged where a segment is none, as disk where a read failed, or as
 //! memory. It writes nothing.
 #![tactic(auto)]
@@ -44,10 +47,12 @@ mod listed;
 mod lists;
 mod opened;
 mod opening;
+mod pivots;
 mod planned;
 mod showing;
 
 pub use finding::find_stored;
 pub use opened::OpenSegment;
 pub use opening::open_segments;
+pub use pivots::PivotTables;
 pub use showing::{count_stored, place_stored, text_stored};

@@ -57,11 +57,13 @@ pub(crate) fn words_in<'a>(alloc: Global, query: &'a Query) -> Result<Vec<&'a st
     Ok(words)
 }
 
-/// The entry of each word in the dictionary of a segment of kind 2, in the words' order.
+/// The entry of each word in the dictionary of a segment of kind 2, in the words' order, by a table
+/// of the dictionary's pivots.
 pub(crate) fn look_up<'a, S: ByteSource>(
     alloc: Global,
     source: &mut S,
     segment: &Segment,
+    pivots: &mut [u64],
     words: &[&'a str],
 ) -> Result<Vec<WordEntry<'a>>, ReadFault>
     ensures entries { S.honest → (docs : List Doc) → IndexSpells (S.content source.old) docs
@@ -72,7 +74,7 @@ pub(crate) fn look_up<'a, S: ByteSource>(
 {
     let mut entries: Vec<WordEntry<'a>> = Vec::new(alloc);
     for word in words {
-        let entry = segment.list_of(alloc, source, word.as_bytes())?;
+        let entry = segment.list_near(source, pivots, word.as_bytes())?;
         let Ok(()) = entries.push(WordEntry { word, entry }) else {
             return Err(ReadFault::Memory);
         };

@@ -52,14 +52,7 @@ impl Header {
                 + u64::from(self.postings)
                 + u64::from(self.dictionary)
                 == u64::from(bytes)
-            && (kind != 1 || self.is_plain())
-    }
-
-    // Whether there is nothing behind the texts.
-    fn is_plain(self) -> bool
-        ensures { result ≡ is_plain self }
-    {
-        self.postings == 0 && self.dictionary == 0 && self.terms == 0
+            && (kind != 1 || self.postings == 0 && self.dictionary == 0 && self.terms == 0)
     }
 }
 

@@ -12,7 +12,7 @@ ghost use Rattle.pk_segment.specs.Spelling.{IndexSpells};
 use crate::fault::ReadFault;
 use crate::header::header_of;
 use crate::segment::Segment;
-use pk_dict::{DictPlace, Entry, Windows, entries_in, look_up_in};
+use pk_dict::{DictPlace, Entry, Windows, entries_in, look_up_near};
 use pk_posting::{ByteSource, SourceFault};
 use std::alloc::Global;
 
@@ -57,9 +57,30 @@ impl Segment {
         ensures keeps { S.keeps source.old source.new }
         ensures faults { CountsReads (S.failures source.old) (S.failures source.new) result }
     {
+        self.list_near(source, &mut [], word)
+    }
+
+    /// The same, by a table of pivots for the dictionary: `look_up_near` of pk_dict says what is
+    /// read for it, and what is put in. A table that was kept for another dictionary costs reads,
+    /// and changes no answer.
+    pub fn list_near<S: ByteSource>(
+        &self,
+        source: &mut S,
+        pivots: &mut [u64],
+        word: &[u8],
+    ) -> Result<Option<Entry>, ReadFault>
+        ensures listed { S.honest → (docs : List Doc) → IndexSpells (S.content source.old) docs
+            → IsSegmentOf self.now docs → ListedAs docs word.now result }
+        ensures content { S.honest → S.content source.new ≡ S.content source.old }
+        ensures size { length (S.content source.new) ≡ length (S.content source.old) }
+        ensures asked { S.asked source.new
+            ≤ S.asked source.old + 1 + 44 * (6 + stretches_of (length word.now)) }
+        ensures keeps { S.keeps source.old source.new }
+        ensures faults { CountsReads (S.failures source.old) (S.failures source.new) result }
+    {
         let place = dictionary_of(self, source)?;
         let mut windows = Windows::on(source, place);
-        let entry = look_up_in(&mut windows, place, word)?;
+        let entry = look_up_near(&mut windows, place, pivots, word)?;
         Ok(entry)
     }
 

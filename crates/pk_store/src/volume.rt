@@ -36,7 +36,7 @@ use pk_model::limits::{END_OF_IDS, MAX_SEGMENTS};
 use pk_model::{DocNo, Document, Query, Refusal};
 use pk_posting::SourceFault;
 use pk_replace::{Pieces, StreamFault, WritesExtent, replace_with};
-use pk_search::{OpenSegment, count_stored, find_stored, place_stored, text_stored};
+use pk_search::{OpenSegment, PivotTables, count_stored, find_stored, place_stored, text_stored};
 use pk_segment::ReadFault;
 use std::alloc::Global;
 use std::marker::Model;
@@ -63,6 +63,8 @@ pub(crate) struct Volume<D: Disk> {
     reopen: bool,
     /// Blocks of posting lists that finds decoded, where some are to be kept. No caller sees them.
     cache: Option<BlockCache>,
+    /// Keys of the words that look-ups came by. No caller sees them.
+    pivots: PivotTables,
 }
 
 impl<D: Disk> Model for Volume<D> {
@@ -115,6 +117,7 @@ impl<D: Disk> Volume<D> {
             spare,
             reopen: false,
             cache,
+            pivots: PivotTables::new(),
         }
     }
 
@@ -153,6 +156,7 @@ impl<D: Disk> Volume<D> {
             alloc,
             &mut self.disk,
             &mut self.cache,
+            &mut self.pivots,
             &self.manifest.entries,
             &self.opened,
             query,

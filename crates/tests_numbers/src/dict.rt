@@ -4,6 +4,7 @@
 use crate::failing::Failing;
 use pk_dict::{
     Dict, DictFault, DictPlace, DictWriter, EntriesFault, Entry, Windows, entries_in, look_up_in,
+    look_up_near,
 };
 use pk_posting::{ByteSource, ListPlace, SliceSource, SourceFault};
 use std::alloc::Global;
@@ -118,7 +119,7 @@ fn whole(bytes: &[u8], terms: u32) -> DictPlace {
 }
 
 // That each way of reading gives the same for a term: the slice, a source where the dictionary
-// lies in the midst, and windows over it.
+// lies in the midst, windows over it, and by a table of pivots, whatever it has.
 fn looks_up(
     rt: &impl Abort,
     bytes: &[u8],
@@ -141,6 +142,20 @@ fn looks_up(
     assert_eq!(rt; look_up_in(&mut windows, place, term), Ok(wanted));
     assert_eq!(rt; windows.asked(), asked);
     assert!(rt; below.asked() <= asked);
+    let mut pivots = [0; 16];
+    for _ in 0..3 {
+        assert_eq!(rt;
+            look_up_near(&mut source, place, &mut pivots, term),
+            Ok(wanted)
+        );
+    }
+    for wrong in [1, 0x6161_6162_0000_0000, u64::MAX] {
+        let mut pivots = [wrong; 16];
+        assert_eq!(rt;
+            look_up_near(&mut source, place, &mut pivots, term),
+            Ok(wanted)
+        );
+    }
     Ok(())
 }
 
@@ -344,6 +359,34 @@ fn each_window_keeps_its_bytes(rt: HostRuntime) -> Result<(), Fail> {
     Ok(())
 }
 
+// Of 4,096 words each group begins with one that another look-up came by, once each word was looked
+// up: then the two groups that a word stands between are asked for, by their offsets and their first
+// terms, and the terms of the first of them up to the word.
+#[test]
+fn pivots_spare_asks(rt: HostRuntime) -> Result<(), Fail> {
+    let alloc = rt.alloc();
+    let words = words(alloc, 4096)?;
+    let bytes = written(&rt, alloc, &words)?;
+    assert!(rt; bytes.len() < 1_000_000);
+    let place = whole(&bytes, 4096);
+    let mut source = SliceSource::new(&bytes);
+    let mut pivots = [0; 512];
+    for (word, entry) in words.iter() {
+        let found = look_up_near(&mut source, place, &mut pivots, word);
+        assert_eq!(rt; found, Ok(Some(*entry)));
+    }
+    for (at, asks) in [(1605usize, 9u64), (1615, 19), (5, 9), (4090, 12)] {
+        let Some((word, entry)) = words.get(at) else {
+            return Err(Fail::from("a word that is not there"));
+        };
+        let mut source = SliceSource::new(&bytes);
+        let found = look_up_near(&mut source, place, &mut pivots, word);
+        assert_eq!(rt; found, Ok(Some(*entry)));
+        assert_eq!(rt; source.asked(), asks);
+    }
+    Ok(())
+}
+
 // Each call below fails in turn: the look-up answers Disk, and the next one finds the term; a list
 // of entries ends with Disk. Through windows too: what a failed call leaves is not lent.
 #[test]
@@ -364,6 +407,19 @@ fn each_failed_read_is_answered(rt: HostRuntime) -> Result<(), Fail> {
         );
         assert_eq!(rt; source.failures, 1);
         assert_eq!(rt; look_up_in(&mut source, place, term), wanted);
+    }
+    let mut pivots = [0; 16];
+    assert_eq!(rt; look_up_near(&mut clean, place, &mut pivots, term), wanted);
+    let mut clean = SliceSource::new(&bytes);
+    assert_eq!(rt; look_up_near(&mut clean, place, &mut pivots, term), wanted);
+    for passes in 0..clean.asked() {
+        let mut source = Failing::after(&bytes, passes);
+        assert_eq!(rt;
+            look_up_near(&mut source, place, &mut pivots, term),
+            Err(SourceFault::Disk)
+        );
+        assert_eq!(rt; source.failures, 1);
+        assert_eq!(rt; look_up_near(&mut source, place, &mut pivots, term), wanted);
     }
     let mut clean = SliceSource::new(&bytes);
     assert_eq!(rt; entries_in(alloc, &mut clean, place, b"aaad")?.len(), 5);

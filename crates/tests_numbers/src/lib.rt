@@ -13,6 +13,8 @@ mod dict;
 #[cfg(test)]
 mod failing;
 #[cfg(test)]
+mod keys;
+#[cfg(test)]
 mod lanes;
 #[cfg(test)]
 mod made;

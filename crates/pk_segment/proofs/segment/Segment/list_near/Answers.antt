@@ -11,7 +11,7 @@ use Rattle.pk_segment.specs.Listing.{ListedAs}
 use Rattle.pk_segment.specs.Spelling.{IndexSpells}
 use Rattle.pk_segment.proofs.ListingLemmas.{asks_most, is_there}
 use Rattle.pk_segment.proofs.ReadLemmas.{cause_read}
-use Rattle.pk_segment.proofs.segment.Segment.list_of.Goals as goal
+use Rattle.pk_segment.proofs.segment.Segment.list_near.Goals as goal
 
 pub returns-in_err-entry-clause-listed : goal.returns-in_err-entry-clause-listed
 returns-in_err-entry-clause-listed g c = λ honest docs is of.
@@ -25,8 +25,8 @@ returns-in_err-entry-clause-listed g c = λ honest docs is of.
 
 pub returns-in_err-entry-clause-asked : goal.returns-in_err-entry-clause-asked
 returns-in_err-entry-clause-asked g c =
-    let few : g.S.ByteSource.asked c.look_up_in.new.source.source.now ≤ g.S.ByteSource.asked c.args.source.now + 1 + 44 * (6 + stretches_of (length c.args.word.now)) =
-    asks_most _ _ _ _ _ _ c.in_err-entry.ensures.left.kept.2 c.on-windows.ensures.asked (omega (arith, c.in_err-entry.ensures.asks 28 (omega arith)))
+    let few : g.S.ByteSource.asked c.look_up_near.new.source.source.now ≤ g.S.ByteSource.asked c.args.source.now + 1 + 44 * (6 + stretches_of (length c.args.word.now)) =
+    asks_most _ _ _ _ _ _ c.in_err-entry.ensures.left.kept.2 c.on-windows.ensures.asked (omega (arith, c.in_err-entry.ensures.most))
     (subst (λ s. g.S.ByteSource.asked s ≤ g.S.ByteSource.asked c.args.source.now + 1) (sym c.on-windows.ensures.source) c.in_ok-place.ensures.asked)
     in search (rules, few)
 
@@ -39,7 +39,7 @@ returns-clause-listed g c = λ honest docs is of.
 
 pub returns-clause-asked : goal.returns-clause-asked
 returns-clause-asked g c =
-    let few : g.S.ByteSource.asked c.look_up_in.new.source.source.now ≤ g.S.ByteSource.asked c.args.source.now + 1 + 44 * (6 + stretches_of (length c.args.word.now)) =
-    asks_most _ _ _ _ _ _ c.in_ok-entry.ensures.left.kept.2 c.on-windows.ensures.asked (omega (arith, c.in_ok-entry.ensures.asks 28 (omega arith)))
+    let few : g.S.ByteSource.asked c.look_up_near.new.source.source.now ≤ g.S.ByteSource.asked c.args.source.now + 1 + 44 * (6 + stretches_of (length c.args.word.now)) =
+    asks_most _ _ _ _ _ _ c.in_ok-entry.ensures.left.kept.2 c.on-windows.ensures.asked (omega (arith, c.in_ok-entry.ensures.most))
     (subst (λ s. g.S.ByteSource.asked s ≤ g.S.ByteSource.asked c.args.source.now + 1) (sym c.on-windows.ensures.source) c.in_ok-place.ensures.asked)
     in search (rules, few)
