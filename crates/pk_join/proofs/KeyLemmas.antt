@@ -1,66 +1,16 @@
--- Of two words that differ in their keys, the one with the lesser key is the lesser.
-use Rattle.std.proofs.Common.{◌≡◌, inl, inr, ℕ, zero, suc, ◌+◌, ◌*◌, ◌^◌, ◌<◌, ◌≤◌, Bool, true, false, Ordering, List, [], ◌∷◌, Option, Some, None, length, set, slice_index, refl, sym, ap, subst, ◌∙◌, arith, get_or, get_or-set_same, get_or-set_other}
-use Rattle.std.proofs.Math.Nat.{mul-le-mul_right}
-use Rattle.std.proofs.lemmas.Bool.{cases_lt, eq-eqb, le-ltb, lt-ltb, ne_eqb}
+-- What the keys of the words at the heads say of them.
+use Rattle.std.proofs.Common.{◌≡◌, inl, inr, ℕ, ◌+◌, ◌<◌, Bool, true, false, List, Option, Some, None, length, set, slice_index, refl, sym, ap, subst, ◌∙◌, arith, get_or, get_or-set_same, get_or-set_other}
+use Rattle.std.proofs.lemmas.Bool.{cases_lt}
 use Rattle.std.proofs.lemmas.Slice.Eq.{bytes_eq-Decides}
-use Rattle.std.specs.Cmp.Lexicographic.{slice_cmp}
 use Rattle.std.specs.Prelude.{slice_get}
-use Rattle.std.specs.Ordering.{ordering_then, nat_cmp}
 use Rattle.std.specs.Str.{bytes_eq}
-use Rattle.std.specs.declared.cmp.Ordering.TheVariants.{Less, Greater, Equal}
-use Rattle.byteorder.specs.Endian.{big_from}
-use Rattle.byteorder.specs.Numbers.{big_from-cons, big_from-lt}
 use Rattle.pk_join.specs.declared.lists.InputLists.{InputLists}
-use Rattle.pk_join.specs.Keys.{AreKeys, HasKey, key_of}
+use Rattle.pk_join.specs.Keys.{AreKeys, HasKey}
+use Rattle.pk_keys.specs.Keys.{key_of}
+use Rattle.pk_keys.proofs.KeyOrder.{lesser_word}
 use Rattle.pk_join.specs.Listed.{words_in}
 use Rattle.pk_join.specs.Walking.{head_at, is_word, lesser_of, words_at}
 use Rattle.pk_join.proofs.WalkLemmas.{words_at_is}
-
-below : (x y : ℕ) → x < y → nat_cmp x y ≡ Less
-below x y lt = rw (lt-ltb x y lt) refl
-
-above : (x y : ℕ) → y < x → nat_cmp x y ≡ Greater
-above x y lt = rw (le-ltb x y (omega arith), ne_eqb x y (λ (e : x ≡ y). omega arith)) refl
-
-level : (x y : ℕ) → x ≡ y → nat_cmp x y ≡ Equal
-level x y e = rw (le-ltb x y (omega arith), eq-eqb x y e) refl
-
-no_bytes : (i n : ℕ) → big_from i n [] ≡ 0
-no_bytes i zero = refl
-no_bytes i (suc n) = let rest = no_bytes (suc i) n in omega (arith, rest)
-
--- what the first bytes decide, and what they leave to the others
-decides : (x y : ℕ) (xs ys : List ℕ) (o : Ordering) → nat_cmp x y ≡ o → slice_cmp nat_cmp (x ∷ xs) (y ∷ ys) ≡ ordering_then o (slice_cmp nat_cmp xs ys)
-decides x y xs ys o e = ap (λ (a : Ordering). ordering_then a (slice_cmp nat_cmp xs ys)) e
-
--- the number of a list is its first byte's, and that of the others
-first_byte : (n x : ℕ) (xs : List ℕ) → big_from 0 (suc n) (x ∷ xs) ≡ x * 256 ^ n + big_from 0 n xs
-first_byte n x xs = ap (λ (r : ℕ). x * 256 ^ n + r) (big_from-cons 0 n x xs)
-
-pub lesser_number : (n : ℕ) (v w : List ℕ) → ((k : ℕ) → slice_index w k < 256) → big_from 0 n v < big_from 0 n w
-    → (slice_cmp nat_cmp v w ≡ Less) × (slice_cmp nat_cmp w v ≡ Greater)
-lesser_number zero v w bytes lt = absurd (omega arith)
-lesser_number (suc n) v [] bytes lt = let none = no_bytes 0 (suc n) in absurd (omega (arith, none))
-lesser_number (suc n) [] (y ∷ ys) bytes lt = (refl, refl)
-lesser_number (suc n) (x ∷ xs) (y ∷ ys) bytes lt =
-    let a = first_byte n x xs in
-    let b = first_byte n y ys in
-    let top = big_from-lt 0 n ys (λ k. bytes (suc k)) in
-    elim (cases_lt x y) [
-      | inl less ↦ (decides x y xs ys Less (below x y less), decides y x ys xs Greater (above y x less))
-      | inr more ↦ elim (cases_lt y x) [
-        | inl less ↦
-            let high : (y + 1) * 256 ^ n ≤ x * 256 ^ n = mul-le-mul_right (256 ^ n) (omega (arith, less)) in
-            absurd (omega (arith, lt, a, b, top, high))
-        | inr most ↦
-            let same : x ≡ y = omega (arith, more, most) in
-            let even = ap (λ (z : ℕ). z * 256 ^ n) same in
-            let rest = lesser_number n xs ys (λ k. bytes (suc k)) (omega (arith, lt, a, b, even)) in
-            (decides x y xs ys Equal (level x y same) ∙ rest.0, decides y x ys xs Equal (level y x (sym same)) ∙ rest.1)
-      ]
-    ]
-
--- ---- of the words that have keys
 
 pub has_key : (key : ℕ) (w : List ℕ) (o : Option (List ℕ)) → key ≡ key_of w → ((k : ℕ) → slice_index w k < 256) → Some w ≡ o → HasKey key o
 has_key key w o is bytes at = record {
@@ -75,13 +25,13 @@ has_key key w o is bytes at = record {
 pub greater_key : (v : List ℕ) (key key' : ℕ) (o : Option (List ℕ)) → HasKey key (Some v) → HasKey key' o → key < key' → Some v ≡ lesser_of (Some v) o
 greater_key v key key' None has other lt = refl
 greater_key v key key' (Some w) has other lt =
-    let apart = lesser_number 8 v w (λ k. other.bytes w k refl) (omega (arith, lt, has.is v refl, other.is w refl)) in
+    let apart = lesser_word v w (λ k. other.bytes w k refl) (omega (arith, lt, has.is v refl, other.is w refl)) in
     rw (apart.1) refl
 
 -- and one of a lesser key is a lesser word
 pub lesser_key : (v w : List ℕ) (key key' : ℕ) (o : Option (List ℕ)) → HasKey key (Some v) → HasKey key' o → Some w ≡ o → key' < key → Some w ≡ lesser_of (Some v) o
 lesser_key v w key key' o has other at lt =
-    let apart = lesser_number 8 w v (λ k. has.bytes v k refl) (omega (arith, lt, has.is v refl, other.is w (sym at))) in
+    let apart = lesser_word w v (λ k. has.bytes v k refl) (omega (arith, lt, has.is v refl, other.is w (sym at))) in
     subst (λ (x : Option (List ℕ)). Some w ≡ lesser_of (Some v) x) at (rw (apart.0) refl)
 
 -- a word of another key is another word

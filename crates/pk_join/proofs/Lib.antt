@@ -5,6 +5,7 @@ pub mod DocLemmas
 pub mod InputLemmas
 pub mod JoinLemmas
 pub mod KeyLemmas
+pub mod MarkLemmas
 pub mod PartLemmas
 pub mod PostingLemmas
 pub mod TermWalkLemmas

@@ -32,5 +32,5 @@ HoldInputs bytes (i ∷ is) (a ∷ aheads) =
 
 -- how many bytes of an input are read at once: none where its lists are in memory
 abbrev pub bytes_ahead : InputLists → ℕ
-bytes_ahead (Stored words postings) = 32768
-bytes_ahead (Indexed t) = 0
+bytes_ahead (Stored words postings marks) = 32768
+bytes_ahead (Indexed t marks) = 0

@@ -54,7 +54,7 @@ AreListed [] [] (s ∷ ss) = ⊥
 AreListed [] (l ∷ ls) ss = ⊥
 AreListed (i ∷ is) [] ss = ⊥
 AreListed (i ∷ is) (l ∷ ls) [] = ⊥
-AreListed (i ∷ is) (l ∷ ls) (s ∷ ss) = AreListsOf l i.kind s.documents × AreListed is ls ss
+AreListed (i ∷ is) (l ∷ ls) (s ∷ ss) = AreListsOf l i.kind s.documents s.dead × AreListed is ls ss
 
 -- nothing stored
 abbrev pub none_stored : Stored

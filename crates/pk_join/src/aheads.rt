@@ -13,7 +13,7 @@ fn bytes_of(lists: &InputLists) -> usize
 {
     match lists {
         InputLists::Stored { .. } => READ_AHEAD,
-        InputLists::Indexed(_) => 0,
+        InputLists::Indexed { .. } => 0,
     }
 }
 

@@ -5,7 +5,9 @@
 //! segments are then merged without a sort: the least word at their heads comes next, and the lists
 //! of those that have it there are put one behind another, since the numbers rise from segment to
 //! segment (Manning, Raghavan, Schütze, Introduction to Information Retrieval, 2008, section 4.2).
-//! Words are compared by their keys first, the first eight bytes of each as a number.
+//! Words are compared by their keys first, the first eight bytes of each as a number. Deleted numbers
+//! are marked, a byte for each number from the first to the last of a deletion list, so that each
+//! number of a list takes one look; a list whose numbers lie far apart is halved.
 //!
 //! | item | what it is |
 //! |---|---|
@@ -32,7 +34,7 @@
 //!
 //! Where the words are: `specs/Ahead` says what is held of an extent, `specs/Inputs` has what inputs
 //! spell, `specs/Words` how words lie end to end, `specs/Listed` what the words and lists of an input
-//! are, `specs/Joining` what is joined, `specs/Walking` the words side by side, `specs/Keys` their keys,
+//! are, `specs/Marks` what the marks of deleted numbers say, `specs/Joining` what is joined, `specs/Walking` the words side by side, `specs/Keys` their keys,
 //! `specs/Walk` where a walk has come.
 //! Lemma pages: `TermWalkLemmas` on the walk, whose words are the terms of the documents that are
 //! left; `JoinLemmas` on one word's list.
@@ -47,6 +49,7 @@ mod joining;
 mod keys;
 mod lent;
 mod lists;
+mod marks;
 mod reading;
 mod rooms;
 mod text_lists;

@@ -11,7 +11,7 @@ fn room_of(lists: &InputLists) -> usize
 {
     match lists {
         InputLists::Stored { .. } => 0,
-        InputLists::Indexed(lists) => lists.numbers.len(),
+        InputLists::Indexed { texts, .. } => texts.numbers.len(),
     }
 }
 

@@ -147,7 +147,7 @@ fn join_head<D: Disk>(
     ensures joined { D.honest → (s : Stored)
         → HoldsOf (extent_bytes (D.content disk.old) input.now.extent) ahead.old
         → SpellsInput (D.content disk.old) input.now s
-        → AreListsOf lists.now input.now.kind s.documents
+        → AreListsOf lists.now input.now.kind s.documents s.dead
         → (is_word sought.entry.word.now (slice_get (words_in lists.now) head) ≡ false
         → list_with sought.entry.word.now (live_of s) ≡ [])
         → MayJoin joined.old (list_with sought.entry.word.now (live_of s)) → MatchResult result

@@ -18,7 +18,7 @@ ghost use Rattle.pk_disk.specs.Frames.{KeepsDisk};
 ghost use Rattle.pk_disk.specs.Units.{extent_bytes, start_of};
 ghost use Rattle.pk_join.specs.Inputs.{HasKind, LiesInside, SpellsInputs};
 ghost use Rattle.pk_join.specs.Reading.{IndexesAs, ListsAs, TextListsAs};
-ghost use Rattle.pk_merge.specs.Gathering.{RiseFrom, left_by};
+ghost use Rattle.pk_merge.specs.Gathering.{RiseFrom};
 ghost use Rattle.pk_merge.specs.Inputs.{ReadsAs};
 ghost use Rattle.pk_merge.specs.Keeping.{AreKept, KeepsBetween, StayApart};
 ghost use Rattle.pk_merge.specs.Left.{kept_in};
@@ -53,7 +53,7 @@ fn read_from<S: ByteSource>(
         → S.content source.old ≡ take (length (S.content source.old)) (drop start bytes)
         → SegmentSpells (S.content source.old) docs kind → RiseFrom left.old.last (docs ++ more)
         → AreKept bytes (kept_in left.old) so_far
-        → ReadsAs kind bytes so_far docs (left_by dead.now docs) more left.new result }
+        → ReadsAs kind bytes so_far docs dead.now more left.new result }
     ensures between { OnOk result (KeepsBetween start (start + length (S.content source.old))
         (kept_in left.old) (kept_in left.new)) }
     ensures disk_bytes { left.new.disk_bytes ≡ left.old.disk_bytes }
@@ -66,7 +66,7 @@ fn read_from<S: ByteSource>(
     let texts = start.saturating_add(24 + 12 * u64::from(segment.count()));
     let end = start + u64::from(bytes);
     left.take_all(&directory, texts, end, dead)?;
-    let lists = read_lists(alloc, source, kind, &segment, &directory)?;
+    let lists = read_lists(alloc, source, kind, &segment, &directory, dead)?;
     Ok(lists)
 }
 
@@ -88,8 +88,8 @@ pub(crate) fn read_input<D: Disk>(
         → SegmentSpells (extent_bytes (D.content disk.old) input.now.extent) docs input.now.kind
         → RiseFrom left.old.last (docs ++ more)
         → AreKept (D.content disk.old) (kept_in left.old) so_far
-        → ReadsAs input.now.kind (D.content disk.old) so_far docs (left_by input.now.dead.now docs)
-        more left.new result }
+        → ReadsAs input.now.kind (D.content disk.old) so_far docs input.now.dead.now more left.new
+        result }
     ensures between { OnOk result (KeepsBetween (start_of input.now.extent)
         (start_of input.now.extent + input.now.extent.bytes)
         (kept_in left.old) (kept_in left.new)) }

@@ -9,6 +9,7 @@ use Rattle.pk_posting.specs.declared.source.SourceFault.{SourceFault}
 use Rattle.pk_posting.specs.declared.source.SourceFault.TheVariants.{Disk}
 use Rattle.pk_posting.specs.Parts.{HasShape, bytes_at}
 use Rattle.pk_posting.specs.Posting.{IsPosting, block}
+use Rattle.pk_join.specs.Deleted.{deleted_in}
 use Rattle.pk_join.specs.Joining.{MayJoin, joined_in, numbers_left}
 use Rattle.pk_join.proofs.JoinLemmas.{from_ok, left_both, may_part}
 use Rattle.pk_join.proofs.PostingLemmas.{rising_back, rising_front}
@@ -41,8 +42,8 @@ returns-in_err-join_numbers-clause-joined g c = λ honest xs inside is may.
     let here = subst (λ (b : List ℕ). HasShape (bytes_at b c.args.place) c.in_ok-shape.shape xs) (sym (c.loop-k.invariant.same honest)) known.0 in
     let k = c.loop-k.k in
     let got = c.in_ok-block_in.ensures.spelled honest xs here c.loop-k-test.true in
-    let ok : false ≡ true = c.in_err-join_numbers.ensures.may (subst IsStrictlyIncreasing (sym got) (block_rises xs k is.posting)) (subst (λ (b : List ℕ). MayJoin c.loop-k.joined (numbers_left c.args.dead.now b)) (sym got)
-    (may_part c.args.joined.now c.loop-k.joined c.args.dead.now (take (128 * k) xs) (block k xs) (drop (128 * (k + 1)) xs) xs (three xs k) known.1 c.loop-k.invariant.room may)) in
+    let ok : false ≡ true = c.in_err-join_numbers.ensures.may (subst IsStrictlyIncreasing (sym got) (block_rises xs k is.posting)) (subst (λ (b : List ℕ). MayJoin c.loop-k.joined (numbers_left (deleted_in c.args.dead.now) b)) (sym got)
+    (may_part c.args.joined.now c.loop-k.joined (deleted_in c.args.dead.now) (take (128 * k) xs) (block k xs) (drop (128 * (k + 1)) xs) xs (three xs k) known.1 c.loop-k.invariant.room may)) in
     absurd (cc (ok))
 
 pub loop-k-preserved : goal.loop-k-preserved
@@ -61,8 +62,8 @@ loop-k-preserved g c =
           let here = subst (λ (b : List ℕ). HasShape (bytes_at b c.args.place) c.in_ok-shape.shape xs) (sym (inv.same honest)) known.0 in
           let got = c.in_ok-block_in.ensures.spelled honest xs here c.loop-k-test.true in (
             known.0,
-            left_both (joined_in c.args.joined.now) (joined_in c.loop-k.joined) (joined_in c.join_numbers.new.joined) c.args.dead.now (take (128 * c.loop-k.k) xs) (block c.loop-k.k xs) (take (128 * (c.loop-k.k + 1)) xs)
-                (next xs c.loop-k.k) known.1 (c.in_ok-join_numbers.ensures.joined ∙ ap (λ (b : List ℕ). joined_in c.loop-k.joined ++ numbers_left c.args.dead.now b) got),
+            left_both (joined_in c.args.joined.now) (joined_in c.loop-k.joined) (joined_in c.join_numbers.new.joined) (deleted_in c.args.dead.now) (take (128 * c.loop-k.k) xs) (block c.loop-k.k xs) (take (128 * (c.loop-k.k + 1)) xs)
+                (next xs c.loop-k.k) known.1 (c.in_ok-join_numbers.ensures.joined ∙ ap (λ (b : List ℕ). joined_in c.loop-k.joined ++ numbers_left (deleted_in c.args.dead.now) b) got),
           );
     }
 
@@ -76,10 +77,10 @@ returns-clause-joined g c = λ honest xs inside is may.
     let b = drop (128 * c.loop-k.k) xs in
     let tail = got ∙ ap (λ (n : ℕ). drop n xs) (sym all) in
     let parts = sym (take-append-drop (128 * c.loop-k.k) xs) in
-    let may_tail = may_part c.args.joined.now c.loop-k.joined c.args.dead.now a b [] xs (parts ∙ ap (λ (l : List ℕ). a ++ l) (sym (append-nil b))) known.1 c.loop-k.invariant.room may in
+    let may_tail = may_part c.args.joined.now c.loop-k.joined (deleted_in c.args.dead.now) a b [] xs (parts ∙ ap (λ (l : List ℕ). a ++ l) (sym (append-nil b))) known.1 c.loop-k.invariant.room may in
     let now = joined_in c.join_numbers-2.new.joined in
     let so_far = joined_in c.loop-k.joined in
-    let dead = c.args.dead.now in
+    let dead = deleted_in c.args.dead.now in
     from_ok (now ≡ so_far ++ numbers_left dead (take c.in_ok-count.count c.tail_in.new.xs)) (now ≡ joined_in c.args.joined.now ++ numbers_left dead xs)
     (λ (e : SourceFault). e ≡ Disk) c.join_numbers-2.result
     (λ is. left_both (joined_in c.args.joined.now) so_far now dead a b xs parts known.1 (is ∙ ap (λ (l : List ℕ). so_far ++ numbers_left dead l) tail))

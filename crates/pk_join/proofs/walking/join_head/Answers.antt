@@ -3,8 +3,6 @@ use Rattle.std.proofs.Common.{◌≡◌, ◌∙◌, ◌++◌, List, ℕ, append-
 use Rattle.std.specs.Prelude.{MatchResult}
 use Rattle.pk_posting.specs.declared.source.SourceFault.{SourceFault}
 use Rattle.pk_posting.specs.declared.source.SourceFault.TheVariants.{Disk}
-use Rattle.pk_segment.specs.Indexed.{list_with}
-use Rattle.pk_state.specs.Committed.{live_of}
 use Rattle.pk_join.specs.Joining.{MayJoin, joined_in}
 use Rattle.pk_join.proofs.JoinLemmas.{list_left}
 use Rattle.pk_join.proofs.WalkLemmas.{found_at, found_within}
@@ -24,8 +22,8 @@ returns-clause-joined g c = λ honest s holds spells are absent may.
     let w = c.args.sought.word.now in
     let got = found_at c.args.lists.now c.args.head w (sym c.is_head.ensures ∙ c.if-not-is_head.false) in
     let docs = s.documents in
-    let list = sym (list_left w c.args.input.now.dead.now docs) ∙ ap (λ (ns : List ℕ). list_with w (live_of (record { documents = docs; dead = ns }))) spells.dead in
+    let list = sym (list_left w s.dead docs) in
     let now = joined_in c.join_word.new.joined in
     let old = joined_in c.args.joined.now in
     subst (λ (ns : List ℕ). MatchResult c.join_word.result (λ _. now ≡ old ++ ns) (λ (e : SourceFault). e ≡ Disk)) list
-    (c.join_word.ensures.joined honest docs w holds spells.segment are got (subst (MayJoin c.args.joined.now) (sym list) may))
+    (c.join_word.ensures.joined honest docs w s.dead holds spells.segment are got (subst (MayJoin c.args.joined.now) (sym list) may))

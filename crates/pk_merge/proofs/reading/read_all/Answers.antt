@@ -6,6 +6,7 @@ use Rattle.pk_disk.proofs.FrameLemmas.{keeps_disk_then}
 use Rattle.pk_join.specs.declared.input.MergeInput.{MergeInput}
 use Rattle.pk_join.specs.declared.lists.InputLists.{InputLists}
 use Rattle.pk_join.specs.Inputs.{SpellsInputs}
+use Rattle.pk_join.specs.Listed.{AreListsOf}
 use Rattle.pk_join.specs.Walking.{AreListed, stored_at}
 use Rattle.pk_join.proofs.InputLemmas.{input_at, inputs_long, live_append, take_stored}
 use Rattle.pk_join.proofs.WalkLemmas.{inputs_more, listed_snoc}
@@ -70,7 +71,8 @@ loop-input-preserved g c =
           let part = left_by dead s.documents in
           let has = c.in_ok-of_input.ensures.read honest before s.documents (all_in (drop (i + 1) stored)) input.segment next kept in
           let all = left_next live_in live_append stored i s so_far before part (take_stored stored i lt) (live_here dead s input.dead) refl in
-          let more = listed_snoc (take i c.args.inputs.now) c.loop-input.lists.items (take i stored) x c.in_ok-of_input.of_input s known.0 has.listed in (
+          let listed = subst (AreListsOf c.in_ok-of_input.of_input x.kind s.documents) input.dead has.listed in
+          let more = listed_snoc (take i c.args.inputs.now) c.loop-input.lists.items (take i stored) x c.in_ok-of_input.of_input s known.0 listed in (
             subst (λ (is : List MergeInput). AreListed is c.push.new.self.items (take (i + 1) stored)) (sym (inputs_more c.args.inputs.now i x c.loop-input-test.true c.input-item.is))
                 (subst (λ (ls : List InputLists). AreListed (take i c.args.inputs.now ++ x ∷ []) ls (take (i + 1) stored)) (sym c.in-Ok.ensures.items)
                 (subst (AreListed (take i c.args.inputs.now ++ x ∷ []) (c.loop-input.lists.items ++ c.in_ok-of_input.of_input ∷ [])) (sym (take_stored stored i lt)) more)),
