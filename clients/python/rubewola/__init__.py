@@ -1,4 +1,4 @@
 """Rubewola from Python: sessions with a store, loaders of mails and logs, and search."""
 
-from .store import (BufferFull, Counts, Failed, Full, NoSuchDocument, QueryRefused, Refused, Reopen,
-                    Store, StoreError, TooManySegments, Unknown)
+from .store import (BufferFull, Counts, Failed, Full, NoSuchDocument, QueryRefused, Refused, Store,
+                    StoreError, TooManySegments)

@@ -7,42 +7,21 @@ import sys
 import time
 from collections.abc import Iterator
 from contextlib import suppress
-from pathlib import Path
-from typing import Optional
 
-from . import loading, searching
-from .documents import split
-from .store import Refused, Store, StoreError, start
+from . import documents, loading, searching
+from .store import Refused, Store, StoreError
 
-LOADERS = [
-    ("load-mbox", loading.Mailboxes, "MBOX", "mailbox files", "+"),
-    ("load-maildir", loading.Maildir, "DIR", "a maildir, with the folders in it", 1),
-    ("load-log", loading.Source, "FILE", "a log, a document for each line", 1),
-    ("load-journal", loading.Journal, "FILE", "what `journalctl -o json` printed", 1),
-]
-
-HELP = """\
-find QUERY   the documents that satisfy it: find from:ada date:2010 (backup OR restore) NOT test
-show N       the text of document N
-add TEXT     adds a document
-delete N     deletes document N
-commit       writes what is new to the disk; what is not committed is lost at the end
-count        how many documents live, and the next number
-merge        puts one segment in the place of all, without what was deleted
-tidy         puts one segment in the place of eight neighbours
-quit         ends the session"""
-
-COMMANDS = ["help "] + [line.split()[0] + " " for line in HELP.splitlines()]
-FIELDS = ["from:", "to:", "cc:", "subject:", "date:", "AND ", "OR ", "NOT "]
-SHOWN = 20
+LOADERS = {"load-mbox": loading.Mailboxes, "load-maildir": loading.Maildir,
+           "load-log": loading.Source, "load-journal": loading.Journal}
+TYPED = ["add", "commit", "count", "delete", "find", "help", "merge", "quit", "show", "tidy",
+         "from:", "to:", "cc:", "subject:", "date:", "AND", "OR", "NOT"]
 
 
-def load(given: argparse.Namespace) -> int:
+def load(given: argparse.Namespace) -> None:
     """Loads what a command line names."""
-    begin, source = time.monotonic(), given.source(*given.input)
-    loaded = loading.load(given.store, source, given.units, not given.no_parts)
-    print(f"loaded {loaded} {source.noun} in {time.monotonic() - begin:.1f} s", file=sys.stderr)
-    return 0
+    begin, source = time.monotonic(), LOADERS[given.command](*given.input)
+    loaded = loading.load(given.store, source, not given.no_parts)
+    print(f"loaded {loaded} documents in {time.monotonic() - begin:.1f} s", file=sys.stderr)
 
 
 def search(given: argparse.Namespace) -> int:
@@ -60,99 +39,81 @@ def typed_lines() -> Iterator[str]:
     """What is typed at a prompt; at a terminal with completion, and with what was typed before."""
     with suppress(ImportError, OSError):  # A Python without readline has a plain prompt.
         import readline
-
-        def completed(text: str, state: int) -> Optional[str]:
-            names = FIELDS if readline.get_begidx() else COMMANDS
-            return [*(name for name in names if name.startswith(text)), None][state]
         if sys.stdin.isatty():
-            readline.set_completer(completed)
-            readline.set_completer_delims(" ()")
+            readline.set_completer(
+                lambda text, n: [*(word for word in TYPED if word.startswith(text)), None][n])
             readline.parse_and_bind("tab: complete")
-            history = Path("~/.rubewola_history").expanduser()
-            history.touch()
+            history = os.path.expanduser("~/.rubewola_history")
+            open(history, "a").close()
             atexit.register(readline.write_history_file, history)
             readline.read_history_file(history)
     with suppress(EOFError):
-        while True:
-            yield input("rubewola> ").strip()
+        while (line := input("rubewola> ").strip()) != "quit":
+            yield line
 
 
 def answer(store: Store, line: str) -> str:
-    """What a line is answered; commands that are not known here are the program's own."""
+    """What a line at the prompt is answered:
+
+    find QUERY   the last 20 documents that satisfy it, and how many do:
+                 find from:ada date:2010 (backup OR restore) NOT test
+    show N       the text of document N
+    add TEXT     adds a document
+    delete N     deletes document N
+    commit       writes what is new to the disk
+    count        how many documents live, and the next number
+    merge        puts one segment in the place of all, without what was deleted
+    tidy         puts one segment in the place of eight neighbours
+    quit         commits, and ends the session, as the end of the input does; an interrupt just ends
+    """
     command, _, rest = line.partition(" ")
     if command == "find":
         numbers = searching.find(store, rest)
-        lines = searching.results(store, numbers[-SHOWN:], "text")
-        last = f", the last {SHOWN} shown" if numbers[SHOWN:] else ""
-        return "\n".join([*lines, f"found {len(numbers)}{last}"])
-    if command == "show" and rest.isdecimal():
-        return searching.plain(split(store.show(int(rest)))[0])
-    if command == "quit":
-        return "Not all is committed: `commit`, or `quit` again."
-    return HELP if command == "help" else store.ask(line)
+        lines = searching.results(store, numbers[-20:], "text")
+        return "\n".join([*lines, f"found {len(numbers)}"])
+    if command == "show":
+        return searching.plain(documents.split(store.show(int(rest)))[0])
+    return str(answer.__doc__) if command == "help" else store.ask(line)
 
 
-def shell(given: argparse.Namespace) -> int:
-    """Answers a person's commands, and warns where something is not committed at the end."""
-    changed = False
+def shell(given: argparse.Namespace) -> None:
+    """Answers a person's commands."""
+    print("`help` names the commands, `quit` ends the session.")
     with Store(given.store) as store:
-        print("`help` names the commands, `quit` ends the session.")
         for line in filter(None, typed_lines()):
-            if line == "quit" and not changed:
-                break
             try:
                 print(answer(store, line))
-                changed = line.startswith(("add", "delete")) or (
-                    changed and line not in ("commit", "quit"))
             except (Refused, ValueError) as refused:
                 print(f"refused {refused}")
-    return 0
-
-
-def version(_: argparse.Namespace) -> int:
-    """Tells the program's version."""
-    print(start("--version").communicate()[0].decode(), end="")
-    return 0
+        loading.commit(store)
 
 
 def parser() -> argparse.ArgumentParser:
     """What the command line may say."""
     top = argparse.ArgumentParser("rubewola", description=__doc__)
-    top.add_argument("--version", help="tell the program's version", dest="run",
-                     action="store_const", const=version)
-    commands = top.add_subparsers(metavar="COMMAND")
-
-    def command(name: str, about: str, **defaults: object) -> argparse.ArgumentParser:
-        made = commands.add_parser(name, help=about)
-        made.set_defaults(**defaults)
-        made.add_argument("store", metavar="STORE")
-        return made
-    for name, source, argument, about, count in LOADERS:
-        loader = command(name, f"load {about}", run=load, source=source)
-        loader.add_argument("input", metavar=argument, help=about, nargs=count)
-        loader.add_argument("--no-parts", action="store_true",
-                            help="leave out the parts of joined words, as debian of debian.org")
-        loader.add_argument("--units", type=int, metavar="N", default=0,
-                            help="units of 512 bytes of a new store; else from the input's size")
-    finder = command("search", "find mails or lines", run=search)
-    finder.add_argument("query", metavar="QUERY", nargs="+")
-    finder.add_argument("--limit", type=int, metavar="N", help="only the last N",
-                        default=sys.maxsize)
+    commands = top.add_subparsers(dest="command", metavar="COMMAND", required=True)
+    for name, source in LOADERS.items():
+        loader = commands.add_parser(name, help=source.__doc__)
+        loader.add_argument("store")
+        loader.add_argument("input", nargs="+")
+        loader.add_argument("--no-parts", action="store_true", help="without parts of joined words")
+    finder = commands.add_parser("search", help="find mails or lines")
+    finder.add_argument("store")
+    finder.add_argument("query", nargs="+")
+    finder.add_argument("--limit", type=int, default=sys.maxsize, help="only the last so many")
     finder.add_argument("--count", action="store_true", help="only how many")
     finder.add_argument("--format", choices=searching.FORMATS, default="text")
-    command("shell", "a prompt", run=shell)
+    commands.add_parser("shell", help="a prompt").add_argument("store")
     return top
 
 
 def main() -> int:
     """Does what the command line says, and gives the status."""
-    top = parser()
-    given = top.parse_args()
-    if not given.run:
-        top.error("a command is wanted")
+    given = parser().parse_args()
+    run = {"search": search, "shell": shell}.get(given.command, load)  # All others are loaders.
     sys.stdout.reconfigure(encoding="utf-8", errors="surrogateescape")
     try:
-        return given.run(given)
+        return run(given) or 0
     except BrokenPipeError:
         os.dup2(os.open(os.devnull, os.O_WRONLY), sys.stdout.fileno())
         return 0

@@ -12,11 +12,8 @@ import os
 import re
 from collections.abc import Iterable
 from contextlib import suppress
-from email import message_from_bytes
-from email.errors import MessageError
-from email.header import decode_header
+from email import errors, header, message_from_bytes, utils
 from email.message import Message
-from email.utils import parsedate_to_datetime
 from urllib.parse import unquote_to_bytes
 
 HEAD = ("from", "to", "cc", "subject", "date", "attached")
@@ -29,14 +26,10 @@ _UNSEEN = re.compile(r"<(?:script|style)\b[^<>]*>.*?(?:</(?:script|style)\b[^<>]
                      re.IGNORECASE | re.DOTALL)
 
 
-def words(text: str) -> list[str]:
-    """The runs of letters and digits of a text, folded, each once."""
-    return list(dict.fromkeys(re.findall(r"[^\W_]+", text.casefold())))
-
-
-def fields(name: str, text: str) -> list[str]:
-    """The words of a field of this name: `from_bdale`."""
-    return [f"{name}_{word}" for word in words(text)]
+def words(text: str, before: str = "") -> list[str]:
+    """The runs of letters and digits of a text, folded, each once: with `from_` before it, as
+    `from_bdale`."""
+    return [before + word for word in dict.fromkeys(re.findall(r"[^\W_]+", text.casefold()))]
 
 
 def date_words(text: str) -> list[str]:
@@ -61,18 +54,15 @@ def identity(name: str, value: str) -> str:
 
 def document(text: str, tail: Iterable[str] = (), with_parts: bool = True) -> str:
     """A text with its words. One that is too long is cut; of the parts as many stay as fit."""
-    text, known = text.encode("utf-8", "replace").decode(), " ".join(tail)
-    room = MOST_BYTES - len((MARK + known).encode())
-    if len(text.encode()) > room:
-        text = _beginning(text, room - len(CUT)) + CUT
-    added = " ".join(parts(text)) + " " if with_parts else ""
-    added = _beginning(added, room - len(text.encode())).rpartition(" ")[0]
-    behind = f"{known} {added}".strip()
+    data, behind = text.encode("utf-8", "replace"), " ".join(tail)
+    room = MOST_BYTES - len((MARK + behind).encode())
+    if len(data) > room:
+        data = data[:room - len(CUT)] + CUT.encode()
+    text = data.decode(errors="ignore")  # The cut may have gone through a character.
+    if with_parts:
+        added = " ".join([*parts(text), ""]).encode()[:room - len(text.encode())]
+        behind = f"{behind} {added.rpartition(b' ')[0].decode()}".strip()
     return text + MARK + behind if behind or MARK in text else text
-
-
-def _beginning(text: str, most: int) -> str:
-    return text.encode()[:most].decode(errors="ignore")
 
 
 def split(stored: str) -> tuple[str, dict[str, str]]:
@@ -95,14 +85,14 @@ def _one_line(text: str) -> str:
     return " ".join(text.split()).encode("utf-8", "replace").decode()
 
 
-def header(message: Message, name: str) -> str:
+def field(message: Message, name: str) -> str:
     """The header fields of a name as one line of text."""
     lines = []
     for value in message.get_all(name, []):
         value = value[:LONGEST_HEADER] if isinstance(value, str) else value
-        with suppress(MessageError, ValueError):
+        with suppress(errors.MessageError, ValueError):
             value = "".join(piece if isinstance(piece, str) else decoded(piece, charset)
-                            for piece, charset in decode_header(value))
+                            for piece, charset in header.decode_header(value))
         lines.append(str(value))
     return _one_line(", ".join(lines)[:LONGEST_HEADER])
 
@@ -128,11 +118,11 @@ def mail(raw: bytes, path: str = "") -> tuple[str, list[str]]:
     file = [identity("path", path)] if path else []
     try:
         message = message_from_bytes(raw)
-        head, (text, attached) = [header(message, name) for name in HEAD[:5]], body(message)
+        head, (text, attached) = [field(message, name) for name in HEAD[:5]], body(message)
         with suppress(TypeError, ValueError, IndexError, OverflowError):
-            head[4] = parsedate_to_datetime(head[4]).strftime("%Y-%m-%d %H:%M:%S %z").strip()
-        known = identity("id", header(message, "message-id").strip("<>"))
+            head[4] = utils.parsedate_to_datetime(head[4]).strftime("%Y-%m-%d %H:%M:%S %z").strip()
+        known = identity("id", field(message, "message-id").strip("<>"))
     except Exception as error:  # Mails are broken in more ways than the parser names.
         return mail(f"\n[not stored: {type(error).__name__}]".encode(), path)
-    found = [word for name, value in zip(HEAD[:4], head) for word in fields(name, value)]
+    found = [word for name, value in zip(HEAD[:4], head) for word in words(value, name + "_")]
     return "\n".join([*head, attached, "", text]), [known, *file, *date_words(head[4]), *found]

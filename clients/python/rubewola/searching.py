@@ -7,7 +7,7 @@ from email.utils import parseaddr
 from typing import Any
 from unicodedata import combining, east_asian_width
 
-from .documents import HEAD, fields, identity, split
+from .documents import HEAD, identity, split, words
 from .store import QueryRefused, Store
 
 # A field of a query, or else a character.
@@ -20,7 +20,7 @@ def _program_text(token: re.Match[str]) -> str:
         return identity(name, value.strip("<>"))
     if name == "date":
         return "date_" + "_".join(part.zfill(2) for part in re.findall(r"\d+", value))
-    return f"({' '.join(fields(name, value)) or value})" if name else token[0]
+    return f"({' '.join(words(value, name + '_')) or value})" if name else token[0]
 
 
 def find(store: Store, query: str) -> list[int]:
@@ -32,10 +32,9 @@ def find(store: Store, query: str) -> list[int]:
     except QueryRefused as refused:
         if refused.place is not None:
             places = [place for place, piece in pieces for _ in piece.encode()] + [len(query)]
-            refused.place = places[refused.place]
-            before = query[:refused.place]
-            wide = sum((east_asian_width(c) in "WF") - (combining(c) > 0) for c in before)
-            refused.args = (f"{refused}\n{plain(query)}\n{' ' * (len(before) + wide)}^",)
+            place = refused.place = places[refused.place]
+            wide = sum((east_asian_width(c) in "WF") - (combining(c) > 0) for c in query[:place])
+            refused.args = (f"{refused}\n{plain(query)}\n{' ' * (place + wide)}^",)
         raise
 
 
@@ -44,25 +43,25 @@ def plain(text: str) -> str:
     return "".join(c if c.isprintable() or c in "\n\t" else " " for c in text)
 
 
-def parsed(number: int, stored: str) -> dict[str, Any]:
+def parsed(stored: str, number: int) -> dict[str, Any]:
     """A document by its parts: a mail's head and body, or a line."""
     text, known = split(stored)
     lines = text.split("\n", len(HEAD) + 1) if "id" in known else [text]
     return {"number": number, **known, **dict(zip(HEAD, lines[:-1])), "text": lines[-1]}
 
 
-def where(found: dict[str, Any]) -> str:
+def where(doc: dict[str, Any]) -> str:
     """A mail's path, or else its message id; a line's number."""
-    return str(found.get("path") or found.get("id") and f"<{found['id']}>" or found["number"])
+    return str(doc.get("path") or doc.get("id") and plain(f"<{doc['id']}>") or doc["number"])
 
 
-def as_line(found: dict[str, Any]) -> str:
+def as_line(doc: dict[str, Any]) -> str:
     """A document in one line: a mail's day, sender, subject and path or id; or the line."""
-    line = found["text"]
-    if "date" in found:
-        sender = next(filter(None, parseaddr(found["from"])), found["from"])
-        line = f"{found['date'][:10]}  {sender}  {found['subject']}  {where(found)}"
-    return plain(f"{found['number']}: {line}").replace("\n", " ")
+    line = doc["text"]
+    if "date" in doc:
+        sender = next(filter(None, parseaddr(doc["from"])), doc["from"])
+        line = f"{doc['date'][:10]}  {sender}  {doc['subject']}  {where(doc)}"
+    return plain(f"{doc['number']}: {line}").replace("\n", " ")
 
 
 FORMATS = {"text": as_line, "json": json.dumps, "paths": where}
@@ -70,5 +69,4 @@ FORMATS = {"text": as_line, "json": json.dumps, "paths": where}
 
 def results(store: Store, numbers: list[int], form: str) -> Iterator[str]:
     """The documents of these numbers, a line each."""
-    for number, stored in zip(numbers, store.show_all(numbers)):
-        yield FORMATS[form](parsed(number, stored))
+    return map(FORMATS[form], map(parsed, store.show_all(numbers), numbers))

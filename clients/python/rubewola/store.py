@@ -6,29 +6,25 @@ import os
 import re
 import subprocess
 import time
-from collections import deque
 from collections.abc import Iterable, Iterator
 from contextlib import AbstractContextManager, suppress
 from typing import NamedTuple
 
+# Bytes of commands sent before their replies are read. So few fit into every pipe: sending them
+# never waits for the program, which may itself be waiting for its replies to be read.
 IN_FLIGHT = 4_096
-"""Bytes of commands sent before their replies are read. So few fit into every pipe: sending them
-never waits for the program, which may itself be waiting for its replies to be read."""
 
-HINTS = {
-    "bad length": "the file is no store",
-    "disk": "another program has the store, or the system refused the file",
-    "exists": "there is something at this path already",
-    "missing": "there is nothing at this path",
-    "not a store": "the file has no store; where its making was broken off, remove it",
-}
+# What the shorter reasons mean.
+HINTS = {"bad length": "the file is no store", "missing": "there is nothing at this path",
+         "disk": "another program has the store, or the system refused the file",
+         "not a store": "the file has no store; where its making was broken off, remove it"}
 
 
 class StoreError(Exception):
     """What came in place of an answer; `reason` has the program's words."""
 
-    def __init__(self, reason: str, hint: str = "") -> None:
-        super().__init__(f"{reason} ({hint})" if hint else reason)
+    def __init__(self, reason: str) -> None:
+        super().__init__(f"{reason} ({HINTS[reason]})" if reason in HINTS else reason)
         self.reason = reason
 
 
@@ -38,10 +34,6 @@ class Failed(StoreError):
 
 class Refused(StoreError):
     """A command was refused, and changed no document."""
-
-
-class Unknown(Refused):
-    """The program does not know the command."""
 
 
 class NoSuchDocument(Refused):
@@ -56,15 +48,11 @@ class TooManySegments(Refused):
     """The store has as many segments as it may: `tidy` or `merge`, then commit again."""
 
 
-class Reopen(Refused):
-    """A write failed: close the store and open it again."""
-
-
 class Full(Refused):
     """No free run of units is long enough: `need` units are wanted, `largest` are there."""
 
     def __init__(self, reason: str) -> None:
-        super().__init__(reason, "the store has no room for it")
+        super().__init__(reason)
         self.need, self.largest = map(int, re.findall(r"\d+", reason))
 
 
@@ -76,29 +64,28 @@ class QueryRefused(Refused):
         self.place = next(map(int, re.findall(r"\d+$", reason)), None)
 
 
-REFUSALS = {"unknown": Unknown, "no such document": NoSuchDocument, "buffer full": BufferFull,
-            "too many segments": TooManySegments, "reopen": Reopen, "full": Full,
-            "query": QueryRefused, "": Refused}
-"""The exceptions by the words that their reasons begin with."""
+# The exceptions by the words that their reasons begin with.
+REFUSALS = {"no such document": NoSuchDocument, "buffer full": BufferFull, "full": Full,
+            "too many segments": TooManySegments, "query": QueryRefused, "": Refused}
 
 
+# How many documents live, and the number of the next.
 Counts = NamedTuple("Counts", [("live", int), ("next", int)])
-"""How many documents live, and the number of the next."""
 
 
 class Store(AbstractContextManager["Store"]):
     """A store in a file, open until `close`. One program at a time has it.
 
-    A line feed in a text is carried as U+000B, which cuts words as it does, and `show` gives it
-    back; so a U+000B of the text itself comes back as a line feed. All other text is kept as it is.
-    What is not committed is lost at `close`, in a `with` block at its end.
+    A command is one line, so a line feed in it is carried as U+000B, which cuts words as it does,
+    and `show` gives it back; a U+000B of the text itself comes back as a line feed, too. All other
+    text is kept as it is. What is not committed is lost at `close`, in a `with` block at its end.
     """
 
     def __init__(self, path: str | os.PathLike[str], wait: float = 0) -> None:
         """Opens the store; one that another program has is tried again for `wait` seconds."""
         self._busy, ends = False, time.monotonic() + wait
         while True:
-            self._process = start("run", os.path.abspath(path))
+            self._process = _start("run", os.path.abspath(path))
             try:
                 self.count()
                 return
@@ -110,24 +97,20 @@ class Store(AbstractContextManager["Store"]):
     @classmethod
     def create(cls, path: str | os.PathLike[str], units: int) -> Store:
         """Makes a file of so many units of 512 bytes with an empty store, and opens it."""
-        made = start("create", os.path.abspath(path), "--units", str(units))
-        told = made.communicate()[1]
-        if made.returncode:
-            raise _failure(told)
+        with _start("create", os.path.abspath(path), "--units", str(units)) as made:
+            if made.wait():
+                raise _failure(made)
         return cls(path)
 
-    def __exit__(self, *_: object) -> None:
-        self.close()
-
-    def close(self) -> None:
+    def close(self, *_: object) -> None:
         """Ends the session."""
-        if self._process.returncode is None:
-            self._process.communicate()
+        self._process.communicate()
+
+    __exit__ = close
 
     def ask(self, command: str) -> str:
         """The reply to a command; a refusal is raised."""
-        (reply,) = self.ask_all([command])
-        return reply
+        return list(self.ask_all([command]))[0]
 
     def ask_all(self, commands: Iterable[str]) -> Iterator[str]:
         """The replies to many commands, up to a refusal, which is raised. Commands are sent ahead
@@ -135,12 +118,10 @@ class Store(AbstractContextManager["Store"]):
         one may be done. Until all replies are read the store takes no other command."""
         if self._busy or self._process.returncode is not None:
             raise Failed("busy" if self._busy else "closed")
-        self._busy, sent = True, deque()
+        self._busy, sent = True, []
         try:
             for command in commands:
-                if "\n" in command:
-                    raise ValueError("a line feed in a command")
-                line = command.encode() + b"\n"
+                line = command.replace("\n", "\v").encode() + b"\n"
                 while sent and sum(sent) + len(line) > IN_FLIGHT:
                     yield self._reply(sent)
                 # Where the program has ended, the reply that does not come tells why.
@@ -152,15 +133,15 @@ class Store(AbstractContextManager["Store"]):
                 yield self._reply(sent)
         finally:
             while sent and self._process.returncode is None:
-                sent.popleft()
+                sent.pop()
                 self._process.stdout.readline()
             self._busy = False
 
-    def _reply(self, sent: deque[int]) -> str:
-        sent.popleft()
+    def _reply(self, sent: list[int]) -> str:
+        sent.pop(0)
         line = self._process.stdout.readline()
         if not line.endswith(b"\n"):
-            raise _failure(self._process.communicate()[1])
+            raise _failure(self._process)
         reply = line[:-1].decode()
         if reply.startswith("refused "):
             reason = reply.removeprefix("refused ")
@@ -169,13 +150,11 @@ class Store(AbstractContextManager["Store"]):
 
     def add(self, text: str) -> int:
         """Adds a document, and gives its number."""
-        (number,) = self.add_all([text])
-        return number
+        return list(self.add_all([text]))[0]
 
     def add_all(self, texts: Iterable[str]) -> Iterator[int]:
         """Adds documents, many on their way at once, and gives their numbers."""
-        replies = self.ask_all("add " + text.replace("\n", "\v") for text in texts)
-        return (int(reply.removeprefix("added ")) for reply in replies)
+        return (int(reply.split()[1]) for reply in self.ask_all(f"add {text}" for text in texts))
 
     def delete(self, number: int) -> None:
         """Deletes a document."""
@@ -187,8 +166,7 @@ class Store(AbstractContextManager["Store"]):
 
     def show(self, number: int) -> str:
         """The text of a document."""
-        (text,) = self.show_all([number])
-        return text
+        return list(self.show_all([number]))[0]
 
     def show_all(self, numbers: Iterable[int]) -> Iterator[str]:
         """The texts of documents, many on their way at once."""
@@ -211,16 +189,15 @@ class Store(AbstractContextManager["Store"]):
         return Counts(*map(int, re.findall(r"\d+", self.ask("count"))))
 
 
-def start(*words: str) -> subprocess.Popen[bytes]:
-    """Starts the program: what RUBEWOLA_PROGRAM names, or `pk_find` of the PATH."""
+def _start(*words: str) -> subprocess.Popen[bytes]:
     line, pipe = [os.environ.get("RUBEWOLA_PROGRAM") or "pk_find", *words], subprocess.PIPE
     # A session of its own, so that the terminal's interrupt does not end it.
     return subprocess.Popen(line, stdin=pipe, stdout=pipe, stderr=pipe, start_new_session=True)
 
 
-def _failure(told: bytes) -> Failed:
-    reason = told.decode(errors="replace").partition("\n")[0].removeprefix("pk_find: ")
-    return Failed(reason or "the program was ended", HINTS.get(reason, ""))
+def _failure(process: subprocess.Popen[bytes]) -> Failed:
+    told = process.communicate()[1].decode(errors="replace")
+    return Failed(told.partition("\n")[0].removeprefix("pk_find: ") or "the program was ended")
 
 
 def _shown(reply: str) -> str:
