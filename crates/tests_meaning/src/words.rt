@@ -1,7 +1,10 @@
 //! Lists and sets of words, with values from the tables of Unicode.
 
-use pk_words::{word_list, words};
+ghost use Rattle.std.specs.Prelude.{◌<◌, length};
+
+use pk_words::{WordSet, word_list, words};
 use std::alloc::{AllocError, Global};
+use std::process::Abort;
 use std::test::Fail;
 
 /// The words of the text in its order, with a bar between each two.
@@ -27,6 +30,33 @@ fn set_of(alloc: Global, text: &str) -> Result<String, AllocError> {
         all.push_str(set.get(i))?;
     }
     Ok(all)
+}
+
+/// The text has these words, as a list and as a set.
+fn check_words(
+    rt: &impl Abort,
+    alloc: Global,
+    text: &str,
+    list: &str,
+    set: &str,
+) -> Result<(), Fail> {
+    assert_eq!(rt; list_of(alloc, text)?.as_str(), list);
+    assert_eq!(rt; set_of(alloc, text)?.as_str(), set);
+    let found = words(alloc, text)?;
+    assert_eq!(rt; found.is_empty(), set.is_empty());
+    for word in word_list(alloc, text)? {
+        assert!(rt; found.contains(word.as_str()), "{word} of {text:?}");
+    }
+    Ok(())
+}
+
+/// The text has none of some that are no words, or not folded, or not in it.
+fn check_absent(rt: &impl Abort, alloc: Global, text: &str) -> Result<(), Fail> {
+    let found = words(alloc, text)?;
+    for word in ["", "e-mail", "Straße", "zz"] {
+        assert!(rt; !found.contains(word), "{word:?} of {text:?}");
+    }
+    Ok(())
 }
 
 #[test]
@@ -62,17 +92,19 @@ fn the_words_of_texts(rt: HostRuntime) -> Result<(), Fail> {
         ("resume résumé", "resume|résumé", "resume|résumé"),
     ];
     for (text, list, set) in table {
-        assert_eq!(rt; list_of(rt.alloc(), text)?.as_str(), list);
-        assert_eq!(rt; set_of(rt.alloc(), text)?.as_str(), set);
-        let found = words(rt.alloc(), text)?;
-        assert_eq!(rt; found.is_empty(), set.is_empty());
-        for word in word_list(rt.alloc(), text)? {
-            assert!(rt; found.contains(word.as_str()), "{word} of {text:?}");
-        }
-        for word in ["", "e-mail", "Straße", "zz"] {
-            assert!(rt; !found.contains(word), "{word:?} of {text:?}");
-        }
+        check_words(&rt, rt.alloc(), text, list, set)?;
+        check_absent(&rt, rt.alloc(), text)?;
     }
+    Ok(())
+}
+
+/// The word at a place of the set is the number that many above 10,000.
+fn check_place(rt: &impl Abort, alloc: Global, set: &WordSet, i: usize) -> Result<(), Fail>
+    requires { i < length set.now }
+{
+    let word = format!(in alloc; "{}", 10_000u64.saturating_add(i as u64))?;
+    assert_eq!(rt; set.get(i), word.as_str());
+    assert!(rt; set.contains(word.as_str()));
     Ok(())
 }
 
@@ -87,9 +119,7 @@ fn twenty_thousand_words_in_one_text(rt: HostRuntime) -> Result<(), Fail> {
     let set = words(alloc, text.as_str())?;
     assert_eq!(rt; set.len(), 20_000);
     for i in 0..set.len() {
-        let word = format!(in alloc; "{}", 10_000u64.saturating_add(i as u64))?;
-        assert_eq!(rt; set.get(i), word.as_str());
-        assert!(rt; set.contains(word.as_str()));
+        check_place(&rt, alloc, &set, i)?;
     }
     assert_eq!(rt; word_list(alloc, text.as_str())?.len(), 20_000);
     Ok(())

@@ -73,6 +73,30 @@ fn keeps_its_fault<S: ByteSource>(rt: &impl Abort, cursor: &mut Cursor<'_, S>) {
     }
 }
 
+// What a cursor does next: it goes on, or seeks a number.
+#[derive(Clone, Copy)]
+enum Step {
+    Next,
+    Seek(u32),
+}
+
+// Takes the step, after which the cursor stands at that number, so many blocks decoded.
+fn comes_to<S: ByteSource>(
+    rt: &impl Abort,
+    cursor: &mut Cursor<'_, S>,
+    step: Step,
+    number: Option<u32>,
+    decoded: u64,
+) {
+    let gone = match step {
+        Step::Next => cursor.next(),
+        Step::Seek(target) => cursor.seek(target),
+    };
+    assert_eq!(rt; gone, Ok(()));
+    assert_eq!(rt; cursor.current(), number);
+    assert_eq!(rt; cursor.decoded(), decoded);
+}
+
 #[test]
 fn the_row_is_walked(rt: HostRuntime) -> Result<(), Fail> {
     let alloc = rt.alloc();
@@ -82,19 +106,17 @@ fn the_row_is_walked(rt: HostRuntime) -> Result<(), Fail> {
     let mut cursor = Cursor::open(&mut source, place_at(0, &bytes));
     assert_eq!(rt; cursor.current(), Some(1));
     assert_eq!(rt; cursor.decoded(), 1);
-    assert_eq!(rt; cursor.seek(1500), Ok(()));
-    assert_eq!(rt; cursor.current(), Some(1500));
-    assert_eq!(rt; cursor.decoded(), 2);
-    assert_eq!(rt; cursor.next(), Ok(()));
-    assert_eq!(rt; cursor.current(), Some(1501));
-    assert_eq!(rt; cursor.seek(2), Ok(()));
-    assert_eq!(rt; cursor.current(), Some(1501));
-    assert_eq!(rt; cursor.seek(2049), Ok(()));
-    assert_eq!(rt; cursor.current(), None);
-    assert_eq!(rt; cursor.next(), Ok(()));
-    assert_eq!(rt; cursor.current(), None);
+    let steps = [
+        (Step::Seek(1500), Some(1500), 2),
+        (Step::Next, Some(1501), 2),
+        (Step::Seek(2), Some(1501), 2),
+        (Step::Seek(2049), None, 2),
+        (Step::Next, None, 2),
+    ];
+    for (step, number, decoded) in steps {
+        comes_to(&rt, &mut cursor, step, number, decoded);
+    }
     assert_eq!(rt; cursor.fault(), None);
-    assert_eq!(rt; cursor.decoded(), 2);
     Ok(())
 }
 

@@ -1,6 +1,8 @@
 //! The term dictionary: its worked row, dictionaries of many shapes by every way of reading,
 //! damage, and faults below.
 
+ghost use Rattle.std.specs.Prelude.{◌<◌, IfOk, length};
+
 use crate::failing::Failing;
 use pk_dict::{
     Dict, DictFault, DictPlace, DictWriter, EntriesFault, Entry, Windows, entries_in, look_up_in,
@@ -179,39 +181,56 @@ fn holds(rt: &impl Abort, alloc: Global, items: &[(Vec<u8>, Entry)]) -> Result<(
     Ok(())
 }
 
-#[test]
-fn the_row_is_spelled_and_read(rt: HostRuntime) -> Result<(), Fail> {
-    let alloc = rt.alloc();
-    let newt = entry(1, 5);
+// The row's two items.
+fn pair(alloc: Global) -> Result<Items, Fail> {
     let mut pair = items(alloc, &[b"new".as_slice(), b"newt"])?;
     if let Some(last) = pair.last_mut() {
-        last.1 = newt;
+        last.1 = entry(1, 5);
     }
-    assert_eq!(rt; written(&rt, alloc, &pair)?.as_slice(), ROW.as_slice());
+    Ok(pair)
+}
+
+#[test]
+fn the_row_is_spelled(rt: HostRuntime) -> Result<(), Fail> {
+    let alloc = rt.alloc();
+    let bytes = written(&rt, alloc, &pair(alloc)?)?;
+    assert_eq!(rt; bytes.as_slice(), ROW.as_slice());
     assert_eq!(rt; written(&rt, alloc, &[])?.len(), 0);
-    let mut writer = DictWriter::new(alloc);
-    if !writer.may_add(b"new", 1, newt.place) {
+    Ok(())
+}
+
+#[test]
+fn terms_that_rise_may_be_added(rt: HostRuntime) -> Result<(), Fail> {
+    let place = entry(1, 5).place;
+    let mut writer = DictWriter::new(rt.alloc());
+    if !writer.may_add(b"new", 1, place) {
         return Err(Fail::from("the first term"));
     }
-    writer.add(b"new", 1, newt.place)?;
+    writer.add(b"new", 1, place)?;
     for (term, may) in [
         (b"newt".as_slice(), true),
         (b"new", false),
         (b"neW", false),
         (b"", false),
     ] {
-        assert_eq!(rt; writer.may_add(term, 1, newt.place), may);
+        assert_eq!(rt; writer.may_add(term, 1, place), may);
     }
+    Ok(())
+}
+
+#[test]
+fn the_row_is_read(rt: HostRuntime) -> Result<(), Fail> {
+    let pair = pair(rt.alloc())?;
     let dict = Dict::open(&ROW, 2);
     for (term, found) in [
-        (b"newt".as_slice(), Some(newt)),
+        (b"newt".as_slice(), Some(entry(1, 5))),
         (b"new", Some(entry(1, 0))),
         (b"ne", None),
     ] {
         assert_eq!(rt; dict.look_up(term), Ok(found));
     }
     for (prefix, from) in [(b"newt".as_slice(), 1usize), (b"ne", 0), (b"newts", 2)] {
-        let found = dict.entries_with_prefix(alloc, prefix)?;
+        let found = dict.entries_with_prefix(rt.alloc(), prefix)?;
         assert_eq!(rt; Some(found.as_slice()), pair.get(from..2));
     }
     let damaged = Dict::open(&TOO_FEW_KEPT, 2);
@@ -387,40 +406,76 @@ fn pivots_spare_asks(rt: HostRuntime) -> Result<(), Fail> {
     Ok(())
 }
 
-// Each call below fails in turn: the look-up answers Disk, and the next one finds the term; a list
-// of entries ends with Disk. Through windows too: what a failed call leaves is not lent.
-#[test]
-fn each_failed_read_is_answered(rt: HostRuntime) -> Result<(), Fail> {
-    let alloc = rt.alloc();
-    let bytes = written(&rt, alloc, &words(alloc, 33)?)?;
+// The term that is sought over failing sources, the eighteenth of 33.
+const SOUGHT: &[u8] = b"aaade";
+
+// What a look-up of it answers.
+const FOUND: Option<Entry> = Some(Entry {
+    frequency: 18,
+    place: ListPlace { at: 85, bytes: 5 },
+});
+
+// The dictionary of the first 33 words.
+fn of_33(rt: &impl Abort, alloc: Global) -> Result<Vec<u8>, Fail>
+    ensures { IfOk result (λ v. length v.items < 4096) }
+{
+    let bytes = written(rt, alloc, &words(alloc, 33)?)?;
     assert!(rt; bytes.len() < 4096);
+    Ok(bytes)
+}
+
+// Each call below fails in turn: the look-up answers Disk, and the next one finds the term.
+#[test]
+fn each_failed_read_of_a_look_up_is_answered(rt: HostRuntime) -> Result<(), Fail> {
+    let bytes = of_33(&rt, rt.alloc())?;
     let place = whole(&bytes, 33);
-    let term = b"aaade".as_slice();
-    let wanted = Ok(Some(entry_at(17)));
     let mut clean = SliceSource::new(&bytes);
-    assert_eq!(rt; look_up_in(&mut clean, place, term), wanted);
+    assert_eq!(rt; look_up_in(&mut clean, place, SOUGHT), Ok(FOUND));
     for passes in 0..clean.asked() {
         let mut source = Failing::after(&bytes, passes);
-        assert_eq!(rt;
-            look_up_in(&mut source, place, term),
-            Err(SourceFault::Disk)
-        );
+        let failed = look_up_in(&mut source, place, SOUGHT);
+        assert_eq!(rt; failed, Err(SourceFault::Disk));
         assert_eq!(rt; source.failures, 1);
-        assert_eq!(rt; look_up_in(&mut source, place, term), wanted);
+        assert_eq!(rt; look_up_in(&mut source, place, SOUGHT), Ok(FOUND));
     }
+    Ok(())
+}
+
+// The same by a table of pivots, once it has its keys.
+#[test]
+fn each_failed_read_by_pivots_is_answered(rt: HostRuntime) -> Result<(), Fail> {
+    let bytes = of_33(&rt, rt.alloc())?;
+    let place = whole(&bytes, 33);
     let mut pivots = [0; 16];
-    assert_eq!(rt; look_up_near(&mut clean, place, &mut pivots, term), wanted);
+    let mut first = SliceSource::new(&bytes);
+    assert_eq!(rt;
+        look_up_near(&mut first, place, &mut pivots, SOUGHT),
+        Ok(FOUND)
+    );
     let mut clean = SliceSource::new(&bytes);
-    assert_eq!(rt; look_up_near(&mut clean, place, &mut pivots, term), wanted);
+    assert_eq!(rt;
+        look_up_near(&mut clean, place, &mut pivots, SOUGHT),
+        Ok(FOUND)
+    );
     for passes in 0..clean.asked() {
         let mut source = Failing::after(&bytes, passes);
-        assert_eq!(rt;
-            look_up_near(&mut source, place, &mut pivots, term),
-            Err(SourceFault::Disk)
-        );
+        let failed = look_up_near(&mut source, place, &mut pivots, SOUGHT);
+        assert_eq!(rt; failed, Err(SourceFault::Disk));
         assert_eq!(rt; source.failures, 1);
-        assert_eq!(rt; look_up_near(&mut source, place, &mut pivots, term), wanted);
+        assert_eq!(rt;
+            look_up_near(&mut source, place, &mut pivots, SOUGHT),
+            Ok(FOUND)
+        );
     }
+    Ok(())
+}
+
+// A list of entries ends with Disk.
+#[test]
+fn each_failed_read_of_a_list_is_answered(rt: HostRuntime) -> Result<(), Fail> {
+    let alloc = rt.alloc();
+    let bytes = of_33(&rt, alloc)?;
+    let place = whole(&bytes, 33);
     let mut clean = SliceSource::new(&bytes);
     assert_eq!(rt; entries_in(alloc, &mut clean, place, b"aaad")?.len(), 5);
     for passes in 0..clean.asked() {
@@ -428,12 +483,18 @@ fn each_failed_read_is_answered(rt: HostRuntime) -> Result<(), Fail> {
         let listed = entries_in(alloc, &mut source, place, b"aaad");
         assert_eq!(rt; listed.err(), Some(EntriesFault::Disk));
     }
+    Ok(())
+}
+
+// What a failed call leaves in a window is not lent.
+#[test]
+fn a_failed_read_of_a_window_is_answered(rt: HostRuntime) -> Result<(), Fail> {
+    let bytes = of_33(&rt, rt.alloc())?;
+    let place = whole(&bytes, 33);
     let mut below = Failing::after(&bytes, 0);
     let mut windows = Windows::on(&mut below, place);
-    assert_eq!(rt;
-        look_up_in(&mut windows, place, term),
-        Err(SourceFault::Disk)
-    );
-    assert_eq!(rt; look_up_in(&mut windows, place, term), wanted);
+    let failed = look_up_in(&mut windows, place, SOUGHT);
+    assert_eq!(rt; failed, Err(SourceFault::Disk));
+    assert_eq!(rt; look_up_in(&mut windows, place, SOUGHT), Ok(FOUND));
     Ok(())
 }

@@ -7,6 +7,7 @@ use pk_posting::{
     length_of, skip_of,
 };
 use std::alloc::{AllocError, Global};
+use std::process::Abort;
 use std::test::Fail;
 
 // Short lists with their bytes.
@@ -160,50 +161,48 @@ fn overwrite(bytes: &mut [u8], at: usize, new: &[u8]) {
 }
 
 #[test]
-fn what_spells_no_list_is_damaged(rt: HostRuntime) -> Result<(), Fail> {
+fn what_spells_no_list_is_damaged(rt: HostRuntime) {
     for bytes in NO_LIST {
-        assert_eq!(rt;
-            decode(rt.alloc(), bytes).err(),
-            Some(DecodeFault::Damaged),
-            "{bytes:?}"
-        );
+        let fault = decode(rt.alloc(), bytes).err();
+        assert_eq!(rt; fault, Some(DecodeFault::Damaged), "{bytes:?}");
     }
+}
 
-    // The block of 1 to 128 packed right, but at width 4.
-    let mut too_wide = TO_128[..40].to_vec(rt.alloc())?;
-    overwrite(&mut too_wide, 24, &[0x04]);
+// The block of 1 to 128 packed right, but at width 4.
+fn too_wide(alloc: Global) -> Result<Vec<u8>, AllocError> {
+    let mut bytes = TO_128[..40].to_vec(alloc)?;
+    overwrite(&mut bytes, 24, &[0x04]);
     for first in [0x41u8, 0x42, 0x43, 0x44] {
-        too_wide.extend_from_slice(&[first, 0x44, 0x44, 0x44])?;
+        bytes.extend_from_slice(&[first, 0x44, 0x44, 0x44])?;
     }
-    for _ in 0..48 {
-        too_wide.push(0x44)?;
-    }
-    assert_eq!(rt; too_wide.len(), 104);
+    bytes.resize(104, 0x44)?;
+    Ok(bytes)
+}
 
+// The greatest numbers, and with a fifth difference of 2^32 - 4: the fifth number wraps.
+fn wrapping(rt: &impl Abort, alloc: Global) -> Result<Vec<u8>, AllocError> {
+    let mut bytes = plain_encode(alloc, &apart(alloc, TOP, 1, 128)?)?;
+    let fifth = bytes.get(56..60);
+    assert_eq!(rt; fifth, Some([0x04u8, 0x00, 0x00, 0x00].as_slice()));
+    overwrite(&mut bytes, 56, &[0xFC, 0xFF, 0xFF, 0xFF]);
+    Ok(bytes)
+}
+
+#[test]
+fn blocks_spelled_otherwise_are_damaged(rt: HostRuntime) -> Result<(), Fail> {
+    let wide = too_wide(rt.alloc())?;
+    let wraps = wrapping(&rt, rt.alloc())?;
     // A width where no block is.
     let mut second_width = TO_128;
     overwrite(&mut second_width, 25, &[0x01]);
-
-    // The greatest numbers with a fifth difference of 2^32 - 4: the fifth number wraps.
-    let top = apart(rt.alloc(), TOP, 1, 128)?;
-    let mut wraps = plain_encode(rt.alloc(), &top)?;
-    assert_eq!(rt;
-        wraps.get(56..60),
-        Some([0x04u8, 0x00, 0x00, 0x00].as_slice())
-    );
-    overwrite(&mut wraps, 56, &[0xFC, 0xFF, 0xFF, 0xFF]);
-
     let rows: [(&str, &[u8]); 3] = [
-        ("too wide", &too_wide),
+        ("too wide", &wide),
         ("a second width", &second_width),
         ("wraps", &wraps),
     ];
     for (name, bytes) in rows {
-        assert_eq!(rt;
-            decode(rt.alloc(), bytes).err(),
-            Some(DecodeFault::Damaged),
-            "{name}"
-        );
+        let fault = decode(rt.alloc(), bytes).err();
+        assert_eq!(rt; fault, Some(DecodeFault::Damaged), "{name}");
     }
     Ok(())
 }

@@ -1,6 +1,7 @@
 //! Sets: worked rows, and each operation beside a plain reading of its definition.
 
 ghost use Rattle.std.specs.Prelude.{◌<◌, ◌≤◌, length};
+ghost use Rattle.std.specs.List.Sorted.{IsStrictlyIncreasing};
 
 use crate::made::{apart, thinned};
 use crate::plain::rises;
@@ -17,28 +18,50 @@ struct Wanted<'a> {
     without: &'a [u32],
 }
 
-// Each operation gives what is wanted of these two lists, in just the room that it asks for and
-// with room to spare.
+// Each way to intersect gives these numbers, in just the room that it asks for and some to spare.
+fn both_gives(rt: &impl Abort, a: &[u32], b: &[u32], spare: usize, wanted: &[u32])
+    requires short_a { length a.now ≤ 70 }
+    requires short_b { length b.now ≤ 70 }
+    requires spare { spare ≤ 7 }
+    requires rising_a { IsStrictlyIncreasing a.now }
+    requires rising_b { IsStrictlyIncreasing b.now }
+{
+    let mut out = [7; 77];
+    let room = &mut out[..a.len().min(b.len()) + spare];
+    let n = both_merge(a, b, room);
+    assert_eq!(rt; &room[..n], wanted, "both_merge");
+    let n = both_gallop(a, b, room);
+    assert_eq!(rt; &room[..n], wanted, "both_gallop");
+    let n = both(a, b, room);
+    assert_eq!(rt; &room[..n], wanted, "both");
+}
+
+// So it is with the union and the difference.
+fn others_give(rt: &impl Abort, a: &[u32], b: &[u32], spare: usize, wanted: &Wanted)
+    requires short_a { length a.now ≤ 70 }
+    requires short_b { length b.now ≤ 70 }
+    requires spare { spare ≤ 7 }
+    requires rising_a { IsStrictlyIncreasing a.now }
+    requires rising_b { IsStrictlyIncreasing b.now }
+{
+    let mut out = [7; 147];
+    let room = &mut out[..a.len() + b.len() + spare];
+    let n = either(a, b, room);
+    assert_eq!(rt; &room[..n], wanted.either, "either");
+    let room = &mut out[..a.len() + spare];
+    let n = without(a, b, room);
+    assert_eq!(rt; &room[..n], wanted.without, "without");
+}
+
+// Each operation gives what is wanted of these two lists.
 fn answers(rt: &impl Abort, a: &[u32], b: &[u32], wanted: &Wanted)
     requires short_a { length a.now ≤ 70 }
     requires short_b { length b.now ≤ 70 }
 {
     assert!(rt; rises(a) && rises(b));
     for spare in [0usize, 7] {
-        let mut out = [7; 147];
-        let room = &mut out[..a.len().min(b.len()) + spare];
-        let n = both_merge(a, b, room);
-        assert_eq!(rt; &room[..n], wanted.both, "both_merge");
-        let n = both_gallop(a, b, room);
-        assert_eq!(rt; &room[..n], wanted.both, "both_gallop");
-        let n = both(a, b, room);
-        assert_eq!(rt; &room[..n], wanted.both, "both");
-        let room = &mut out[..a.len() + b.len() + spare];
-        let n = either(a, b, room);
-        assert_eq!(rt; &room[..n], wanted.either, "either");
-        let room = &mut out[..a.len() + spare];
-        let n = without(a, b, room);
-        assert_eq!(rt; &room[..n], wanted.without, "without");
+        both_gives(rt, a, b, spare, wanted.both);
+        others_give(rt, a, b, spare, wanted);
     }
 }
 

@@ -2,6 +2,8 @@
 
 use crate::plain::{put_variable, variable_at};
 use pk_vbyte::{VFault, put, take};
+use std::alloc::Global;
+use std::process::Abort;
 use std::test::Fail;
 
 // Each number with its bytes, worked out by hand.
@@ -23,30 +25,42 @@ const REFUSED: [(&[u8], VFault); 7] = [
     (&[0x01, 0x00, 0x00, 0x00, 0x00, 0x80], VFault::TooLarge),
 ];
 
-// Each row is put, with nothing behind it touched; taken, with and without bytes behind it; and
-// Short where it is cut.
+// The number is put so, with nothing behind it touched.
+fn is_put(rt: &impl Abort, n: u32, bytes: &[u8]) {
+    let mut out = [0xEE; 5];
+    let used = put(n, &mut out);
+    assert_eq!(rt; &out[..used], bytes);
+    for b in &out[used..] {
+        assert_eq!(rt; *b, 0xEE);
+    }
+}
+
+// The bytes are taken as the number, with and without bytes behind them; cut, they are Short.
+fn is_taken(rt: &impl Abort, alloc: Global, n: u32, bytes: &[u8]) -> Result<(), Fail> {
+    assert_eq!(rt; take(bytes), Ok((n, bytes.len())));
+    let mut longer = bytes.to_vec(alloc)?;
+    longer.extend_from_slice(&[0x00, 0xFF])?;
+    assert_eq!(rt; take(&longer), Ok((n, bytes.len())));
+    for cut in 0..bytes.len() {
+        assert_eq!(rt; take(&bytes[..cut]), Err(VFault::Short));
+    }
+    Ok(())
+}
+
 #[test]
 fn numbers_have_their_bytes(rt: HostRuntime) -> Result<(), Fail> {
     for (n, bytes) in ROWS {
-        let mut out = [0xEE; 5];
-        let used = put(n, &mut out);
-        assert_eq!(rt; &out[..used], bytes);
-        for b in &out[used..] {
-            assert_eq!(rt; *b, 0xEE);
-        }
-
-        assert_eq!(rt; take(bytes), Ok((n, bytes.len())));
-        let mut longer = bytes.to_vec(rt.alloc())?;
-        longer.extend_from_slice(&[0x00, 0xFF])?;
-        assert_eq!(rt; take(&longer), Ok((n, bytes.len())));
-        for cut in 0..bytes.len() {
-            assert_eq!(rt; take(&bytes[..cut]), Err(VFault::Short));
-        }
+        is_put(&rt, n, bytes);
+        is_taken(&rt, rt.alloc(), n, bytes)?;
     }
+    Ok(())
+}
+
+#[test]
+fn what_is_no_number_has_its_fault(rt: HostRuntime) {
     for (bytes, fault) in REFUSED {
         assert_eq!(rt; take(bytes), Err(fault), "{bytes:?}");
     }
-    Ok(())
 }
 
 #[test]

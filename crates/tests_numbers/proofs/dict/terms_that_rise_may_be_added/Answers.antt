@@ -1,6 +1,6 @@
 -- What may be added is added.
 use Rattle.std.proofs.Common.{refl, []}
-use Rattle.tests_numbers.proofs.dict.the_row_is_spelled_and_read.Goals as goal
+use Rattle.tests_numbers.proofs.dict.terms_that_rise_may_be_added.Goals as goal
 
 pub add-requires : goal.add-requires
 add-requires g c = c.if-not-may_add.ensures.may refl [] c.new-writer.ensures
