@@ -27,8 +27,8 @@ pub struct Player {
     alloc: Global,
     /// The disk, where no store is open.
     disk: Option<MemoryDisk>,
-    /// The open store.
-    store: Option<OpenStore>,
+    /// The open store. In a box, since a `None` of all three kinds of store is dear to prove.
+    store: Option<Box<OpenStore>>,
     /// The call that fails once the next store is opened or created.
     failing: u64,
     /// Whether that one fails alone, or all later ones too.
@@ -182,8 +182,8 @@ impl Player {
     fn take_step(&mut self, step: &str, rest: &str) -> Result<&'static str, AllocError> {
         match step {
             "!disk" => self.put_disk(size(rest)),
-            "!create" => Ok(self.put_store(true)),
-            "!open" => Ok(self.put_store(false)),
+            "!create" => self.put_store(true),
+            "!open" => self.put_store(false),
             "!close" => Ok(self.close()),
             "!blocks" => Ok(self.set_blocks(number(rest))),
             "!pages" => Ok(self.set_pages(number(rest))),
@@ -198,11 +198,13 @@ impl Player {
 
     /// What the shell answers a line.
     fn ask(&mut self, line: &str) -> Result<String, AllocError> {
-        match &mut self.store {
-            Some(OpenStore::Bare(store)) => told(self.alloc, store, line),
-            Some(OpenStore::Paged(store)) => told(self.alloc, store, line),
-            Some(OpenStore::Plain(store)) => told(self.alloc, store, line),
-            None => String::from_str(self.alloc, "no store"),
+        let Some(store) = &mut self.store else {
+            return String::from_str(self.alloc, "no store");
+        };
+        match &mut **store {
+            OpenStore::Bare(store) => told(self.alloc, store, line),
+            OpenStore::Paged(store) => told(self.alloc, store, line),
+            OpenStore::Plain(store) => told(self.alloc, store, line),
         }
     }
 
@@ -247,9 +249,9 @@ impl Player {
 
     /// Makes a store on the disk, or opens the one there. A page cache is over the disk itself where
     /// no call is to fail.
-    fn put_store(&mut self, is_new: bool) -> &'static str {
+    fn put_store(&mut self, is_new: bool) -> Result<&'static str, AllocError> {
         let Some(disk) = self.disk.take() else {
-            return "no disk";
+            return Ok("no disk");
         };
         if self.pages == 0 {
             return self.put_bare(disk, is_new);
@@ -261,37 +263,37 @@ impl Player {
     }
 
     /// A store on a device.
-    fn put_bare(&mut self, disk: MemoryDisk, is_new: bool) -> &'static str {
+    fn put_bare(&mut self, disk: MemoryDisk, is_new: bool) -> Result<&'static str, AllocError> {
         let device = self.device(disk);
         match store_on(self.alloc, device, self.blocks, is_new) {
             Ok(store) => self.keep(OpenStore::Bare(store), is_new),
-            Err((device, why)) => self.take_device(device, why),
+            Err((device, why)) => Ok(self.take_device(device, why)),
         }
     }
 
     /// A store on a page cache over a device.
-    fn put_paged(&mut self, disk: MemoryDisk, is_new: bool) -> &'static str {
+    fn put_paged(&mut self, disk: MemoryDisk, is_new: bool) -> Result<&'static str, AllocError> {
         let device = self.device(disk);
         let cache = PageCache::new(self.alloc, device, self.pages);
         match store_on(self.alloc, cache, self.blocks, is_new) {
             Ok(store) => self.keep(OpenStore::Paged(store), is_new),
-            Err((cache, why)) => self.take_device(cache.into_inner(), why),
+            Err((cache, why)) => Ok(self.take_device(cache.into_inner(), why)),
         }
     }
 
     /// A store on a page cache over the disk itself.
-    fn put_plain(&mut self, disk: MemoryDisk, is_new: bool) -> &'static str {
+    fn put_plain(&mut self, disk: MemoryDisk, is_new: bool) -> Result<&'static str, AllocError> {
         let cache = PageCache::new(self.alloc, disk, self.pages);
         match store_on(self.alloc, cache, self.blocks, is_new) {
             Ok(store) => self.keep(OpenStore::Plain(store), is_new),
-            Err((cache, why)) => self.take_disk(cache.into_inner(), why),
+            Err((cache, why)) => Ok(self.take_disk(cache.into_inner(), why)),
         }
     }
 
     /// Keeps a store that was made or opened.
-    fn keep(&mut self, store: OpenStore, is_new: bool) -> &'static str {
-        self.store = Some(store);
-        if is_new { "created" } else { "opened" }
+    fn keep(&mut self, store: OpenStore, is_new: bool) -> Result<&'static str, AllocError> {
+        self.store = Some(Box::new(self.alloc, store)?);
+        Ok(if is_new { "created" } else { "opened" })
     }
 
     /// Keeps the disk of a device that was handed back; the answer is `why`.
@@ -308,11 +310,13 @@ impl Player {
 
     /// Takes the disk of the store.
     fn close(&mut self) -> &'static str {
-        match self.store.take() {
-            Some(OpenStore::Bare(store)) => self.take_device(store.close(), ""),
-            Some(OpenStore::Paged(store)) => self.take_device(store.close().into_inner(), ""),
-            Some(OpenStore::Plain(store)) => self.take_disk(store.close().into_inner(), ""),
-            None => "no store",
+        let Some(store) = self.store.take() else {
+            return "no store";
+        };
+        match Box::into_inner(store) {
+            OpenStore::Bare(store) => self.take_device(store.close(), ""),
+            OpenStore::Paged(store) => self.take_device(store.close().into_inner(), ""),
+            OpenStore::Plain(store) => self.take_disk(store.close().into_inner(), ""),
         }
     }
 
