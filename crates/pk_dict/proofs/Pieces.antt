@@ -1,8 +1,8 @@
 -- What a piece at hand says, the dictionary's bytes say.
-use Rattle.std.proofs.Common.{◌≡◌, ◌≤◌, ◌<◌, ◌+◌, ◌-◌, ◌∙◌, ℕ, List, length, take, drop, sym, ap, arith, get_or, Ok}
-use Rattle.std.proofs.lemmas.Bool.{lt-ltb}
-use Rattle.std.proofs.lemmas.List.{drop-take, take-take, drop-drop, take-append-drop, take_rest, get_or-take, get_or-drop}
-use Rattle.pk_vbyte.specs.VariableByte.{taken}
+use Rattle.std.proofs.Common.{◌≡◌, ◌≤◌, ◌∷◌, ◌<◌, ◌+◌, ◌-◌, ◌∙◌, ◌^◌, ℕ, List, length, take, drop, sym, ap, arith, refl, get_or, Ok}
+use Rattle.std.proofs.lemmas.Bool.{lt-ltb, le-ltb, ne_eqb}
+use Rattle.std.proofs.lemmas.List.{drop-take, take-take, drop-drop, take-append-drop, take_rest, drop_more, get_or-take, get_or-drop}
+use Rattle.pk_vbyte.specs.VariableByte.{ended, taken, taken_on}
 use Rattle.pk_vbyte.proofs.CallerLemmas.{taken_longer}
 use Rattle.pk_dict.specs.declared.entry.DictPlace.{DictPlace}
 use Rattle.pk_dict.specs.Dictionary.{shared}
@@ -45,16 +45,37 @@ shared_near bytes start at n piece term m v p le inside e =
     ∙ ap (λ (l : List ℕ). shared (take n (drop (at - start) piece)) l) (take_rest term m)
     ∙ ap (λ (l : List ℕ). shared l (drop m term)) (rest_near bytes start at n piece p le inside))
 
+-- the byte at a place that the piece has
+same_byte : (bytes : List ℕ) (start at : ℕ) (piece : List ℕ) → IsPieceAt bytes start piece → start ≤ at → at < start + length piece → get_or piece (at - start) 0 ≡ get_or bytes at 0
+same_byte bytes start at piece p le inside =
+    let k : ℕ = at - start in
+    let whole : start + k ≡ at = omega arith in
+    ap (λ (l : List ℕ). get_or l k 0) p.is ∙ get_or-take (length piece) (drop start bytes) k 0 (omega arith)
+    ∙ get_or-drop start bytes k 0 ∙ ap (λ (i : ℕ). get_or bytes i 0) whole
+
 -- a byte that the piece has
 pub byte_near : (bytes : List ℕ) (start at : ℕ) (piece : List ℕ) → IsPieceAt bytes start piece → start ≤ at → at < start + length piece → byte_at bytes at ≡ Ok (get_or piece (at - start) 0)
 unfolding byte_at
 byte_near bytes start at piece p le inside =
-    let k : ℕ = at - start in
-    let whole : start + k ≡ at = omega arith in
-    let same : get_or piece k 0 ≡ get_or bytes at 0 =
-    ap (λ (l : List ℕ). get_or l k 0) p.is ∙ get_or-take (length piece) (drop start bytes) k 0 (omega arith)
-    ∙ get_or-drop start bytes k 0 ∙ ap (λ (i : ℕ). get_or bytes i 0) whole in
-    rw (lt-ltb at (length bytes) (omega (arith, p.inside))) (ap Ok (sym same))
+    rw (lt-ltb at (length bytes) (omega (arith, p.inside))) (ap Ok (sym (same_byte bytes start at piece p le inside)))
+
+ended_well : (v k : ℕ) → v < 2 ^ 32 → ended v k ≡ Ok (v, k)
+unfolding ended
+ended_well v k few = rw (lt-ltb v (2 ^ 32) few) refl
+
+one_taken : (b : ℕ) (rest : List ℕ) → 128 ≤ b → b < 256 → taken (b ∷ rest) ≡ Ok (b - 128, 1)
+unfolding taken taken_on
+one_taken b rest last few =
+    let same : 0 + (b - 128) ≡ b - 128 = omega arith in
+    rw (ne_eqb b 0 (λ (q : b ≡ 0). omega arith)) (rw (le-ltb b 128 last) (ended_well (0 + (b - 128)) 1 (omega arith) ∙ ap (λ (v : ℕ). Ok (v, 1)) same))
+
+-- a number of one byte that the piece has
+pub one_near : (bytes : List ℕ) (start at v : ℕ) (piece : List ℕ) → IsPieceAt bytes start piece → start ≤ at → at < start + length piece → get_or piece (at - start) 0 ≡ v + 128 → v < 128 → number_at bytes at ≡ Ok (v, at + 1)
+unfolding number_at
+one_near bytes start at v piece p le inside last few =
+    let less : v + 128 - 128 ≡ v = omega arith in
+    ap (after at) (ap taken (drop_more bytes at 0 (omega (arith, p.inside)) ∙ ap (λ (x : ℕ). x ∷ drop (at + 1) bytes) (sym (same_byte bytes start at piece p le inside) ∙ last))
+    ∙ one_taken (v + 128) (drop (at + 1) bytes) (omega arith) (omega arith) ∙ ap (λ (n : ℕ). Ok (n, 1)) less)
 
 -- a byte after so many of a rest
 pub next_near : (bytes : List ℕ) (start at k : ℕ) (piece : List ℕ) → IsPieceAt bytes start piece → start ≤ at → at + k < start + length piece → byte_at bytes (at + k) ≡ Ok (get_or piece (at - start + k) 0)

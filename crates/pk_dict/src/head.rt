@@ -3,7 +3,7 @@
 use crate::entry::Entry;
 
 /// Where the parts of a term lie.
-#[derive(Clone, Copy)]
+#[derive(Drop)]
 pub(crate) struct Head {
     /// Where the rest of the term lies, after the bytes that it keeps of the term before.
     pub(crate) rest: u32,
@@ -16,7 +16,7 @@ pub(crate) struct Head {
 }
 
 /// What a term is to the wanted one.
-#[derive(Clone, Copy)]
+#[derive(Drop)]
 pub(crate) enum Step {
     /// It is less: how many bytes both share, and the place after it.
     Less(usize, u32),
@@ -26,8 +26,18 @@ pub(crate) enum Step {
     Past,
 }
 
+/// How far a scan of a group's terms came.
+#[derive(Drop)]
+pub(crate) enum Scan {
+    /// So many terms are left: how many bytes the one before them shares with the wanted one, and
+    /// the place of the first of them.
+    Open(u32, usize, u32),
+    /// It is at its end: the entry of the wanted term, if that is among the terms.
+    Done(Option<Entry>),
+}
+
 /// Where a term stands among the first terms of the groups.
-#[derive(Clone, Copy)]
+#[derive(Drop)]
 pub(crate) enum Standing {
     /// It is the first term of this group.
     First(u32, Entry),

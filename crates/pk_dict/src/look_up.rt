@@ -246,8 +246,9 @@ fn probe<S: ByteSource>(
 }
 
 // Where a term stands among the first terms of the groups: the groups at both ends of the range in
-// which the table has it are read first. Before the first group there is none: the number that
-// stands for it is past all groups.
+// which the table has it are read first, the lesser one last, since a scan goes on behind its first
+// term, where a window still has what follows. Before the first group there is none: the number
+// that stands for it is past all groups.
 fn stand_near<S: ByteSource>(
     source: &mut S,
     place: DictPlace,
@@ -272,8 +273,8 @@ fn stand_near<S: ByteSource>(
         matched: 0,
         next: 0,
     });
-    let search = probe(source, place, term, bounds.low.wrapping_sub(1), search)?;
     let search = probe(source, place, term, bounds.high, search)?;
+    let search = probe(source, place, term, bounds.low.wrapping_sub(1), search)?;
     match search {
         Search::Done(standing) => Ok(standing),
         Search::Open(between) => { narrow_from(source, place, term, between, pivots, bounds.node) }

@@ -13,23 +13,32 @@ ghost use Rattle.std.specs.Prelude.{
   IfSome,
 };
 ghost use Rattle.pk_dict.specs.Reading.{
+  IsFewer,
+  IsFrom,
   IsPieceAt,
   IsWithin,
+  Leaves,
   compared_at,
   head_at,
+  next_at,
   number_at,
+  scan_at,
   step_at,
 };
 
 use crate::compare::shared_front;
 use crate::entry::Entry;
-use crate::head::{Head, Step};
+use crate::head::{Head, Scan, Step};
 use pk_keys::key;
 use pk_posting::ListPlace;
 use pk_vbyte::take;
 
 // The number at a place, and the place after it, where the piece that begins at `start` has all
-// of it.
+// of it. Most numbers have one byte.
+//
+// This and what calls it are inlined: else each pair of numbers would go through memory, where two
+// short writes that one read takes up cost more than all the rest of a term.
+#[inline(always)]
 fn number_in(piece: &[u8], start: u32, at: u32) -> Option<(u32, u32)>
     requires short { start + length piece.now < 2 ^ 32 }
     requires after { start ≤ at }
@@ -38,8 +47,12 @@ fn number_in(piece: &[u8], start: u32, at: u32) -> Option<(u32, u32)>
     ensures inside { IfSome result (λ r. (at ≤ r.1) × (r.1 ≤ start + length piece.now)) }
 {
     let from = (at - start) as usize;
-    if piece.len() < from {
+    if piece.len() <= from {
         return None;
+    }
+    let first = piece[from];
+    if first >= 128 {
+        return Some((u32::from(first - 128), at + 1));
     }
     match take(&piece[from..]) {
         Ok((n, taken)) => Some((n, at + taken as u32)),
@@ -58,6 +71,7 @@ pub(crate) fn key_in(piece: &[u8]) -> u64 {
 }
 
 // Where the parts of the term at a place lie, where the piece has all of them.
+#[inline(always)]
 #[tactic(auto, unfolding(crate::specs::Reading::head_at, crate::specs::Reading::entry_at))]
 fn head_in(piece: &[u8], start: u32, at: u32) -> Option<Head>
     requires short { start + length piece.now < 2 ^ 32 }
@@ -66,6 +80,7 @@ fn head_in(piece: &[u8], start: u32, at: u32) -> Option<Head>
         → IfSome result (λ h. head_at bytes at ≡ Ok h) }
     ensures inside { IfSome result (λ h. (start ≤ h.rest)
         × (h.rest + h.size ≤ start + length piece.now)) }
+    ensures next { IfSome result (λ h. start ≤ h.next) }
 {
     let (size, rest) = number_in(piece, start, at)?;
     let end = rest.checked_add(size)?;
@@ -83,14 +98,17 @@ fn head_in(piece: &[u8], start: u32, at: u32) -> Option<Head>
 
 // What the rest of a term says that the piece has, where it and the wanted term share the first
 // bytes.
+#[inline(always)]
 #[tactic(auto, unfolding(crate::specs::Reading::compared_at))]
 fn compared_in(piece: &[u8], start: u32, head: Head, term: &[u8], matched: usize) -> Step
     requires within { matched ≤ length term.now }
     requires after { start ≤ head.rest }
     requires inside { head.rest + head.size ≤ start + length piece.now }
+    requires next { start ≤ head.next }
     ensures value { (bytes : List ℕ) → IsPieceAt bytes start piece.now
         → compared_at bytes head term.now matched ≡ Ok result }
     ensures matched { IsWithin (length term.now) result }
+    ensures next { IsFrom start result }
 {
     let from = (head.rest - start) as usize;
     let size = head.size as usize;
@@ -110,6 +128,7 @@ fn compared_in(piece: &[u8], start: u32, head: Head, term: &[u8], matched: usize
 
 /// What the term at a place is to the wanted one, as `step` says it, where the piece that begins
 /// at `start` has all of the term and no damage.
+#[inline(always)]
 #[tactic(auto, unfolding(crate::specs::Reading::step_at))]
 pub(crate) fn step_in(
     piece: &[u8],
@@ -125,6 +144,7 @@ pub(crate) fn step_in(
     ensures value { (bytes : List ℕ) → IsPieceAt bytes start piece.now
         → IfSome result (λ s. step_at bytes term.now kept matched at ≡ Ok s) }
     ensures matched { IfSome result (IsWithin (length term.now)) }
+    ensures next { IfSome result (IsFrom start) }
 {
     let head = head_in(piece, start, at)?;
     if matched < kept {
@@ -138,4 +158,60 @@ pub(crate) fn step_in(
         return Some(Step::Past);
     }
     None
+}
+
+// What the next term of a group is to the wanted one, where the piece has all of it: it says first
+// how much it keeps.
+#[inline(always)]
+#[tactic(auto, unfolding(crate::specs::Reading::next_at))]
+fn next_in(piece: &[u8], start: u32, at: u32, term: &[u8], matched: usize) -> Option<Step>
+    requires short { start + length piece.now < 2 ^ 32 }
+    requires after { start ≤ at }
+    requires within { matched ≤ length term.now }
+    ensures value { (bytes : List ℕ) → IsPieceAt bytes start piece.now
+        → IfSome result (λ s. next_at bytes term.now matched at ≡ Ok s) }
+    ensures matched { IfSome result (IsWithin (length term.now)) }
+    ensures next { IfSome result (IsFrom start) }
+{
+    let (kept, at) = number_in(piece, start, at)?;
+    step_in(piece, start, at, term, kept as usize, matched)
+}
+
+/// How far the scan of the next terms of a group comes, where the piece that begins at `start` has
+/// them whole; None where it has not even the first of them.
+#[tactic(auto, unfolding(crate::specs::Reading::scan_at))]
+pub(crate) fn scan_in(
+    piece: &[u8],
+    start: u32,
+    count: u32,
+    term: &[u8],
+    matched: usize,
+    at: u32,
+) -> Option<Scan>
+    requires short { start + length piece.now < 2 ^ 32 }
+    requires after { start ≤ at }
+    requires within { matched ≤ length term.now }
+    ensures value { (bytes : List ℕ) → IsPieceAt bytes start piece.now
+        → IfSome result (Leaves bytes term.now (scan_at count bytes term.now matched at)) }
+    ensures fewer { IfSome result (IsFewer count (length term.now)) }
+{
+    let mut matched = matched;
+    let mut at = at;
+    for done in 0..count {
+        let Some(step) = next_in(piece, start, at, term, matched) else {
+            if done == 0 {
+                return None;
+            }
+            return Some(Scan::Open(count - done, matched, at));
+        };
+        match step {
+            Step::Less(now, next) => {
+                matched = now;
+                at = next;
+            }
+            Step::Found(entry) => return Some(Scan::Done(Some(entry))),
+            Step::Past => return Some(Scan::Done(None)),
+        }
+    }
+    Some(Scan::Done(None))
 }

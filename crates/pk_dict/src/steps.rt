@@ -1,12 +1,16 @@
 //! One term against the wanted one, and the terms of a group.
 
-ghost use Rattle.std.specs.Prelude.{◌≡◌, ◌≤◌, ◌<◌, ◌+◌, ◌*◌, ◌^◌, ℕ, length, IfOk, Ok};
+ghost use Rattle.std.specs.Prelude.{◌≡◌, ◌≤◌, ◌<◌, ◌+◌, ◌*◌, ◌^◌, ℕ, List, length, IfOk, MatchResult, Ok};
 ghost use Rattle.pk_dict.specs.Place.{LiesIn, bytes_at};
 ghost use Rattle.pk_dict.specs.Reading.{
+  Fails,
   Gives,
+  IsFewer,
   IsWithin,
+  Leaves,
   apart_at,
   compared_at,
+  going_on,
   group_at,
   head_at,
   next_at,
@@ -20,13 +24,18 @@ ghost use Rattle.pk_dict.specs.Source.{stretches_of};
 use crate::compare::shared_with;
 use crate::entry::{DictPlace, Entry};
 use crate::fields::{byte, entry, number, offset};
-use crate::head::{Head, Step};
-use crate::near::{key_in, step_in};
+use crate::head::{Head, Scan, Step};
+use crate::near::{key_in, scan_in, step_in};
+use crate::windows::WINDOW;
 use pk_posting::{ByteSource, SourceFault};
 use pk_vbyte::take;
 
 // How many bytes are asked for at a term: most terms and what is said of them have fewer.
 const NEAR: u32 = 32;
+
+// How many bytes a scan asks for at once: a window that was read at the first term of a group has so
+// many behind that term, where the term has no more than NEAR.
+const PIECE: u32 = WINDOW as u32 - NEAR;
 
 // Where the rest of a term lies, what is said of the term, and where the next one begins.
 #[tactic(auto, unfolding(crate::specs::Reading::head_at))]
@@ -201,38 +210,59 @@ pub(crate) fn step<S: ByteSource>(
     far_step(source, place, term, kept, matched, size, at + taken as u32)
 }
 
-// What the next term of a group is to the wanted one: it says first how much it keeps.
+// How a scan goes on after a term, where so many are left.
+fn went(step: Step, left: u32) -> Scan
+    ensures value { (bytes term : List ℕ)
+        → Leaves bytes term (going_on (scan_at left bytes term) step) result }
+    ensures fewer { (count n : ℕ) → left < count → IsWithin n step → IsFewer count n result }
+{
+    match step {
+        Step::Less(matched, next) => Scan::Open(left, matched, next),
+        Step::Found(entry) => Scan::Done(Some(entry)),
+        Step::Past => Scan::Done(None),
+    }
+}
+
+// How far the scan of the next terms of a group comes by one piece. Where that has not all of the
+// first of them, more is asked for, and the scan comes by this one alone: so each term costs no more
+// asks than if it were read by itself.
 #[tactic(auto, unfolding(crate::specs::Reading::next_at))]
-fn next_step<S: ByteSource>(
+fn scan_on<S: ByteSource>(
     source: &mut S,
     place: DictPlace,
+    count: u32,
     term: &[u8],
     matched: usize,
     at: u32,
-) -> Result<Step, SourceFault>
+) -> Result<Scan, SourceFault>
     requires lies { LiesIn place (length (S.content source.old)) }
+    requires some { 0 < count }
     requires within { matched ≤ length term.now }
-    ensures value { S.honest → Gives result
-        (next_at (bytes_at (S.content source.old) place) term.now matched at) }
-    ensures matched { IfOk result (IsWithin (length term.now)) }
+    ensures value { S.honest → MatchResult result
+        (Leaves (bytes_at (S.content source.old) place) term.now
+        (scan_at count (bytes_at (S.content source.old) place) term.now matched at))
+        (λ e. Fails e
+        (scan_at count (bytes_at (S.content source.old) place) term.now matched at)) }
+    ensures fewer { IfOk result (IsFewer count (length term.now)) }
     ensures left { IsRead S.honest S.content S.asked S.failures S.keeps
         (6 + stretches_of (length term.now)) result source.old source.new }
 {
     if place.bytes < at {
         return Err(SourceFault::Damaged);
     }
-    let piece = source.bytes(place.at + at, (place.bytes - at).min(NEAR))?;
+    let piece = source.bytes(place.at + at, (place.bytes - at).min(PIECE))?;
+    if let Some(scan) = scan_in(piece, at, count, term, matched, at) {
+        return Ok(scan);
+    }
     let Ok((kept, taken)) = take(piece) else {
         return Err(SourceFault::Damaged);
     };
     let start = at + taken as u32;
-    if let Some(step) = step_in(piece, at, start, term, kept as usize, matched) {
-        return Ok(step);
-    }
-    step(source, place, term, kept as usize, matched, start, &mut 0)
+    let step = step(source, place, term, kept as usize, matched, start, &mut 0)?;
+    Ok(went(step, count - 1))
 }
 
-// The wanted term among the next terms of a group.
+// The wanted term among the next terms of a group, piece by piece.
 #[tactic(auto, unfolding(crate::specs::Reading::scan_at))]
 pub(crate) fn scan<S: ByteSource>(
     source: &mut S,
@@ -249,16 +279,17 @@ pub(crate) fn scan<S: ByteSource>(
     ensures left { IsRead S.honest S.content S.asked S.failures S.keeps
         (count * (6 + stretches_of (length term.now))) result source.old source.new }
 {
+    let mut left = count;
     let mut matched = matched;
     let mut at = at;
-    for _ in 0..count {
-        match next_step(source, place, term, matched, at)? {
-            Step::Less(now, next) => {
-                matched = now;
+    while left > 0 {
+        match scan_on(source, place, left, term, matched, at)? {
+            Scan::Open(now, shared, next) => {
+                left = now;
+                matched = shared;
                 at = next;
             }
-            Step::Found(entry) => return Ok(Some(entry)),
-            Step::Past => return Ok(None),
+            Scan::Done(entry) => return Ok(entry),
         }
     }
     Ok(None)

@@ -43,7 +43,7 @@ use crate::look_up::groups_of;
 use pk_posting::{ByteSource, SourceFault};
 
 /// How many bytes a window reads at once.
-const WINDOW: usize = 128;
+pub(crate) const WINDOW: usize = 128;
 
 // What was read last of a part of a source.
 #[derive(Drop)]

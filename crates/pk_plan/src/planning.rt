@@ -26,11 +26,14 @@ pub fn plan(alloc: Global, query: &Query, frequencies: &[(String, u32)]) -> Resu
     Ok(plan)
 }
 
-// The same, said of the words of one document.
+// The same, said of the words of one document. A word alone is its own plan.
 #[cycle(planning)]
 fn plan_of(alloc: Global, query: &Query, table: &[(String, u32)]) -> Result<Plan, AllocError>
     ensures { IfOk result (IsPlanOf table.now (tree_of query.now)) }
 {
+    if let Query::Term(word) = query {
+        return Ok(Plan::Term(word.clone()?));
+    }
     let mut plans = Vec::new(alloc);
     join(alloc, query, table, &mut plans)?;
     Ok(united(plans))

@@ -51,6 +51,9 @@ pub(crate) fn keep_without(
     ensures numbers { OnOk result (numbers.new.items ≡ difference numbers.old.items list.now) }
     ensures rising { OnOk result (IsStrictlyIncreasing numbers.new.items) }
 {
+    if list.is_empty() {
+        return Ok(());
+    }
     without_into(numbers, list, spare)?;
     swap(numbers, spare);
     Ok(())

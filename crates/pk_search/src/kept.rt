@@ -91,6 +91,7 @@ pub(crate) fn copy_kept<S: ByteSource>(
 {
     out.clear();
     let shape = Shape::read(source, place)?;
+    out.reserve(shape.count as usize)?;
     put_blocks(source, cache, id, place, shape, out)?;
     put_tail(source, place, shape, out)
 }

@@ -134,12 +134,16 @@ fn frequency_at(kept: &[Vec<WordEntry>], place: usize) -> u32 {
     sum
 }
 
-/// Each word, with the sum of its frequencies over the segments of which entries are kept.
+/// Each word, with the sum of its frequencies over the segments of which entries are kept. A word
+/// alone stands in no order, and needs none.
 pub(crate) fn frequencies_of(
     alloc: Global,
     words: &[&str],
     kept: &[Vec<WordEntry>],
 ) -> Result<Vec<(String, u32)>, AllocError> {
+    if words.len() < 2 {
+        return Ok(Vec::new(alloc));
+    }
     let mut table = Vec::with_capacity(alloc, words.len())?;
     for place in 0..words.len() {
         let word = String::from_str(alloc, words[place])?;

@@ -331,6 +331,7 @@ fn put_numbers(numbers: &[u32], found: &mut Vec<DocNo>) -> Result<(), AllocError
     ensures { OnOk result (numbers_in found.new.items
         ≡ numbers_in found.old.items ++ numbers.now) }
 {
+    found.reserve(numbers.len())?;
     for number in numbers {
         found.push(DocNo(*number))?;
     }

@@ -380,7 +380,17 @@ fn each_window_keeps_its_bytes(rt: HostRuntime) -> Result<(), Fail> {
 
 // Of 4,096 words each group begins with one that another look-up came by, once each word was looked
 // up: then the two groups that a word stands between are asked for, by their offsets and their first
-// terms, and the terms of the first of them up to the word.
+// terms, and pieces of 96 bytes of the first of them up to the word, each from the term on that the
+// piece before has not whole.
+//
+// A term here has a byte for how much it keeps, one for how long its rest is, the rest, which is the
+// last letter or at each fifth word the last two, and its numbers:
+// - the fifth term of group 100: its numbers take 2 + 2 + 1 bytes, so one piece has it: 4 + 1 asks;
+// - the fifteenth: eleven terms take 9 * 8 + 2 * 9 = 90 bytes, and the twelfth goes past 96, so a
+//   second piece has it: 4 + 2;
+// - the fifth of group 0: one piece: 4 + 1;
+// - the tenth of the last group, behind which there is none: the numbers take 2 + 3 + 1 bytes, so ten
+//   terms take 8 * 9 + 2 * 10 = 92, and one piece has them: 2 + 1.
 #[test]
 fn pivots_spare_asks(rt: HostRuntime) -> Result<(), Fail> {
     let alloc = rt.alloc();
@@ -394,7 +404,7 @@ fn pivots_spare_asks(rt: HostRuntime) -> Result<(), Fail> {
         let found = look_up_near(&mut source, place, &mut pivots, word);
         assert_eq!(rt; found, Ok(Some(*entry)));
     }
-    for (at, asks) in [(1605usize, 9u64), (1615, 19), (5, 9), (4090, 12)] {
+    for (at, asks) in [(1605usize, 5u64), (1615, 6), (5, 5), (4090, 3)] {
         let Some((word, entry)) = words.get(at) else {
             return Err(Fail::from("a word that is not there"));
         };

@@ -16,6 +16,6 @@ returns-clause-numbers g c = λ h xs lies mine.
     let here = subst (λ (x : List ℕ). HasShape (bytes_at x place) shape xs) same has in
     let kept = subst (λ (x : List ℕ). KeepsBlocksOf c.args.id x (Some c.args.cache.now)) same mine in
     let there = subst (λ (x : List ℕ). HasShape (bytes_at x place) shape xs) (sym (c.in_ok-put_blocks.ensures.content h)) here in
-    let whole = c.in_ok-put_blocks.ensures.numbers h xs here kept ∙ ap (λ (ns : List ℕ). ns ++ take n xs) c.clear.ensures.items in
+    let whole = c.in_ok-put_blocks.ensures.numbers h xs here kept ∙ ap (λ (ns : List ℕ). ns ++ take n xs) (c.reserve.ensures.items ∙ c.clear.ensures.items) in
     subst (λ (ns : List ℕ). PutsAs ns c.put_tail.new.out.items c.put_tail.result)
     (ap (λ (ns : List ℕ). ns ++ drop n xs) whole ∙ take-append-drop n xs) (c.put_tail.ensures.numbers h xs there)
