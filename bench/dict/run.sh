@@ -26,13 +26,13 @@ bench=$work/crates/dict_bench
 mkdir -p "$bench/src" "$bench/specs" "$bench/proofs/built"
 (cd "$work" && git init -q .)
 cp "$top/HANDLES" "$work/"
-for crate in pk_lanes pk_vbyte pk_posting pk_dict; do
+for crate in pk_lanes pk_vbyte pk_keys pk_posting pk_dict; do
     mkdir -p "$work/crates/$crate"
     for part in src specs proofs; do
         cp -R "$top/crates/$crate/$part" "$work/crates/$crate/"
     done
 done
-grep -E '^pk_(lanes|vbyte|posting|dict):' "$top/crates.txt" > "$work/crates.txt"
+grep -E '^pk_(lanes|vbyte|keys|posting|dict):' "$top/crates.txt" > "$work/crates.txt"
 echo 'dict_bench: pk_dict pk_posting' >> "$work/crates.txt"
 cp "$here/main.rt.txt" "$bench/src/main.rt"
 cp "$here/Invariants.antt.txt" "$bench/proofs/built/Invariants.antt"
