@@ -1,6 +1,6 @@
 # Draws the times of finds in a row, in one segment, of the table that measure.py leaves: class,
 # program, FTS5, Xapian and limit, in microseconds.
-set terminal svg size 900,420 font "sans,13" background "white"
+set terminal svg size 1080,420 font "sans,13" background "white"
 set output picture
 set title "A find among many in a row over a pipe, 100,000 documents in one segment, warm: microseconds"
 set style data histograms
@@ -9,8 +9,9 @@ set style fill solid 0.85 noborder
 set logscale y
 set yrange [1:*]
 set grid ytics lc rgb "#dddddd"
-set xtics rotate by -20 scale 0
-set key top left
+set xtics norotate font ",10" scale 0
+set key below horizontal
+set key maxrows 1
 set datafile separator "\t"
 plot table using 2:xtic(1) title "program" lc rgb "#1b6ca8", \
      "" using 3 title "FTS5" lc rgb "#d98e04", \
