@@ -1,7 +1,8 @@
 // Xapian as a peer over a pipe.
 //   xapian fill PATH       makes a database of the lines of its input, committed each 4,096
 //   xapian delete PATH     deletes the documents of the numbers in its input, and commits
-//   xapian merge PATH TO   at each line copies it to compact tables, synced, and answers `merged`
+//   xapian merge TO PATH.. at each line copies all of these, one behind the other, to one database of
+//                          compact tables, synced, and answers `merged`
 //   xapian ask PATH        answers a line each, as the program does
 // A line to ask has words and AND, OR, NOT behind what they join: `a b AND`; NOT takes the second
 // from the first, and `*` is every document.
@@ -52,11 +53,14 @@ static void erase(const char *path)
     base.commit();
 }
 
-static void merge(const char *path, const char *to)
+static void merge(const char *to, char **paths, int count)
 {
     std::string line;
     while (std::getline(std::cin, line)) {
-        Xapian::Database(path).compact(std::string(to));
+        Xapian::Database all;
+        for (int i = 0; i < count; i++)
+            all.add_database(Xapian::Database(paths[i]));
+        all.compact(std::string(to));
         std::cout << "merged" << std::endl;
     }
 }
@@ -108,8 +112,8 @@ int main(int argc, char **argv)
         fill(argv[2]);
     else if (task == "delete")
         erase(argv[2]);
-    else if (task == "merge" && argc == 4)
-        merge(argv[2], argv[3]);
+    else if (task == "merge" && argc > 3)
+        merge(argv[2], argv + 3, argc - 3);
     else if (task == "ask")
         ask(argv[2]);
     else

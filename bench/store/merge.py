@@ -1,4 +1,5 @@
 """Measures a merge beside SQLite FTS5's optimize, Xapian's compact, and a copy of as many bytes.
+Xapian stands there twice: with all in one database, and with a database for each 4,096 texts.
 
     merge.py PROGRAM LINES [RUNS]
 
@@ -6,7 +7,7 @@ LINES has a text a line; its folder has the peers fts5 and, where it could be bu
 side takes all texts, each 4,096 made lasting, deletes every tenth document and makes that lasting.
 Then it merges what it has, each time anew, in a new process, whose clock runs from its start to its
 reply; the sides take turns in going first. Of what the last merge made every tenth document is
-deleted again, and that is merged too, one segment with dead documents.
+deleted again, and that is merged too, one segment with dead documents, or one database.
 """
 
 import os
@@ -20,7 +21,7 @@ import tempfile
 import time
 
 from measure import pick_words, processor, row
-from peers import UNIT, Fts5, Program, Xapian, merged, segments
+from peers import BATCH, UNIT, Fts5, Program, Xapian, merged, segments
 
 DELETED_EACH = 10
 # What is found has to be the same after a merge, whichever words are asked.
@@ -119,10 +120,39 @@ class Database(Side):
 
     def merge(self):
         shutil.rmtree(self.target, ignore_errors=True)
-        return merged(self.program, "merge", self.path, self.target)
+        return merged(self.program, "merge", self.target, *parts(self.path))
 
     def made(self):
         return sum(file.stat().st_size for file in pathlib.Path(self.target).iterdir())
+
+
+def parts(path):
+    """The databases in a folder, in their order, or the one that it is."""
+    return sorted(str(each) for each in pathlib.Path(path).iterdir() if each.is_dir()) or [path]
+
+
+class Databases(Database):
+    """Xapian's side with a database for each 4,096 documents, as the program has a segment for each.
+    Its compact makes one database of them."""
+
+    name = "Xapian by parts"
+
+    def fill(self, texts):
+        os.mkdir(self.path)
+        for first in range(0, len(texts), BATCH):
+            self.open(f"{self.path}/{first:09}").fill(texts[first : first + BATCH])
+
+    def delete(self, numbers):
+        start = time.perf_counter()
+        for place, path in enumerate(parts(self.path)):
+            first = place * BATCH
+            held = range(first + 1, first + BATCH + 1)
+            self.open(path).delete(number - first for number in numbers if number in held)
+        return time.perf_counter() - start
+
+    def answers(self, path, words):
+        told = [super(Databases, self).answers(part, words) for part in parts(path)]
+        return [sum(each) for each in zip(*told)]
 
 
 def copy(path, size):
@@ -189,6 +219,7 @@ def main():
         sides = [store, Base(lines.parent / "fts5", folder)]
         if (lines.parent / "xapian").exists():
             sides.append(Database(lines.parent / "xapian", folder))
+            sides.append(Databases(lines.parent / "xapian", folder))
         for side in sides:
             side.fill(texts)
         for first in (DELETED_EACH, DELETED_EACH // 2):
@@ -201,6 +232,8 @@ def main():
                   f"load {os.getloadavg()[0]:.1f} on {os.cpu_count()} processors:\n")
             report(results, copies, deleting, held)
             held -= sum(sizes[first - 1 :: DELETED_EACH])
+            # Of one database there are no parts.
+            sides = [side for side in sides if not isinstance(side, Databases)]
             for side in sides:
                 side.go_on()
 
