@@ -65,7 +65,7 @@ fn both_into(a: &[u32], b: &[u32], out: &mut Vec<u32>) -> Result<(), AllocError>
     requires b { IsStrictlyIncreasing b.now }
     ensures { OnOk result (out.new.items ≡ intersection a.now b.now) }
 {
-    out.resize(a.len().min(b.len()), 0)?;
+    out.resize(a.len(), 0)?;
     let count = both(a, b, out);
     out.truncate(count);
     Ok(())

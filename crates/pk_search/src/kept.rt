@@ -1,5 +1,5 @@
 //! One posting list, taken out through the cache of decoded blocks.
-ghost use Rattle.std.specs.Prelude.{◌≡◌, ◌*◌, ◌++◌, ℕ, List, length, drop, take, MatchResult};
+ghost use Rattle.std.specs.Prelude.{◌≡◌, ◌*◌, ◌++◌, ℕ, List, length, drop, take};
 ghost use Rattle.pk_posting.specs.Parts.{Fits, HasShape, LiesIn, bytes_at};
 ghost use Rattle.pk_search.specs.Cached.{AddsOnlyOf, KeepsBlocksOf};
 ghost use Rattle.pk_search.specs.Matching.{ListLies, PutsAs};

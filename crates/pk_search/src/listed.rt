@@ -1,5 +1,5 @@
 //! The words of a query, and what the dictionaries of the segments say of them.
-ghost use Rattle.std.specs.Prelude.{◌≡◌, List, IfOk, IfSome, map, string_bytes};
+ghost use Rattle.std.specs.Prelude.{◌≡◌, List, IfSome};
 ghost use Rattle.pk_dict.specs.Dictionary.{entry_of};
 ghost use Rattle.pk_model.specs.Collection.{Doc};
 ghost use Rattle.pk_search.specs.Matching.{AreEntriesOf, AreListsOf, EntriesAs};

@@ -180,8 +180,7 @@ pub(crate) fn put_word<S: ByteSource>(
 
 // Whether a list is more than 50 times as long as the numbers that are sought in it.
 fn is_far(numbers: usize, frequency: u32) -> bool {
-    let long = frequency as usize;
-    numbers < long / 50 || (numbers == long / 50 && long % 50 > 0)
+    numbers.saturating_mul(50) < frequency as usize
 }
 
 /// Keeps of the numbers those of documents that have the word: by a seek for each of them where

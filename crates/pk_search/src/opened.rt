@@ -1,5 +1,5 @@
 //! A segment that is open, and which of its documents are deleted.
-ghost use Rattle.std.specs.Prelude.{◌≡◌, ◌==◌, not, length};
+ghost use Rattle.std.specs.Prelude.{◌≡◌, not};
 ghost use Rattle.pk_search.specs.Opened.{left_of, pends};
 
 use pk_dead::Dead;

@@ -3,7 +3,7 @@
 //! The recursion goes as deep as the plan, that is, as the brackets and the `NOT` of the query;
 //! words and parts are gone through by loops. No frame holds a block: that is the cursor's, in
 //! `lists`.
-ghost use Rattle.std.specs.Prelude.{◌≡◌, ◌≤◌, ◌++◌, ℕ, List, drop, map, IfOk, OnOk};
+ghost use Rattle.std.specs.Prelude.{◌≡◌, ◌++◌, List, drop, map, OnOk};
 ghost use Rattle.std.specs.List.Sorted.{IsStrictlyIncreasing};
 ghost use Rattle.pk_model.specs.Collection.{Doc, numbers_of};
 ghost use Rattle.pk_model.specs.Tree.{Tree};
