@@ -1,4 +1,4 @@
-//! Tests of the engine by its public calls: a store, and the shell over it.
+//! Tests of the engine by its public calls: a store, the shell over it, and the command line.
 //!
 //! Most of them are scripts, played by `script`: each line is one for the shell, or a step of the
 //! device, with what it is to answer. What no line can say, as a reader that fails or a disk that
@@ -13,6 +13,8 @@ mod buffer;
 mod cached;
 #[cfg(test)]
 mod calls;
+#[cfg(test)]
+mod commands;
 #[cfg(test)]
 mod deletions;
 #[cfg(test)]

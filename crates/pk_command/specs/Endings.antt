@@ -1,0 +1,185 @@
+-- What a command came to, by its status, over any disk.
+use Rattle.std.specs.Prelude.{◌≡◌, ◌≢◌, ◌≤◌, ◌*◌, ◌^◌, ◌⊎◌, ℕ, List, [], ◌++◌, length, codes, decimal}
+use Rattle.std.specs.Prelude.{Option, Result, Ok, Err}
+use Rattle.std.specs.Io.KnownBytes.{Appends}
+use Rattle.clap.specs.Words.{Text}
+use Rattle.clap.specs.declared.error.kind.ErrorKind.{ErrorKind}
+use Rattle.clap.specs.declared.error.kind.ErrorKind.TheVariants.{OutOfMemory}
+use Rattle.pk_disk.specs.declared.disk.Disk.{Ghosts}
+use Rattle.pk_filedisk.specs.File.{IsDiskLength}
+use Rattle.pk_filedisk.specs.declared.fault.FileFault.{FileFault}
+use Rattle.pk_command.specs.CommandLine.{AreRefused, IsHelp, WordsAsk, WordsAskHelp}
+use Rattle.pk_command.specs.Reasons.{creating_words, file_words, memory_words, opening_words}
+use Rattle.pk_command.specs.Reasons.{output_words, session_words}
+use Rattle.pk_command.specs.declared.command_line.Asked.{Asked}
+use Rattle.pk_command.specs.declared.command_line.Asked.TheVariants.{Create, Run}
+use Rattle.pk_shell.specs.Called.{EndsByCalls}
+use Rattle.pk_shell.specs.Script.{Ends}
+use Rattle.pk_shell.specs.Sending.{SentPart}
+use Rattle.pk_shell.specs.StoreStep.{StoreStep}
+use Rattle.pk_shell.specs.declared.ending.Ended.{Ended}
+use Rattle.pk_shell.specs.declared.ending.ShellFault.{ShellFault}
+use Rattle.pk_store.specs.Calls.{Call}
+use Rattle.pk_store.specs.Eras.{Era, Extends, Work}
+use Rattle.pk_store.specs.Eras as era
+use Rattle.pk_store.specs.Opening.{Creates, Opens}
+use Rattle.pk_store.specs.View.{StoreView}
+use Rattle.pk_store.specs.declared.refused.CreateFault.{CreateFault}
+use Rattle.pk_store.specs.declared.refused.OpenFault.{OpenFault}
+use Rattle.pk_store.specs.declared.refused.Refused.{Refused}
+
+-- the statuses: all was done; a command failed; the command line was refused
+abbrev pub done : ℕ
+done = 0
+
+abbrev pub failed : ℕ
+failed = 1
+
+abbrev pub refused : ℕ
+refused = 2
+
+-- as many units as a store may have
+abbrev pub IsOfSize : ℕ → Type 0
+IsOfSize units = (64 ≤ units) × (units ≤ 2 ^ 31)
+
+-- a store to be made has such a size
+abbrev pub HasSize : Asked → Type 0
+HasSize (Create path units) = IsOfSize units
+HasSize (Run path) = Unit {0}
+
+-- the era of a store that was opened on the disk, or made on it, and closed after these calls
+abbrev pub era_of : {D : Type 0} → (D → Work D → Era D) → D → StoreView D → List (Call D) → Era D
+era_of begun disk store calls =
+    begun disk (record { store = store; calls = calls; answered = length calls })
+
+-- A SESSION: the disk opened as a store, and what was written is, as far as the session came, a
+-- legal script's replies to what was read. Each line that asks the store is the next call of it, and
+-- on an honest disk each history goes on by these calls.
+pub record IsSession {D : Type 0} (d : Ghosts D) (disk : D) (r r' w w' : Option (List ℕ))
+    (how : Result Ended ShellFault) : Type 0 where
+  pub opened : StoreView D
+  pub left : StoreView D
+  pub opens : Opens d disk (Ok opened)
+  pub ends : Ends (StoreStep d) opened r r' w w' how left
+  pub calls : EndsByCalls d opened r r' w w' how left
+  pub extends : d.honest
+      → Extends d (era_of era.opened disk opened calls.calls) left.volume.disk
+
+-- NO SESSION: the disk opened as no store. Nothing was read or written.
+pub record IsNoSession {D : Type 0} (d : Ghosts D) (disk : D) (r r' w w' : Option (List ℕ))
+    : Type 0 where
+  pub refused : Refused D OpenFault
+  pub opens : Opens d disk (Err refused)
+  pub reader : r' ≡ r
+  pub writer : w' ≡ w
+  pub extends : d.honest → Extends d (era.unopened disk (Err refused)) refused.disk
+
+-- A line was told on standard error: the whole of it, or a part where a write failed.
+abbrev pub IsTold : Option (List ℕ) → Option (List ℕ) → List ℕ → Type 0
+IsTold e e' line = Appends e e' line ⊎ SentPart e e' line
+
+-- WHAT A SESSION CAME TO: a failure is told in the words of its fault, and nothing else is.
+abbrev pub SessionOutcome : {D : Type 0} → Ghosts D → D → Option (List ℕ) → Option (List ℕ)
+    → Option (List ℕ) → Option (List ℕ) → Option (List ℕ) → Option (List ℕ) → ℕ → Type 0
+SessionOutcome d disk r r' w w' e e' status =
+    ((how : Ended) × (status ≡ done) × (e' ≡ e) × IsSession d disk r r' w w' (Ok how))
+    ⊎ (((fault : ShellFault) × (status ≡ failed) × IsTold e e' (session_words fault)
+    × IsSession d disk r r' w w' (Err fault))
+    ⊎ ((none : IsNoSession d disk r r' w w') × (status ≡ failed)
+    × IsTold e e' (opening_words none.refused.why)))
+
+-- a store was made, and each history goes on from there
+pub record IsMade {D : Type 0} (d : Ghosts D) (disk : D) : Type 0 where
+  pub made : StoreView D
+  pub creates : Creates d disk (Ok made)
+  pub extends : d.honest → Extends d (era_of era.created disk made []) made.volume.disk
+
+-- none was
+pub record IsNotMade {D : Type 0} (d : Ghosts D) (disk : D) : Type 0 where
+  pub refused : Refused D CreateFault
+  pub creates : Creates d disk (Err refused)
+  pub extends : d.honest → Extends d (era.uncreated disk (Err refused)) refused.disk
+
+-- what is told of a store that was made
+abbrev pub created_line : ℕ → List ℕ
+created_line units = codes "created " ++ (decimal units ++ codes " units\n")
+
+-- WHAT A CREATION CAME TO: of a store that was made the size is told, or could not be told.
+abbrev pub CreationOutcome : {D : Type 0} → Ghosts D → D → ℕ → Option (List ℕ) → Option (List ℕ)
+    → Option (List ℕ) → Option (List ℕ) → ℕ → Type 0
+CreationOutcome d disk units w w' e e' status =
+    ((status ≡ done) × IsMade d disk × Appends w w' (created_line units) × (e' ≡ e))
+    ⊎ (((status ≡ failed) × IsMade d disk × IsTold e e' output_words)
+    ⊎ ((none : IsNotMade d disk) × (status ≡ failed)
+    × IsTold e e' (creating_words none.refused.why) × (w' ≡ w)))
+
+-- no call of the disk has failed
+pub record IsFresh {D : Type 0} (d : Ghosts D) (disk : D) : Type 0 where
+  pub reads : d.failed_reads disk ≡ 0
+  pub writes : d.failed_writes disk ≡ 0
+
+-- a session with the store in a file
+pub record IsFileSession {D : Type 0} (d : Ghosts D) (r r' w w' e e' : Option (List ℕ))
+    (status : ℕ) : Type 0 where
+  pub file : D
+  pub fresh : IsFresh d file
+  pub long : IsDiskLength (length (d.content file))
+  pub session : SessionOutcome d file r r' w w' e e' status
+
+-- WHAT A SESSION CAME TO WITH A FILE: where the file is no disk nothing was read or written.
+abbrev pub FileSessionOutcome : {D : Type 0} → Ghosts D → Option (List ℕ) → Option (List ℕ)
+    → Option (List ℕ) → Option (List ℕ) → Option (List ℕ) → Option (List ℕ) → ℕ → Type 0
+FileSessionOutcome d r r' w w' e e' status =
+    IsFileSession d r r' w w' e e' status
+    ⊎ ((fault : FileFault) × (status ≡ failed) × IsTold e e' (file_words fault)
+    × (r' ≡ r) × (w' ≡ w))
+
+-- a creation in a file of so many units
+pub record IsFileCreation {D : Type 0} (d : Ghosts D) (units : ℕ) (w w' e e' : Option (List ℕ))
+    (status : ℕ) : Type 0 where
+  pub file : D
+  pub fresh : IsFresh d file
+  pub long : length (d.content file) ≡ units * 512
+  pub creation : CreationOutcome d file units w w' e e' status
+
+-- WHAT A CREATION CAME TO WITH A FILE
+abbrev pub FileCreationOutcome : {D : Type 0} → Ghosts D → ℕ → Option (List ℕ) → Option (List ℕ)
+    → Option (List ℕ) → Option (List ℕ) → ℕ → Type 0
+FileCreationOutcome d units w w' e e' status =
+    IsFileCreation d units w w' e e' status
+    ⊎ ((fault : FileFault) × (status ≡ failed) × IsTold e e' (file_words fault) × (w' ≡ w))
+
+-- a command that was asked for came to this, by the disk that a creation writes and the disk that
+-- a session is on
+abbrev pub CarriedOut : {C D : Type 0} → Ghosts C → Ghosts D → Asked → Option (List ℕ)
+    → Option (List ℕ) → Option (List ℕ) → Option (List ℕ) → Option (List ℕ) → Option (List ℕ) → ℕ
+    → Type 0
+CarriedOut c d (Create path units) r r' w w' e e' status =
+    (r' ≡ r) × FileCreationOutcome c units w w' e e' status
+CarriedOut c d (Run path) r r' w w' e e' status = FileSessionOutcome d r r' w w' e e' status
+
+-- help was told, or could not be
+abbrev pub HelpOutcome : Option (List ℕ) → Option (List ℕ) → ℕ → Type 0
+HelpOutcome e e' status =
+    ((status ≡ done) × (e' ≡ e)) ⊎ ((status ≡ failed) × IsTold e e' output_words)
+
+-- A command line that the argument parser refused, by the kind of its error: want of memory and a
+-- fault write nothing to the output.
+abbrev pub RefusalOutcome : ErrorKind → Option (List ℕ) → Option (List ℕ) → Option (List ℕ)
+    → Option (List ℕ) → ℕ → Type 0
+RefusalOutcome kind w w' e e' status =
+    ((kind ≡ OutOfMemory) × (status ≡ failed) × IsTold e e' memory_words × (w' ≡ w))
+    ⊎ ((kind ≢ OutOfMemory) × ((IsHelp kind × HelpOutcome e e' status)
+    ⊎ ((IsHelp kind → ⊥) × (status ≡ refused) × (w' ≡ w))))
+
+-- WHAT A COMMAND LINE CAME TO: what its words ask for was carried out, help was told or could not
+-- be, it was refused, or memory was. But for a session nothing was read.
+abbrev pub CommandOutcome : {C D : Type 0} → Ghosts C → Ghosts D → List Text → Option (List ℕ)
+    → Option (List ℕ) → Option (List ℕ) → Option (List ℕ) → Option (List ℕ) → Option (List ℕ) → ℕ
+    → Type 0
+CommandOutcome c d words r r' w w' e e' status =
+    ((asked : Asked) × WordsAsk words asked × HasSize asked
+    × CarriedOut c d asked r r' w w' e e' status)
+    ⊎ ((WordsAskHelp words × (r' ≡ r) × HelpOutcome e e' status)
+    ⊎ ((AreRefused words × (r' ≡ r) × (w' ≡ w) × (status ≡ refused))
+    ⊎ ((r' ≡ r) × (w' ≡ w) × (status ≡ failed) × IsTold e e' memory_words)))

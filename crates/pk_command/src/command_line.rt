@@ -1,0 +1,160 @@
+//! What the command line may say, and what it asks.
+
+ghost use Rattle.std.specs.Prelude.{◌≡◌, IfOk, IfSome, None, Some, codes, ℕ};
+ghost use Rattle.clap.specs.Words.{Text, app_of, first_value, found_of, one_text, subcommand_rows_of};
+ghost use Rattle.pk_command.specs.CommandLine.{
+  Asks,
+  IsArg,
+  IsCount,
+  path_rule,
+  pk_find_app,
+  units_rule,
+};
+ghost use Rattle.pk_command.specs.Endings.{HasSize, IsOfSize};
+ghost use Rattle.pk_command.specs.declared.command_line.Asked.{Asked};
+
+use clap::builder::ValueParser;
+use clap::{Arg, ArgMatches, Command};
+use std::alloc::{AllocError, Global};
+
+/// The fewest units of a store.
+const LEAST_UNITS: u64 = 64;
+
+/// The most units of a store.
+const MOST_UNITS: u64 = 2_147_483_648;
+
+/// The version, which stands here alone.
+const VERSION: &str = "0.1.0";
+
+const ABOUT: &str = "A Boolean search engine over lines of text";
+
+const CREATE_ABOUT: &str = "Makes a file with an empty store in it";
+
+const CREATE_HELP: &str = "\
+The store has N units of 512 bytes, from 64 to 2147483648, and its file gets that length at once.
+It never grows: 34 units are the store's own, and the others are for documents. A commit takes the
+bytes of its texts, 12 more for each and 24 more, and an index of their words, about half as much
+again for lines of English, in whole units side by side. It is refused where that room is not left.
+A store takes 64 commits of new documents, and more after a merge, which needs room for all its
+documents once again while it works, or after a tidy, which needs less.
+
+The file is sparse: what was never written takes no room on the disk. So choose N generously. The
+bytes of all texts to come, divided by 64, give eight times their room. For texts of 4 MiB
+
+  pk_find create notes --units 65536
+
+makes a store of 32 MiB in the file `notes`, which must not be there yet.";
+
+const RUN_ABOUT: &str = "Answers commands from standard input, with the store in a file";
+
+const RUN_HELP: &str = "\
+Commands, one on each line, each answered by one line:
+  add TEXT     adds a document and tells its number
+  delete N     deletes document N
+  find QUERY   tells the documents that satisfy the query
+  show N       tells the text of document N
+  commit       writes what was added and deleted since the last commit to the file
+  merge        writes the committed documents that are left anew, together, and frees the old places
+  tidy         does so with eight neighbouring segments, those that have the least bytes together
+  count        tells how many documents live, and the next number
+  quit         ends the session
+
+What was added or deleted since the last commit is undone when the session ends, be it by `quit`,
+by the end of the input or by a kill, and when the machine stops. What is committed stays:
+`committed` is told once it is on the disk. Neither a merge nor a tidy commits anything.
+
+One program at a time: a store that another program has is refused as `disk`, and stays as it is.
+
+A query is words, joined by AND, OR, NOT and brackets: red (apple OR pear) NOT green
+Words side by side are joined by AND. Case does not matter in a word; AND, OR and NOT are written
+in capitals.
+
+A line that is not done is answered `refused` and why. After `refused reopen` end the session and
+run the program again: what was committed before is there, and of what was not, all or nothing.";
+
+const PATH_HELP: &str = "The file of the store";
+
+/// What a command line asks.
+#[derive(Clone, Copy)]
+pub enum Asked<'a> {
+    /// A file of so many units with an empty store.
+    Create { path: &'a str, units: u64 },
+    /// A session with the store in a file.
+    Run { path: &'a str },
+}
+
+/// The path, which each command takes.
+fn path<'a>(alloc: Global) -> Arg<'a>
+    ensures { IsArg path_rule result }
+{
+    Arg::new(alloc, "PATH").required(true).help(PATH_HELP)
+}
+
+/// The number of units, within the range of a store's.
+fn units<'a>(alloc: Global) -> Arg<'a>
+    ensures { IsArg units_rule result }
+{
+    Arg::new(alloc, "units")
+        .long("units")
+        .value_name("N")
+        .required(true)
+        .value_parser(ValueParser::unsigned(LEAST_UNITS, MOST_UNITS))
+        .help("Its size in units of 512 bytes")
+}
+
+/// What the command line may say.
+pub fn program<'a>(alloc: Global) -> Result<Command<'a>, AllocError>
+    ensures { IfOk result (λ c. app_of c ≡ pk_find_app) }
+{
+    let create = Command::new(alloc, "create")
+        .about(CREATE_ABOUT)
+        .after_help(CREATE_HELP)
+        .arg(path(alloc))?
+        .arg(units(alloc))?;
+    let run = Command::new(alloc, "run")
+        .about(RUN_ABOUT)
+        .after_help(RUN_HELP)
+        .arg(path(alloc))?;
+    Command::new(alloc, "pk_find")
+        .about(ABOUT)
+        .version(VERSION)
+        .subcommand_required(true)
+        .arg_required_else_help(true)
+        .subcommand(create)?
+        .subcommand(run)
+}
+
+/// How many units `create` is to make. The range is the command line's own.
+fn units_of(matches: &ArgMatches<'_>) -> Option<u64>
+    ensures size { IfSome result IsOfSize }
+    ensures read { IfSome result (λ units. (text : Text)
+        × (one_text (found_of matches.now) (codes "units") ≡ Some text) × IsCount text units) }
+    ensures none { result ≡ None → (text : Text) → (units : ℕ)
+        → one_text (found_of matches.now) (codes "units") ≡ Some text
+        → IsCount text units → IsOfSize units → ⊥ }
+{
+    let units = matches.get_one::<u64>("units")?;
+    if units < LEAST_UNITS || MOST_UNITS < units {
+        return None;
+    }
+    Some(units)
+}
+
+/// What a command line asks that was not refused.
+pub fn asked_by<'a>(matches: &ArgMatches<'a>) -> Option<Asked<'a>>
+    ensures size { IfSome result HasSize }
+    ensures asked { IfSome result (Asks (subcommand_rows_of matches.now)) }
+    ensures none { result ≡ None → (asked : Asked) → HasSize asked
+        → Asks (subcommand_rows_of matches.now) asked → ⊥ }
+{
+    match matches.subcommand() {
+        Some(("create", given)) => Some(Asked::Create {
+            path: given.get_str("PATH")?,
+            units: units_of(given)?,
+        }),
+        Some(("run", given)) => Some(Asked::Run {
+            path: given.get_str("PATH")?,
+        }),
+        _ => None,
+    }
+}

@@ -1,0 +1,55 @@
+//! A new store.
+
+ghost use Rattle.pk_command.specs.Endings.{CreationOutcome, FileCreationOutcome, IsOfSize};
+
+use super::reporting::{DONE, OUTPUT, creating_reason, fail, file_reason};
+use pk_disk::Disk;
+use pk_filedisk::{FileDisk, LockFile};
+use pk_store::Store;
+use std::alloc::Global;
+use std::fs::OpenFile;
+use std::io::Write;
+use std::os::unix::fs::FileExt;
+use std::rt::Files;
+
+/// Makes an empty store on a disk of so many units, and tells that.
+fn create_on<D: Disk + Drop, W: Write, E: Write>(
+    alloc: Global,
+    disk: D,
+    units: u64,
+    output: &mut W,
+    faults: &mut E,
+) -> u8
+    ensures { CreationOutcome D.Disk disk units (W.contents output.old) (W.contents output.new)
+        (E.contents faults.old) (E.contents faults.new) result }
+{
+    match Store::create(alloc, disk, 0) {
+        Ok(_) => {}
+        Err(refused) => return fail(faults, creating_reason(refused.why)),
+    }
+    match writeln!(output, "created {units} units") {
+        Ok(()) => DONE,
+        Err(_) => fail(faults, OUTPUT),
+    }
+}
+
+/// Makes a file of so many units with an empty store, tells that, and answers the status: 0, or 1
+/// where there is none or it could not be told.
+pub fn create<F: FileExt + OpenFile + LockFile + Drop, S: Files<File = F>, W: Write, E: Write>(
+    rt: &S,
+    alloc: Global,
+    path: &str,
+    units: u64,
+    output: &mut W,
+    faults: &mut E,
+) -> u8
+    requires { IsOfSize units }
+    ensures { FileCreationOutcome ⟦<FileDisk<F> as Disk>⟧ units
+        (W.contents output.old) (W.contents output.new)
+        (E.contents faults.old) (E.contents faults.new) result }
+{
+    match FileDisk::make(rt, path, units) {
+        Ok(disk) => create_on(alloc, disk, units, output, faults),
+        Err(fault) => fail(faults, file_reason(fault)),
+    }
+}

@@ -1,0 +1,106 @@
+//! Statuses, and the lines on standard error.
+
+ghost use Rattle.std.specs.Prelude.{◌≡◌};
+ghost use Rattle.clap.specs.Words.{kind_of};
+ghost use Rattle.pk_command.specs.Endings.{IsTold, RefusalOutcome};
+ghost use Rattle.pk_command.specs.Reasons.{creating_words, file_words};
+ghost use Rattle.pk_command.specs.Reasons.{opening_words, session_words};
+
+use clap::Error;
+use clap::error::ErrorKind;
+use pk_filedisk::FileFault;
+use pk_shell::{ShellFault, write_all};
+use pk_store::{CreateFault, OpenFault};
+use std::io::Write;
+
+/// All was done, or help was asked for.
+pub const DONE: u8 = 0;
+
+/// The command failed.
+pub const FAILED: u8 = 1;
+
+/// The command line was refused.
+pub const REFUSED: u8 = 2;
+
+/// What is told where a growth of memory was refused.
+pub const MEMORY: &str = "pk_find: memory\n";
+
+/// What is told where the output could not be written.
+pub const OUTPUT: &str = "pk_find: output\n";
+
+/// Tells why a command failed, in this line.
+pub fn fail<E: Write>(faults: &mut E, line: &str) -> u8
+    ensures status { result ≡ FAILED }
+    ensures told { IsTold (E.contents faults.old) (E.contents faults.new) line.now }
+{
+    // Where standard error takes nothing, the status tells it alone.
+    let _ = write_all(faults, line.as_bytes());
+    FAILED
+}
+
+/// Tells why the command line was refused, or the help that was asked for.
+pub fn refuse<W: Write, E: Write>(output: &mut W, faults: &mut E, error: &Error) -> u8
+    ensures { RefusalOutcome (kind_of error.now) (W.contents output.old) (W.contents output.new)
+        (E.contents faults.old) (E.contents faults.new) result }
+{
+    if error.kind() == ErrorKind::OutOfMemory {
+        return fail(faults, MEMORY);
+    }
+    if error.use_stderr() {
+        let _ = write!(faults, "{error}");
+        return REFUSED;
+    }
+    match write!(output, "{error}") {
+        Ok(()) => DONE,
+        Err(_) => fail(faults, OUTPUT),
+    }
+}
+
+/// Why a file is no disk, as a line.
+pub fn file_reason(fault: FileFault) -> &'static str
+    ensures { result.now ≡ file_words fault }
+{
+    match fault {
+        FileFault::Exists => "pk_find: exists\n",
+        FileFault::Missing => "pk_find: missing\n",
+        FileFault::BadLength => "pk_find: bad length\n",
+        FileFault::Disk => "pk_find: disk\n",
+    }
+}
+
+/// Why no store was made, as a line.
+pub fn creating_reason(fault: CreateFault) -> &'static str
+    ensures { result.now ≡ creating_words fault }
+{
+    match fault {
+        CreateFault::TooSmall => "pk_find: too small\n",
+        CreateFault::AlreadyAStore => "pk_find: already a store\n",
+        CreateFault::Disk => "pk_find: disk\n",
+        CreateFault::Memory => MEMORY,
+    }
+}
+
+/// Why no store was opened, as a line.
+pub fn opening_reason(fault: OpenFault) -> &'static str
+    ensures { result.now ≡ opening_words fault }
+{
+    match fault {
+        OpenFault::TooSmall => "pk_find: too small\n",
+        OpenFault::NotAStore => "pk_find: not a store\n",
+        OpenFault::Damaged => "pk_find: damaged\n",
+        OpenFault::Disk => "pk_find: disk\n",
+        OpenFault::Memory => MEMORY,
+    }
+}
+
+/// Why a session was broken off, as a line.
+pub fn session_reason(fault: ShellFault) -> &'static str
+    ensures { result.now ≡ session_words fault }
+{
+    match fault {
+        ShellFault::Input => "pk_find: input\n",
+        ShellFault::Output => OUTPUT,
+        ShellFault::TooManyReads => "pk_find: too many reads\n",
+        ShellFault::Memory => MEMORY,
+    }
+}
