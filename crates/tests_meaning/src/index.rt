@@ -1,11 +1,10 @@
 //! An index that documents come into and leave, asked with the live numbers.
 
-ghost use Rattle.std.specs.Prelude.{◌↔◌, IsTrue};
-ghost use Rattle.std.specs.List.Sorted.{IsStrictlyIncreasing};
-
 use pk_index::{Index, Row, both_into, fold_into};
 use pk_query::parse;
+use pk_sets::is_rising;
 use std::alloc::{AllocError, Global};
+use std::process::Abort;
 use std::test::Fail;
 
 /// What is done to the index, or asked of it, with the answer that a row of the table wants.
@@ -27,18 +26,6 @@ enum Step {
     Terms,
 }
 
-/// Whether the numbers rise strictly.
-fn rises(xs: &[u32]) -> bool
-    ensures { IsTrue result ↔ IsStrictlyIncreasing xs.now }
-{
-    'places: for i in 1..xs.len() {
-        if xs[i] <= xs[i - 1] {
-            return false;
-        }
-    }
-    true
-}
-
 /// The numbers, each after a space.
 fn shown(alloc: Global, numbers: &[u32]) -> Result<String, AllocError> {
     let mut answer = String::new(alloc);
@@ -51,7 +38,7 @@ fn shown(alloc: Global, numbers: &[u32]) -> Result<String, AllocError> {
 /// What a query finds.
 fn found(alloc: Global, index: &Index, live: &[u32], text: &str) -> Result<Vec<u32>, Fail> {
     let query = parse(alloc, text).ok().ok_or("no query")?;
-    if !rises(live) {
+    if !is_rising(live) {
         return Ok(Vec::new(alloc));
     }
     Ok(index.find(alloc, &query, live)?)
@@ -60,7 +47,7 @@ fn found(alloc: Global, index: &Index, live: &[u32], text: &str) -> Result<Vec<u
 /// The live numbers of a row.
 fn numbers(alloc: Global, row: Row, live: &[u32]) -> Result<Vec<u32>, AllocError> {
     let mut numbers = vec![in alloc; 0u32; live.len()]?;
-    if rises(live) && rises(row.list) {
+    if is_rising(live) && is_rising(row.list) {
         let count = both_into(live, row.list, &mut numbers);
         numbers.truncate(count);
     }
@@ -69,7 +56,7 @@ fn numbers(alloc: Global, row: Row, live: &[u32]) -> Result<Vec<u32>, AllocError
 
 /// The numbers of a word.
 fn list(alloc: Global, index: &Index, live: &[u32], word: &str) -> Result<Vec<u32>, AllocError> {
-    if rises(live) {
+    if is_rising(live) {
         for row in index.rows(alloc, live)? {
             if row.word == word {
                 return numbers(alloc, row, live);
@@ -82,7 +69,7 @@ fn list(alloc: Global, index: &Index, live: &[u32], word: &str) -> Result<Vec<u3
 /// The words of the live documents, each after a space.
 fn terms(alloc: Global, index: &Index, live: &[u32]) -> Result<String, AllocError> {
     let mut answer = String::new(alloc);
-    if rises(live) {
+    if is_rising(live) {
         for row in index.rows(alloc, live)? {
             answer.push_str(" ")?;
             answer.push_str(row.word)?;
@@ -118,95 +105,131 @@ fn taken(
     Ok(String::new(alloc))
 }
 
+/// Steps, each with a number and a text, and the answer that is wanted.
+const STEPS: [(Step, u32, &str, &str); 33] = [
+    (Step::Terms, 0, "", ""),
+    (Step::Find, 0, "NOT a", ""),
+    (Step::Add, 5, "a b", ""),
+    (Step::Add, 6, "c", ""),
+    (Step::Find, 0, "NOT a", " 6"),
+    (Step::Find, 0, "a OR c", " 5 6"),
+    (Step::Find, 0, "a b", " 5"),
+    (Step::Terms, 0, "", " a b c"),
+    (Step::List, 0, "b", " 5"),
+    (Step::List, 0, "x", ""),
+    (Step::Remove, 5, "", ""),
+    (Step::Terms, 0, "", " c"),
+    (Step::List, 0, "b", ""),
+    (Step::Find, 0, "b", ""),
+    (Step::Find, 0, "NOT b", " 6"),
+    // A number that is given once more has the words of its new text alone.
+    (Step::Remove, 6, "", ""),
+    (Step::Add, 5, "d a", ""),
+    (Step::Terms, 0, "", " a d"),
+    (Step::Lose, 6, "x a", ""),
+    (Step::Terms, 0, "", " a d"),
+    (Step::List, 0, "a", " 5"),
+    (Step::Add, 6, "e", ""),
+    (Step::List, 0, "a", " 5"),
+    (Step::Find, 0, "x", ""),
+    (Step::Find, 0, "NOT a", " 6"),
+    (Step::Terms, 0, "", " a d e"),
+    (Step::Clear, 0, "", ""),
+    (Step::Terms, 0, "", ""),
+    (Step::Find, 0, "NOT a", ""),
+    (
+        Step::Add,
+        4_294_967_294,
+        "Straße e-mail STRASSE 10 9 Éclair",
+        "",
+    ),
+    (Step::Terms, 0, "", " 10 9 e mail strasse éclair"),
+    (Step::List, 0, "strasse", " 4294967294"),
+    (Step::List, 0, "Straße", ""),
+];
+
 #[test]
 fn documents_come_and_leave(rt: HostRuntime) -> Result<(), Fail> {
-    let table = [
-        (Step::Terms, 0, "", ""),
-        (Step::Find, 0, "NOT a", ""),
-        (Step::Add, 5, "a b", ""),
-        (Step::Add, 6, "c", ""),
-        (Step::Find, 0, "NOT a", " 6"),
-        (Step::Find, 0, "a OR c", " 5 6"),
-        (Step::Find, 0, "a b", " 5"),
-        (Step::Terms, 0, "", " a b c"),
-        (Step::List, 0, "b", " 5"),
-        (Step::List, 0, "x", ""),
-        (Step::Remove, 5, "", ""),
-        (Step::Terms, 0, "", " c"),
-        (Step::List, 0, "b", ""),
-        (Step::Find, 0, "b", ""),
-        (Step::Find, 0, "NOT b", " 6"),
-        // A number that is given once more has the words of its new text alone.
-        (Step::Remove, 6, "", ""),
-        (Step::Add, 5, "d a", ""),
-        (Step::Terms, 0, "", " a d"),
-        (Step::Lose, 6, "x a", ""),
-        (Step::Terms, 0, "", " a d"),
-        (Step::List, 0, "a", " 5"),
-        (Step::Add, 6, "e", ""),
-        (Step::List, 0, "a", " 5"),
-        (Step::Find, 0, "x", ""),
-        (Step::Find, 0, "NOT a", " 6"),
-        (Step::Terms, 0, "", " a d e"),
-        (Step::Clear, 0, "", ""),
-        (Step::Terms, 0, "", ""),
-        (Step::Find, 0, "NOT a", ""),
-        (
-            Step::Add,
-            4_294_967_294,
-            "Straße e-mail STRASSE 10 9 Éclair",
-            "",
-        ),
-        (Step::Terms, 0, "", " 10 9 e mail strasse éclair"),
-        (Step::List, 0, "strasse", " 4294967294"),
-        (Step::List, 0, "Straße", ""),
-    ];
     let mut index = Index::new(rt.alloc());
     let mut live = Vec::new(rt.alloc());
-    for (i, (step, number, text, wanted)) in table.iter().enumerate() {
+    for (i, (step, number, text, wanted)) in STEPS.iter().enumerate() {
         let answer = taken(rt.alloc(), &mut index, &mut live, *step, *number, text)?;
         assert_eq!(rt; answer.as_str(), *wanted, "row {i}: {number} {text:?}");
     }
     Ok(())
 }
 
-/// A word that each document has, one that one has, and one that none has, among 4,097 words.
-#[test]
-fn four_thousand_and_ninety_six_documents(rt: HostRuntime) -> Result<(), Fail> {
-    let alloc = rt.alloc();
-    let mut index = Index::new(alloc);
-    let mut live = Vec::new(alloc);
+/// Adds the documents 1 to 4,096, of which each has `a` and a word of its own.
+fn add_many(alloc: Global, index: &mut Index, live: &mut Vec<u32>) -> Result<(), Fail> {
     for number in 1u32..4097 {
         index.add(alloc, number, format!(in alloc; "a N{number}")?.as_str())?;
         live.push(number)?;
     }
-    assert_eq!(rt; found(alloc, &index, &live, "NOT none")?, live);
-    assert_eq!(rt; list(alloc, &index, &live, "a")?, live);
-    assert_eq!(rt;
-        shown(alloc, &list(alloc, &index, &live, "n4096")?)?.as_str(),
-        " 4096"
-    );
-    assert_eq!(rt; found(alloc, &index, &live, "none")?.len(), 0);
-    let words = terms(alloc, &index, &live)?;
-    assert_eq!(rt; words.split_whitespace().count(), 4097);
-    assert!(rt; words.starts_with(" a n1 n10 n100 n1000 n1001 "));
     Ok(())
 }
 
+/// How many words a text has, with spaces between them.
+fn count(words: &str) -> usize {
+    words.split_whitespace().count()
+}
+
+/// What is asked of the documents has this answer.
+fn answers(
+    rt: &impl Abort,
+    alloc: Global,
+    index: &mut Index,
+    live: &mut Vec<u32>,
+    step: Step,
+    text: &str,
+    wanted: &str,
+) -> Result<(), Fail> {
+    let answer = taken(alloc, index, live, step, 0, text)?;
+    assert_eq!(rt; answer.as_str(), wanted, "{text}");
+    Ok(())
+}
+
+/// The documents 1 to 4,096 have 4,097 words.
+fn has_the_words(rt: &impl Abort, alloc: Global, index: &Index, live: &[u32]) -> Result<(), Fail> {
+    let words = terms(alloc, index, live)?;
+    assert_eq!(rt; count(&words), 4097);
+    assert!(rt; words.as_bytes().starts_with(b" a n1 n10 n100 n1000 n1001 "));
+    Ok(())
+}
+
+/// A word that each document has, one that one has, and one that none has, among 4,097 words.
+#[test]
+fn four_thousand_and_ninety_six_documents(rt: HostRuntime) -> Result<(), Fail> {
+    let mut index = Index::new(rt.alloc());
+    let mut live = Vec::new(rt.alloc());
+    add_many(rt.alloc(), &mut index, &mut live)?;
+    let all = shown(rt.alloc(), &live)?;
+    for (step, text, wanted) in [
+        (Step::Find, "NOT none", all.as_str()),
+        (Step::List, "a", all.as_str()),
+        (Step::List, "n4096", " 4096"),
+        (Step::Find, "none", ""),
+    ] {
+        answers(&rt, rt.alloc(), &mut index, &mut live, step, text, wanted)?;
+    }
+    has_the_words(&rt, rt.alloc(), &index, &live)
+}
+
+/// Pieces, each with what it is folded to.
+const FOLDED: [(&str, &str); 6] = [
+    ("Straße", "strasse"),
+    ("E", "e"),
+    ("ΣΊΣΥΦΟΣ", "σίσυφοσ"),
+    ("Can't", "can't"),
+    ("İ", "i\u{307}"),
+    ("", ""),
+];
+
 #[test]
 fn pieces_are_folded(rt: HostRuntime) -> Result<(), Fail> {
-    let table = [
-        ("Straße", "strasse"),
-        ("E", "e"),
-        ("ΣΊΣΥΦΟΣ", "σίσυφοσ"),
-        ("Can't", "can't"),
-        ("İ", "i\u{307}"),
-        ("", ""),
-    ];
     let mut string = String::new(rt.alloc());
-    for (piece, folded) in table {
+    for (piece, folded) in &FOLDED {
         fold_into(&mut string, piece)?;
-        assert_eq!(rt; string.as_str(), folded);
+        assert_eq!(rt; string.as_str(), *folded);
     }
     Ok(())
 }

@@ -41,50 +41,45 @@ const ROWS: [(&str, &str); 22] = [
     ("a AND NOT (b AND NOT c)", "(a - (b - c))"),
 ];
 
+// Writes a space, unless a bracket was just opened.
+fn write_space(out: &mut String) -> Result<(), AllocError> {
+    match out.as_bytes().last() {
+        Some(b'[' | b'{') => Ok(()),
+        _ => out.push_str(" "),
+    }
+}
+
+// Writes the words with spaces between them.
+fn write_words(out: &mut String, words: &[String]) -> Result<(), AllocError> {
+    for word in words {
+        write_space(out)?;
+        out.push_str(word.as_str())?;
+    }
+    Ok(())
+}
+
 // Writes the plan as the rows do.
 fn write_plan(out: &mut String, plan: &Plan) -> Result<(), AllocError> {
-    match plan {
-        Plan::Term(word) => out.push_str(word.as_str()),
-        Plan::All => out.push_str("*"),
-        Plan::Intersect(terms, parts) => {
-            out.push_str("[")?;
-            let mut first = true;
-            for term in terms.as_slice() {
-                if !first {
-                    out.push_str(" ")?;
-                }
-                out.push_str(term.as_str())?;
-                first = false;
-            }
-            for part in parts {
-                if !first {
-                    out.push_str(" ")?;
-                }
-                write_plan(out, part)?;
-                first = false;
-            }
-            out.push_str("]")
-        }
-        Plan::Unite(parts) => {
-            out.push_str("{")?;
-            let mut first = true;
-            for part in parts {
-                if !first {
-                    out.push_str(" ")?;
-                }
-                write_plan(out, part)?;
-                first = false;
-            }
-            out.push_str("}")
-        }
+    let (words, parts, opening, closing): (&[String], &[Plan], &str, &str) = match plan {
+        Plan::Term(word) => return out.push_str(word.as_str()),
+        Plan::All => return out.push_str("*"),
+        Plan::Intersect(words, parts) => (words.as_slice(), parts, "[", "]"),
+        Plan::Unite(parts) => (&[], parts, "{", "}"),
         Plan::Exclude(all, less) => {
             out.push_str("(")?;
             write_plan(out, all)?;
             out.push_str(" - ")?;
             write_plan(out, less)?;
-            out.push_str(")")
+            return out.push_str(")");
         }
+    };
+    out.push_str(opening)?;
+    write_words(out, words)?;
+    for part in parts {
+        write_space(out)?;
+        write_plan(out, part)?;
     }
+    out.push_str(closing)
 }
 
 // The plan of a query text, written down.
@@ -101,11 +96,11 @@ fn planned(alloc: Global, text: &str, table: &[(String, u32)]) -> Result<String,
 fn queries_have_their_plans(rt: HostRuntime) -> Result<(), Fail> {
     let alloc = rt.alloc();
     let mut table = Vec::new(alloc);
-    for (word, frequency) in FREQUENCIES {
-        table.push((String::from_str(alloc, word)?, frequency))?;
+    for (word, frequency) in &FREQUENCIES {
+        table.push((String::from_str(alloc, word)?, *frequency))?;
     }
-    for (text, wanted) in ROWS {
-        assert_eq!(rt; planned(alloc, text, &table)?.as_str(), wanted, "{text}");
+    for (text, wanted) in &ROWS {
+        assert_eq!(rt; planned(alloc, text, &table)?.as_str(), *wanted, "{text}");
     }
     Ok(())
 }
@@ -114,20 +109,13 @@ fn queries_have_their_plans(rt: HostRuntime) -> Result<(), Fail> {
 #[test]
 fn long_and_deep_queries_have_plans(rt: HostRuntime) -> Result<(), Fail> {
     let alloc = rt.alloc();
-    let mut chain = String::from_str(alloc, "a")?;
-    for _ in 0..2047 {
-        chain.push_str("-a")?;
-    }
+    let mut chain = "a-".repeat(alloc, 2047)?;
+    chain.push_str("a")?;
     assert_eq!(rt; planned(alloc, &chain, &[])?.len(), 4097);
-    let mut deep = String::new(alloc);
-    for _ in 0..64 {
-        deep.push_str("NOT (b AND ")?;
-    }
+    let mut deep = "NOT (b AND ".repeat(alloc, 64)?;
     deep.push_str("a")?;
-    for _ in 0..64 {
-        deep.push_str(")")?;
-    }
+    deep.push_str(")".repeat(alloc, 64)?.as_str())?;
     let written = planned(alloc, &deep, &[])?;
-    assert!(rt; written.as_str().starts_with("(* - (b - (b - "));
+    assert!(rt; written.as_bytes().starts_with(b"(* - (b - (b - "));
     Ok(())
 }

@@ -9,14 +9,7 @@ use std::test::Fail;
 
 /// The words of the text in its order, with a bar between each two.
 fn list_of(alloc: Global, text: &str) -> Result<String, AllocError> {
-    let mut all = String::new(alloc);
-    for word in word_list(alloc, text)? {
-        if !all.is_empty() {
-            all.push_str("|")?;
-        }
-        all.push_str(word.as_str())?;
-    }
-    Ok(all)
+    word_list(alloc, text)?.join(alloc, "|")
 }
 
 /// The words of the text as a set, with a bar between each two.
@@ -59,39 +52,41 @@ fn check_absent(rt: &impl Abort, alloc: Global, text: &str) -> Result<(), Fail> 
     Ok(())
 }
 
+/// Texts with their words, as a list and as a set.
+const TEXTS: [(&str, &str, &str); 16] = [
+    (
+        "Straße e-mail can't 3.14 foo_bar E",
+        "strasse|e|mail|can't|3.14|foo_bar|e",
+        "3.14|can't|e|foo_bar|mail|strasse",
+    ),
+    ("E-mail e", "e|mail|e", "e|mail"),
+    ("", "", ""),
+    (" ", "", ""),
+    ("--", "", ""),
+    ("(!) ...", "", ""),
+    (
+        "zebra Éclair eclair 10 9 𝐀 ΣΊΣΥΦΟΣ",
+        "zebra|éclair|eclair|10|9|𝐀|σίσυφοσ",
+        "10|9|eclair|zebra|éclair|σίσυφοσ|𝐀",
+    ),
+    (
+        "lists.debian.org file.c",
+        "lists.debian.org|file.c",
+        "file.c|lists.debian.org",
+    ),
+    ("joe@example.org", "joe|example.org", "example.org|joe"),
+    ("Re: [PATCH 2/3]", "re|patch|2|3", "2|3|patch|re"),
+    ("1,000 v2.0 C++.", "1,000|v2.0|c", "1,000|c|v2.0"),
+    ("The end. Then", "the|end|then", "end|the|then"),
+    ("can't can’t", "can't|can’t", "can't|can’t"),
+    ("日本", "日|本", "日|本"),
+    ("ΣΊΣΥΦΟΣ Σίσυφος", "σίσυφοσ|σίσυφοσ", "σίσυφοσ"),
+    ("resume résumé", "resume|résumé", "resume|résumé"),
+];
+
 #[test]
 fn the_words_of_texts(rt: HostRuntime) -> Result<(), Fail> {
-    let table = [
-        (
-            "Straße e-mail can't 3.14 foo_bar E",
-            "strasse|e|mail|can't|3.14|foo_bar|e",
-            "3.14|can't|e|foo_bar|mail|strasse",
-        ),
-        ("E-mail e", "e|mail|e", "e|mail"),
-        ("", "", ""),
-        (" ", "", ""),
-        ("--", "", ""),
-        ("(!) ...", "", ""),
-        (
-            "zebra Éclair eclair 10 9 𝐀 ΣΊΣΥΦΟΣ",
-            "zebra|éclair|eclair|10|9|𝐀|σίσυφοσ",
-            "10|9|eclair|zebra|éclair|σίσυφοσ|𝐀",
-        ),
-        (
-            "lists.debian.org file.c",
-            "lists.debian.org|file.c",
-            "file.c|lists.debian.org",
-        ),
-        ("joe@example.org", "joe|example.org", "example.org|joe"),
-        ("Re: [PATCH 2/3]", "re|patch|2|3", "2|3|patch|re"),
-        ("1,000 v2.0 C++.", "1,000|v2.0|c", "1,000|c|v2.0"),
-        ("The end. Then", "the|end|then", "end|the|then"),
-        ("can't can’t", "can't|can’t", "can't|can’t"),
-        ("日本", "日|本", "日|本"),
-        ("ΣΊΣΥΦΟΣ Σίσυφος", "σίσυφοσ|σίσυφοσ", "σίσυφοσ"),
-        ("resume résumé", "resume|résumé", "resume|résumé"),
-    ];
-    for (text, list, set) in table {
+    for (text, list, set) in &TEXTS {
         check_words(&rt, rt.alloc(), text, list, set)?;
         check_absent(&rt, rt.alloc(), text)?;
     }

@@ -1,9 +1,10 @@
 //! Kept blocks: the worked row, segments apart, blocks that are not there, reads that fail, and
 //! memory that is refused.
 
-ghost use Rattle.std.specs.Prelude.{◌≡◌, ◌≤◌, length};
+ghost use Rattle.std.specs.Prelude.{◌≡◌, ◌<◌, ◌≤◌, IfOk, length};
 ghost use Rattle.pk_posting.specs.Parts.{Fits, LiesIn};
 
+use crate::checks::equal;
 use crate::failing::Failing;
 use crate::made::apart;
 use crate::plain::plain_encode;
@@ -13,9 +14,24 @@ use std::alloc::{AllocError, Global};
 use std::process::Abort;
 use std::test::Fail;
 
+// The first block of the list of a segment, and two that come after it.
+const FIRST: BlockKey = BlockKey {
+    segment: 1,
+    at: 0,
+    block: 0,
+};
+
+const FOURTH: BlockKey = BlockKey { block: 3, ..FIRST };
+
+const TWELFTH: BlockKey = BlockKey { block: 11, ..FIRST };
+
 // The bytes of the list of 2,048 numbers from `gap` on that are `gap` apart: sixteen blocks.
-fn list_bytes(alloc: Global, gap: u32) -> Result<Vec<u8>, AllocError> {
-    plain_encode(alloc, &apart(alloc, gap, gap, 2048)?)
+fn list_bytes(rt: &impl Abort, alloc: Global, gap: u32) -> Result<Vec<u8>, AllocError>
+    ensures { IfOk result (λ v. length v.items < 1000000) }
+{
+    let bytes = plain_encode(alloc, &apart(alloc, gap, gap, 2048)?)?;
+    assert!(rt; bytes.len() < 1_000_000);
+    Ok(bytes)
 }
 
 // The whole of some bytes as a place.
@@ -25,6 +41,14 @@ fn whole(bytes: &[u8]) -> ListPlace
     ListPlace {
         at: 0,
         bytes: u32::try_from(bytes.len()).unwrap_or(0),
+    }
+}
+
+// That these are the numbers of a block of the list whose numbers are `gap` apart.
+fn is_block(rt: &impl Abort, numbers: &[u32; 128], block: u32, gap: u32) {
+    let first = block.wrapping_mul(128).wrapping_add(1);
+    for (i, n) in numbers.iter().enumerate() {
+        equal(rt, *n, first.wrapping_add(i as u32).wrapping_mul(gap));
     }
 }
 
@@ -47,121 +71,130 @@ fn asks<S: ByteSource>(
     let before = source.asked();
     let answer = cache.block(key, place, shape, source);
     assert!(rt; answer.is_ok());
-    let numbers = answer.unwrap_or([0; 128]);
-    let first = key.block.wrapping_mul(128).wrapping_add(1);
-    for (i, n) in numbers.iter().enumerate() {
-        assert_eq!(rt; *n, first.wrapping_add(i as u32).wrapping_mul(gap));
-    }
+    is_block(rt, &answer.unwrap_or([0; 128]), key.block, gap);
     source.asked() != before
 }
 
 // Blocks 0, 0, 11 and 0 of the numbers 1 to 2,048: whether the last one is kept still.
-fn row(rt: &impl Abort, alloc: Global, capacity: usize) -> Result<bool, Fail>
+fn row(rt: &impl Abort, alloc: Global, bytes: &[u8], capacity: usize) -> Result<bool, Fail>
+    requires bytes { length bytes.now < 1000000 }
     requires some { 1 ≤ capacity }
     requires most { capacity ≤ 65536 }
 {
-    let bytes = list_bytes(alloc, 1)?;
-    assert!(rt; bytes.len() < 1_000_000);
-    let place = whole(&bytes);
-    let mut source = SliceSource::new(&bytes);
+    let place = whole(bytes);
+    let mut source = SliceSource::new(bytes);
     let shape = Shape::read(&mut source, place)?;
     let mut cache = BlockCache::new(alloc, capacity)?;
-    let first = BlockKey {
-        segment: 1,
-        at: 0,
-        block: 0,
-    };
-    let twelfth = BlockKey { block: 11, ..first };
-    assert!(rt; asks(rt, &mut cache, first, place, shape, &mut source, 1));
-    assert!(rt; !asks(rt, &mut cache, first, place, shape, &mut source, 1));
-    assert!(rt; asks(rt, &mut cache, twelfth, place, shape, &mut source, 1));
-    Ok(!asks(rt, &mut cache, first, place, shape, &mut source, 1))
+    let asked = [
+        asks(rt, &mut cache, FIRST, place, shape, &mut source, 1),
+        asks(rt, &mut cache, FIRST, place, shape, &mut source, 1),
+        asks(rt, &mut cache, TWELFTH, place, shape, &mut source, 1),
+    ];
+    equal(rt, asked, [true, false, true]);
+    Ok(!asks(rt, &mut cache, FIRST, place, shape, &mut source, 1))
 }
 
 #[test]
 fn the_row_is_answered(rt: HostRuntime) -> Result<(), Fail> {
-    assert!(rt; !row(&rt, rt.alloc(), 1)?);
-    assert!(rt; row(&rt, rt.alloc(), 2)?);
-    assert!(rt; row(&rt, rt.alloc(), 65_536)?);
+    let bytes = list_bytes(&rt, rt.alloc(), 1)?;
+    let kept = [
+        row(&rt, rt.alloc(), &bytes, 1)?,
+        row(&rt, rt.alloc(), &bytes, 2)?,
+        row(&rt, rt.alloc(), &bytes, 65_536)?,
+    ];
+    equal(&rt, kept, [false, true, true]);
     Ok(())
 }
 
-// A block of one segment is not answered for another one's: of the even numbers, here.
-#[test]
-fn each_segment_has_its_own_blocks(rt: HostRuntime) -> Result<(), Fail> {
-    let alloc = rt.alloc();
-    let bytes = list_bytes(alloc, 1)?;
-    let even_bytes = list_bytes(alloc, 2)?;
-    assert!(rt; bytes.len() < 1_000_000 && even_bytes.len() < 1_000_000);
-    let (place, even_place) = (whole(&bytes), whole(&even_bytes));
-    let mut source = SliceSource::new(&bytes);
-    let mut evens = SliceSource::new(&even_bytes);
+// A block of the list in `bytes`, and one of the even numbers' list, which is that of another
+// segment, each twice in turn.
+fn are_apart(rt: &impl Abort, alloc: Global, bytes: &[u8], even_bytes: &[u8]) -> Result<(), Fail>
+    requires bytes { length bytes.now < 1000000 }
+    requires even { length even_bytes.now < 1000000 }
+{
+    let (place, even_place) = (whole(bytes), whole(even_bytes));
+    let mut source = SliceSource::new(bytes);
+    let mut evens = SliceSource::new(even_bytes);
     let shape = Shape::read(&mut source, place)?;
     let even_shape = Shape::read(&mut evens, even_place)?;
     let mut cache = BlockCache::new(alloc, 4)?;
-    let key = BlockKey {
-        segment: 1,
-        at: 0,
-        block: 3,
+    let even = BlockKey {
+        segment: 2,
+        ..FOURTH
     };
-    let even = BlockKey { segment: 2, ..key };
-    assert!(rt; asks(&rt, &mut cache, key, place, shape, &mut source, 1));
-    assert!(rt; asks(&rt, &mut cache, even, even_place, even_shape, &mut evens, 2));
-    assert!(rt; !asks(&rt, &mut cache, key, place, shape, &mut source, 1));
-    assert!(rt; !asks(&rt, &mut cache, even, even_place, even_shape, &mut evens, 2));
+    let asked = [
+        asks(rt, &mut cache, FOURTH, place, shape, &mut source, 1),
+        asks(rt, &mut cache, even, even_place, even_shape, &mut evens, 2),
+        asks(rt, &mut cache, FOURTH, place, shape, &mut source, 1),
+        asks(rt, &mut cache, even, even_place, even_shape, &mut evens, 2),
+    ];
+    equal(rt, asked, [true, true, false, false]);
     Ok(())
+}
+
+// A block of one segment is not answered for another one's.
+#[test]
+fn each_segment_has_its_own_blocks(rt: HostRuntime) -> Result<(), Fail> {
+    let bytes = list_bytes(&rt, rt.alloc(), 1)?;
+    let even_bytes = list_bytes(&rt, rt.alloc(), 2)?;
+    are_apart(&rt, rt.alloc(), &bytes, &even_bytes)
 }
 
 // The list has the blocks 0 to 15.
 #[test]
 fn no_block_past_the_end(rt: HostRuntime) -> Result<(), Fail> {
-    let alloc = rt.alloc();
-    let bytes = list_bytes(alloc, 1)?;
-    assert!(rt; bytes.len() < 1_000_000);
+    let bytes = list_bytes(&rt, rt.alloc(), 1)?;
     let place = whole(&bytes);
     let mut source = SliceSource::new(&bytes);
     let shape = Shape::read(&mut source, place)?;
-    let mut cache = BlockCache::new(alloc, 1)?;
-    let key = BlockKey {
-        segment: 1,
-        at: 0,
-        block: 16,
-    };
-    let answer = cache.block(key, place, shape, &mut source);
-    assert!(rt; answer == Err(SourceFault::Damaged));
+    let mut cache = BlockCache::new(rt.alloc(), 1)?;
+    let key = BlockKey { block: 16, ..FIRST };
+    let next = cache.block(key, place, shape, &mut source).err();
+    equal(&rt, next, Some(SourceFault::Damaged));
     let key = BlockKey {
         block: 4_294_967_295,
-        ..key
+        ..FIRST
     };
-    let answer = cache.block(key, place, shape, &mut source);
-    assert!(rt; answer == Err(SourceFault::Damaged));
+    let last = cache.block(key, place, shape, &mut source).err();
+    equal(&rt, last, Some(SourceFault::Damaged));
     Ok(())
 }
 
-// Each call of the source that a block takes fails in turn: the block is answered at the next call,
-// and is kept then.
+// How often the reading of the list's shape asks its source.
+fn asks_for_shape(bytes: &[u8]) -> Result<u64, SourceFault>
+    requires { length bytes.now < 1000000 }
+{
+    let mut source = SliceSource::new(bytes);
+    let _shape = Shape::read(&mut source, whole(bytes))?;
+    Ok(source.asked())
+}
+
+// That a block whose call after so many others fails is answered at the next call, and kept then.
+fn is_kept_later(rt: &impl Abort, alloc: Global, bytes: &[u8], passes: u64) -> Result<(), Fail>
+    requires { length bytes.now < 1000000 }
+{
+    let place = whole(bytes);
+    let mut source = Failing::after(bytes, passes);
+    let shape = Shape::read(&mut source, place)?;
+    let mut cache = BlockCache::new(alloc, 1)?;
+    let answer = cache.block(TWELFTH, place, shape, &mut source);
+    assert!(rt; answer == Err(SourceFault::Disk));
+    equal(rt, source.failures, 1);
+    let asked = [
+        asks(rt, &mut cache, TWELFTH, place, shape, &mut source, 1),
+        asks(rt, &mut cache, TWELFTH, place, shape, &mut source, 1),
+    ];
+    equal(rt, asked, [true, false]);
+    Ok(())
+}
+
+// Each call of the source that a block takes fails in turn.
 #[test]
 fn a_failed_read_keeps_nothing(rt: HostRuntime) -> Result<(), Fail> {
-    let alloc = rt.alloc();
-    let bytes = list_bytes(alloc, 1)?;
-    assert!(rt; bytes.len() < 1_000_000);
-    let place = whole(&bytes);
-    let mut clean = SliceSource::new(&bytes);
-    let _ = Shape::read(&mut clean, place)?;
-    let key = BlockKey {
-        segment: 1,
-        at: 0,
-        block: 11,
-    };
+    let bytes = list_bytes(&rt, rt.alloc(), 1)?;
+    let first = asks_for_shape(&bytes)?;
     for passed in 0..2 {
-        let mut source = Failing::after(&bytes, clean.asked().wrapping_add(passed));
-        let shape = Shape::read(&mut source, place)?;
-        let mut cache = BlockCache::new(alloc, 1)?;
-        let answer = cache.block(key, place, shape, &mut source);
-        assert!(rt; answer == Err(SourceFault::Disk));
-        assert_eq!(rt; source.failures, 1);
-        assert!(rt; asks(&rt, &mut cache, key, place, shape, &mut source, 1));
-        assert!(rt; !asks(&rt, &mut cache, key, place, shape, &mut source, 1));
+        is_kept_later(&rt, rt.alloc(), &bytes, first.wrapping_add(passed))?;
     }
     Ok(())
 }
@@ -169,25 +202,17 @@ fn a_failed_read_keeps_nothing(rt: HostRuntime) -> Result<(), Fail> {
 // Whatever request for memory is refused, each block is answered right.
 #[test]
 fn blocks_short_of_memory(rt: HostRuntime) -> Result<(), Fail> {
-    let alloc = rt.alloc();
-    let Ok(bytes) = list_bytes(alloc, 1) else {
+    let Ok(bytes) = list_bytes(&rt, rt.alloc(), 1) else {
         return Ok(());
     };
-    assert!(rt; bytes.len() < 1_000_000);
     let place = whole(&bytes);
     let mut source = SliceSource::new(&bytes);
     let shape = Shape::read(&mut source, place)?;
-    let Ok(mut cache) = BlockCache::new(alloc, 2) else {
+    let Ok(mut cache) = BlockCache::new(rt.alloc(), 2) else {
         return Ok(());
     };
-    let first = BlockKey {
-        segment: 1,
-        at: 0,
-        block: 0,
-    };
-    let twelfth = BlockKey { block: 11, ..first };
-    let _ = asks(&rt, &mut cache, first, place, shape, &mut source, 1);
-    let _ = asks(&rt, &mut cache, twelfth, place, shape, &mut source, 1);
-    let _ = asks(&rt, &mut cache, first, place, shape, &mut source, 1);
+    let _ = asks(&rt, &mut cache, FIRST, place, shape, &mut source, 1);
+    let _ = asks(&rt, &mut cache, TWELFTH, place, shape, &mut source, 1);
+    let _ = asks(&rt, &mut cache, FIRST, place, shape, &mut source, 1);
     Ok(())
 }

@@ -1,8 +1,11 @@
 //! Cursors: the worked row, lists of many kinds taken out in each way, how often a seek asks,
 //! damaged bytes, and reads that fail.
 
+ghost use Rattle.std.specs.Prelude.{◌<◌, ◌^◌, IfOk, length};
+
+use crate::checks::equal;
 use crate::failing::Failing;
-use crate::made::{apart, uneven};
+use crate::made::{amid, apart, uneven};
 use crate::plain::plain_encode;
 use pk_cursor::Cursor;
 use pk_posting::{ByteSource, ListPlace, SliceSource, SourceFault};
@@ -64,12 +67,12 @@ fn keeps_its_fault<S: ByteSource>(rt: &impl Abort, cursor: &mut Cursor<'_, S>) {
         return;
     };
     for target in [0, 1, 4_294_967_295] {
-        assert_eq!(rt; cursor.seek(target), Err(fault));
-        assert_eq!(rt; cursor.next(), Err(fault));
-        assert_eq!(rt; cursor.pass(), Err(fault));
-        assert_eq!(rt; cursor.current(), None);
-        assert!(rt; cursor.rest().is_empty());
-        assert_eq!(rt; cursor.fault(), Some(fault));
+        equal(rt, cursor.seek(target), Err(fault));
+        equal(rt, cursor.next(), Err(fault));
+        equal(rt, cursor.pass(), Err(fault));
+        equal(rt, cursor.current(), None);
+        equal(rt, cursor.rest(), [].as_slice());
+        equal(rt, cursor.fault(), Some(fault));
     }
 }
 
@@ -92,9 +95,9 @@ fn comes_to<S: ByteSource>(
         Step::Next => cursor.next(),
         Step::Seek(target) => cursor.seek(target),
     };
-    assert_eq!(rt; gone, Ok(()));
-    assert_eq!(rt; cursor.current(), number);
-    assert_eq!(rt; cursor.decoded(), decoded);
+    equal(rt, gone, Ok(()));
+    equal(rt, cursor.current(), number);
+    equal(rt, cursor.decoded(), decoded);
 }
 
 #[test]
@@ -104,8 +107,8 @@ fn the_row_is_walked(rt: HostRuntime) -> Result<(), Fail> {
     assert!(rt; bytes.len() < 1_000_000);
     let mut source = SliceSource::new(&bytes);
     let mut cursor = Cursor::open(&mut source, place_at(0, &bytes));
-    assert_eq!(rt; cursor.current(), Some(1));
-    assert_eq!(rt; cursor.decoded(), 1);
+    equal(&rt, cursor.current(), Some(1));
+    equal(&rt, cursor.decoded(), 1);
     let steps = [
         (Step::Seek(1500), Some(1500), 2),
         (Step::Next, Some(1501), 2),
@@ -116,56 +119,98 @@ fn the_row_is_walked(rt: HostRuntime) -> Result<(), Fail> {
     for (step, number, decoded) in steps {
         comes_to(&rt, &mut cursor, step, number, decoded);
     }
-    assert_eq!(rt; cursor.fault(), None);
+    equal(&rt, cursor.fault(), None);
     Ok(())
+}
+
+// That a list comes out one by one, and each of its blocks is decoded once.
+fn comes_one_by_one(
+    rt: &impl Abort,
+    alloc: Global,
+    bytes: &[u8],
+    place: ListPlace,
+    xs: &[u32],
+) -> Result<(), AllocError>
+    requires { length bytes.now < 2 ^ 32 }
+{
+    let mut source = SliceSource::new(bytes);
+    let mut cursor = Cursor::open(&mut source, place);
+    let mut out = Vec::new(alloc);
+    by_next(&mut cursor, &mut out)?;
+    equal(rt, out.as_slice(), xs);
+    equal(rt, cursor.decoded(), xs.len() as u64 / 128);
+    Ok(())
+}
+
+// That it comes out by all that is held at a time.
+fn comes_in_blocks(
+    rt: &impl Abort,
+    alloc: Global,
+    bytes: &[u8],
+    place: ListPlace,
+    xs: &[u32],
+) -> Result<(), AllocError>
+    requires { length bytes.now < 2 ^ 32 }
+{
+    let mut source = SliceSource::new(bytes);
+    let mut cursor = Cursor::open(&mut source, place);
+    let mut out = Vec::new(alloc);
+    by_rest(&mut cursor, &mut out)?;
+    equal(rt, out.as_slice(), xs);
+    equal(rt, cursor.fault(), None);
+    Ok(())
+}
+
+// That a seek comes to a number.
+fn seeks<S: ByteSource>(rt: &impl Abort, cursor: &mut Cursor<'_, S>, target: u32, number: u32) {
+    equal(rt, cursor.seek(target), Ok(()));
+    equal(rt, cursor.current(), Some(number));
+}
+
+// That one cursor seeks each number after the other.
+fn comes_by_seeks(rt: &impl Abort, bytes: &[u8], place: ListPlace, xs: &[u32])
+    requires { length bytes.now < 2 ^ 32 }
+{
+    let mut source = SliceSource::new(bytes);
+    let mut cursor = Cursor::open(&mut source, place);
+    for x in xs {
+        seeks(rt, &mut cursor, *x, *x);
+    }
 }
 
 // Takes a list out in each way, which lies seven bytes after the source's start.
 fn is_taken_out(rt: &impl Abort, alloc: Global, xs: &[u32]) -> Result<(), Fail> {
     let bytes = plain_encode(alloc, xs)?;
-    let mut amid = Vec::from_slice(alloc, &[9u8; 7])?;
-    amid.extend_from_slice(&bytes)?;
-    amid.extend_from_slice(&[9u8; 3])?;
+    let amid = amid(alloc, &bytes)?;
     assert!(rt; amid.len() < 1_000_000);
     let place = place_at(7, &bytes);
-    let mut source = SliceSource::new(&amid);
-
-    let mut one_by_one = Vec::new(alloc);
-    let mut cursor = Cursor::open(&mut source, place);
-    by_next(&mut cursor, &mut one_by_one)?;
-    assert_eq!(rt; one_by_one.as_slice(), xs);
-    assert_eq!(rt; cursor.decoded(), xs.len() as u64 / 128);
-
-    let mut in_blocks = Vec::new(alloc);
-    let mut cursor = Cursor::open(&mut source, place);
-    by_rest(&mut cursor, &mut in_blocks)?;
-    assert_eq!(rt; in_blocks.as_slice(), xs);
-    assert_eq!(rt; cursor.fault(), None);
-
-    let mut rising = Cursor::open(&mut source, place);
-    for x in xs.iter() {
-        assert_eq!(rt; rising.seek(*x), Ok(()));
-        assert_eq!(rt; rising.current(), Some(*x));
-    }
+    comes_one_by_one(rt, alloc, &amid, place, xs)?;
+    comes_in_blocks(rt, alloc, &amid, place, xs)?;
+    comes_by_seeks(rt, &amid, place, xs);
     Ok(())
 }
 
-// Seeks from the start to each number of a list, and to the place just before it.
+// Seeks from the start to the place just before a number of a list, where another of its numbers
+// may be, and then to it.
+fn is_sought(rt: &impl Abort, bytes: &[u8], before: Option<u32>, number: u32)
+    requires { length bytes.now < 2 ^ 32 }
+{
+    let mut source = SliceSource::new(bytes);
+    let mut cursor = Cursor::open(&mut source, place_at(0, bytes));
+    let less = number.saturating_sub(1);
+    let first = if before == Some(less) { less } else { number };
+    seeks(rt, &mut cursor, less, first);
+    seeks(rt, &mut cursor, number, number);
+}
+
+// Seeks from the start to each number of a list.
 fn is_found(rt: &impl Abort, alloc: Global, xs: &[u32]) -> Result<(), Fail> {
     let bytes = plain_encode(alloc, xs)?;
     assert!(rt; bytes.len() < 1_000_000);
-    let mut source = SliceSource::new(&bytes);
-    for (i, x) in xs.iter().enumerate() {
-        let mut cursor = Cursor::open(&mut source, place_at(0, &bytes));
-        assert_eq!(rt; cursor.seek(x.saturating_sub(1)), Ok(()));
-        let before = if i > 0 && xs[i - 1] == x.saturating_sub(1) {
-            xs[i - 1]
-        } else {
-            *x
-        };
-        assert_eq!(rt; cursor.current(), Some(before));
-        assert_eq!(rt; cursor.seek(*x), Ok(()));
-        assert_eq!(rt; cursor.current(), Some(*x));
+    let mut before = None;
+    for x in xs {
+        is_sought(rt, &bytes, before, *x);
+        before = Some(*x);
     }
     Ok(())
 }
@@ -187,12 +232,27 @@ fn numbers_are_found(rt: HostRuntime) -> Result<(), Fail> {
     Ok(())
 }
 
+// That a seek past so many blocks of the numbers from 1 on decodes little and asks little: twice for
+// each binary digit of the blocks.
+fn asks_little(rt: &impl Abort, bytes: &[u8], passed: u32, digits: u64)
+    requires bytes { length bytes.now < 2 ^ 32 }
+{
+    let target = passed.saturating_mul(128).saturating_add(1);
+    let mut source = SliceSource::new(bytes);
+    let mut cursor = Cursor::open(&mut source, place_at(0, bytes));
+    seeks(rt, &mut cursor, target, target);
+    assert!(rt; cursor.decoded() <= 2);
+    assert!(rt;
+        source.asked() <= digits.saturating_mul(2).saturating_add(8),
+        "{passed}"
+    );
+}
+
 // A list of 1,024 blocks: a seek decodes the block that it goes to, and asks twice for each binary
 // digit of the blocks that it passes.
 #[test]
 fn a_seek_asks_little(rt: HostRuntime) -> Result<(), Fail> {
-    let alloc = rt.alloc();
-    let bytes = plain_encode(alloc, &apart(alloc, 1, 1, 131_072)?)?;
+    let bytes = plain_encode(rt.alloc(), &apart(rt.alloc(), 1, 1, 131_072)?)?;
     assert!(rt; bytes.len() < 1_000_000);
     for (passed, digits) in [
         (0u32, 0u64),
@@ -203,87 +263,126 @@ fn a_seek_asks_little(rt: HostRuntime) -> Result<(), Fail> {
         (100, 7),
         (1000, 10),
     ] {
-        let target = 128 * passed + 1;
-        let mut source = SliceSource::new(&bytes);
-        let mut cursor = Cursor::open(&mut source, place_at(0, &bytes));
-        assert_eq!(rt; cursor.seek(target), Ok(()));
-        assert_eq!(rt; cursor.current(), Some(target));
-        assert!(rt; cursor.decoded() <= 2);
-        assert!(rt; source.asked() <= 6 + 2 * digits + 2, "{passed}");
+        asks_little(&rt, &bytes, passed, digits);
     }
     Ok(())
 }
 
 // Two blocks and a tail.
-fn short_list(alloc: Global) -> Result<Vec<u8>, AllocError> {
-    plain_encode(alloc, &apart(alloc, 1, 1, 300)?)
+fn short_list(rt: &impl Abort, alloc: Global) -> Result<Vec<u8>, AllocError>
+    ensures { IfOk result (λ v. length v.items < 4096) }
+{
+    let bytes = plain_encode(alloc, &apart(alloc, 1, 1, 300)?)?;
+    assert!(rt; bytes.len() < 4096);
+    Ok(bytes)
 }
 
-// A prefix is no list: by its end a walk is told so, where the source ends with it, and where the
-// place goes on past the source.
+// By the end of a walk over a source that ends too early it is damaged.
+fn ends_damaged(rt: &impl Abort, alloc: Global, prefix: &[u8]) -> Result<(), AllocError>
+    requires { length prefix.now < 4096 }
+{
+    let mut source = SliceSource::new(prefix);
+    let mut cursor = Cursor::open(&mut source, place_at(0, prefix));
+    by_next(&mut cursor, &mut Vec::new(alloc))?;
+    assert_eq!(rt;
+        cursor.fault(),
+        Some(SourceFault::Damaged),
+        "{}",
+        prefix.len()
+    );
+    keeps_its_fault(rt, &mut cursor);
+    Ok(())
+}
+
+// At a place that goes on past the source it is so from the start, and nothing is asked.
+fn opens_damaged(rt: &impl Abort, prefix: &[u8], place: ListPlace)
+    requires { length prefix.now < 4096 }
+{
+    let mut source = SliceSource::new(prefix);
+    let mut cursor = Cursor::open(&mut source, place);
+    assert_eq!(rt;
+        cursor.fault(),
+        Some(SourceFault::Damaged),
+        "{}",
+        prefix.len()
+    );
+    keeps_its_fault(rt, &mut cursor);
+    equal(rt, source.asked(), 0);
+}
+
+// A prefix is no list.
 #[test]
 fn every_prefix_is_damaged(rt: HostRuntime) -> Result<(), Fail> {
-    let alloc = rt.alloc();
-    let bytes = short_list(alloc)?;
-    assert!(rt; bytes.len() < 4096);
+    let bytes = short_list(&rt, rt.alloc())?;
+    let place = place_at(0, &bytes);
     for n in 0..bytes.len() {
-        let prefix = &bytes[..n];
-        let mut source = SliceSource::new(prefix);
-        let mut cursor = Cursor::open(&mut source, place_at(0, prefix));
-        by_next(&mut cursor, &mut Vec::new(alloc))?;
-        assert_eq!(rt; cursor.fault(), Some(SourceFault::Damaged), "{n}");
-        keeps_its_fault(&rt, &mut cursor);
-
-        let mut source = SliceSource::new(prefix);
-        let mut cursor = Cursor::open(&mut source, place_at(0, &bytes));
-        assert_eq!(rt; cursor.fault(), Some(SourceFault::Damaged), "{n}");
-        keeps_its_fault(&rt, &mut cursor);
-        assert_eq!(rt; source.asked(), 0);
+        ends_damaged(&rt, rt.alloc(), &bytes[..n])?;
+        opens_damaged(&rt, &bytes[..n], place);
     }
+    Ok(())
+}
+
+// A seek and a walk over any bytes.
+fn each_call_returns(rt: &impl Abort, alloc: Global, bytes: &[u8]) -> Result<(), AllocError>
+    requires { length bytes.now < 4096 }
+{
+    let place = place_at(0, bytes);
+    let mut source = SliceSource::new(bytes);
+    let mut cursor = Cursor::open(&mut source, place);
+    assert_ne!(rt; cursor.seek(200), Err(SourceFault::Disk));
+    keeps_its_fault(rt, &mut cursor);
+    let mut cursor = Cursor::open(&mut source, place);
+    by_rest(&mut cursor, &mut Vec::new(alloc))?;
+    keeps_its_fault(rt, &mut cursor);
     Ok(())
 }
 
 #[test]
 fn over_changed_bytes_each_call_returns(rt: HostRuntime) -> Result<(), Fail> {
-    let alloc = rt.alloc();
-    let mut bytes = short_list(alloc)?;
-    assert!(rt; bytes.len() < 4096);
+    let mut bytes = short_list(&rt, rt.alloc())?;
     for i in 0..bytes.len() {
         let kept = bytes[i];
         for new in [0x00, 0xFF] {
             bytes[i] = new;
             assert!(rt; bytes.len() < 4096);
-            let mut source = SliceSource::new(&bytes);
-            let mut cursor = Cursor::open(&mut source, place_at(0, &bytes));
-            assert_ne!(rt; cursor.seek(200), Err(SourceFault::Disk));
-            keeps_its_fault(&rt, &mut cursor);
-            let mut cursor = Cursor::open(&mut source, place_at(0, &bytes));
-            by_rest(&mut cursor, &mut Vec::new(alloc))?;
-            keeps_its_fault(&rt, &mut cursor);
+            each_call_returns(&rt, rt.alloc(), &bytes)?;
         }
         bytes[i] = kept;
     }
     Ok(())
 }
 
-// Each call below fails in turn: the walk ends with Disk, which the cursor keeps, and the source is
-// not asked again.
+// A walk over a source whose call after so many others fails ends with Disk, which the cursor
+// keeps, and the source is not asked again.
+fn ends_with_disk(
+    rt: &impl Abort,
+    alloc: Global,
+    bytes: &[u8],
+    passes: u64,
+) -> Result<(), AllocError>
+    requires { length bytes.now < 4096 }
+{
+    let mut source = Failing::after(bytes, passes);
+    let mut cursor = Cursor::open(&mut source, place_at(0, bytes));
+    by_next(&mut cursor, &mut Vec::new(alloc))?;
+    equal(rt, cursor.fault(), Some(SourceFault::Disk));
+    keeps_its_fault(rt, &mut cursor);
+    equal(rt, source.failures, 1);
+    equal(rt, source.asked(), passes.saturating_add(1));
+    Ok(())
+}
+
+// Each call below fails in turn.
 #[test]
 fn each_failed_read_is_kept(rt: HostRuntime) -> Result<(), Fail> {
-    let alloc = rt.alloc();
-    let bytes = short_list(alloc)?;
-    assert!(rt; bytes.len() < 4096);
-    let place = place_at(0, &bytes);
+    let bytes = short_list(&rt, rt.alloc())?;
     let mut clean = SliceSource::new(&bytes);
-    by_next(&mut Cursor::open(&mut clean, place), &mut Vec::new(alloc))?;
+    by_next(
+        &mut Cursor::open(&mut clean, place_at(0, &bytes)),
+        &mut Vec::new(rt.alloc()),
+    )?;
     for passes in 0..clean.asked() {
-        let mut source = Failing::after(&bytes, passes);
-        let mut cursor = Cursor::open(&mut source, place);
-        by_next(&mut cursor, &mut Vec::new(alloc))?;
-        assert_eq!(rt; cursor.fault(), Some(SourceFault::Disk));
-        keeps_its_fault(&rt, &mut cursor);
-        assert_eq!(rt; source.failures, 1);
-        assert_eq!(rt; source.asked(), passes + 1);
+        ends_with_disk(&rt, rt.alloc(), &bytes, passes)?;
     }
     Ok(())
 }

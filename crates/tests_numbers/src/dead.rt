@@ -1,9 +1,11 @@
 //! Deletion lists: worked rows, numbers that come in any order, and lists there and back.
 
+use crate::checks::equal;
 use crate::made::apart;
 use pk_dead::Dead;
 use pk_posting::DecodeFault;
 use std::alloc::Global;
+use std::process::Abort;
 use std::test::Fail;
 
 // Numbers in the order in which they are added, and the bytes of their list.
@@ -30,18 +32,38 @@ fn added(alloc: Global, numbers: &[u32]) -> Result<Dead, Fail> {
     Ok(dead)
 }
 
+// That of some numbers the list contains just these.
+fn contains_just(rt: &impl Abort, dead: &Dead, numbers: &[u32]) {
+    for n in [1, 2, 5, 829, 4_294_967_295] {
+        assert_eq!(rt; dead.contains(n), numbers.contains(&n), "{n}");
+    }
+}
+
+// That the bytes are those of the list of these numbers, and are read as it.
+fn has_bytes(rt: &impl Abort, alloc: Global, numbers: &[u32], bytes: &[u8]) -> Result<(), Fail> {
+    let dead = added(alloc, numbers)?;
+    equal(rt, dead.spell(alloc)?.as_slice(), bytes);
+    equal(rt, dead.is_empty(), numbers.is_empty());
+    let read = Dead::read(alloc, bytes)?;
+    equal(rt, read.numbers(), dead.numbers());
+    contains_just(rt, &read, numbers);
+    Ok(())
+}
+
 #[test]
 fn lists_have_their_bytes(rt: HostRuntime) -> Result<(), Fail> {
     for (numbers, bytes) in ROWS {
-        let dead = added(rt.alloc(), numbers)?;
-        assert_eq!(rt; dead.spell(rt.alloc())?.as_slice(), bytes);
-        assert_eq!(rt; dead.is_empty(), numbers.is_empty());
-        let read = Dead::read(rt.alloc(), bytes)?;
-        assert_eq!(rt; read.numbers(), dead.numbers());
-        for n in [1, 2, 5, 829, 4_294_967_295] {
-            assert_eq!(rt; read.contains(n), numbers.contains(&n), "{n}");
-        }
+        has_bytes(&rt, rt.alloc(), numbers, bytes)?;
     }
+    Ok(())
+}
+
+// That a list which has the numbers from 1 to 300 is spelled, read and copied as these.
+fn comes_back(rt: &impl Abort, alloc: Global, dead: &Dead, rising: &[u32]) -> Result<(), Fail> {
+    let read = Dead::read(alloc, &dead.spell(alloc)?)?;
+    equal(rt, read.numbers(), rising);
+    equal(rt, read.copy(alloc)?.numbers(), rising);
+    assert!(rt; read.contains(1) && read.contains(300) && !read.contains(301));
     Ok(())
 }
 
@@ -55,28 +77,25 @@ fn numbers_in_any_order_come_rising(rt: HostRuntime) -> Result<(), Fail> {
     }
     let dead = added(rt.alloc(), &numbers)?;
     let rising = apart(rt.alloc(), 1, 1, 300)?;
-    assert_eq!(rt; dead.numbers(), rising.as_slice());
-    assert_eq!(rt; dead.len(), 300);
-    let read = Dead::read(rt.alloc(), &dead.spell(rt.alloc())?)?;
-    assert_eq!(rt; read.numbers(), rising.as_slice());
-    assert_eq!(rt; read.copy(rt.alloc())?.numbers(), rising.as_slice());
-    assert!(rt; read.contains(1) && read.contains(300) && !read.contains(301));
-    Ok(())
+    equal(&rt, dead.numbers(), rising.as_slice());
+    equal(&rt, dead.len(), 300);
+    comes_back(&rt, rt.alloc(), &dead, &rising)
+}
+
+// That the bytes spell no list.
+fn is_damaged(rt: &impl Abort, alloc: Global, bytes: &[u8]) {
+    let fault = Dead::read(alloc, bytes).err();
+    assert_eq!(rt; fault, Some(DecodeFault::Damaged), "{bytes:?}");
 }
 
 #[test]
-fn what_spells_no_list_is_damaged(rt: HostRuntime) -> Result<(), Fail> {
+fn what_spells_no_list_is_damaged(rt: HostRuntime) {
     for bytes in [
         b"".as_slice(),
         &[0x01, 0x00, 0x00, 0x00],
         &[0x02, 0x00, 0x00, 0x00, 0x82, 0x80],
         &[0x01, 0x00, 0x00, 0x00, 0x82, 0x82],
     ] {
-        assert_eq!(rt;
-            Dead::read(rt.alloc(), bytes).err(),
-            Some(DecodeFault::Damaged),
-            "{bytes:?}"
-        );
+        is_damaged(&rt, rt.alloc(), bytes);
     }
-    Ok(())
 }

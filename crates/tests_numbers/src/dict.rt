@@ -1,9 +1,11 @@
 //! The term dictionary: its worked row, dictionaries of many shapes by every way of reading,
 //! damage, and faults below.
 
-ghost use Rattle.std.specs.Prelude.{◌<◌, IfOk, length};
+ghost use Rattle.std.specs.Prelude.{◌<◌, ◌^◌, IfOk, length};
 
+use crate::checks::equal;
 use crate::failing::Failing;
+use crate::made::amid;
 use pk_dict::{
     Dict, DictFault, DictPlace, DictWriter, EntriesFault, Entry, Windows, entries_in, look_up_in,
     look_up_near,
@@ -84,12 +86,10 @@ fn longer_and_longer(alloc: Global) -> Result<Items, Fail> {
 
 // Terms of 100,000 bytes that differ in the last one, and one that goes on.
 fn long_terms(alloc: Global) -> Result<Items, Fail> {
-    let mut first = vec![in alloc; b'b'; 100_000]?;
-    let mut second = Vec::from_slice(alloc, &first)?;
-    second.push(b'b')?;
-    first.push(b'a')?;
-    let mut third = Vec::from_slice(alloc, &second)?;
-    third.push(b'a')?;
+    let front = vec![in alloc; b'b'; 100_000]?;
+    let first = [front.as_slice(), b"a"].concat(alloc)?;
+    let second = [front.as_slice(), b"b"].concat(alloc)?;
+    let third = [front.as_slice(), b"ba"].concat(alloc)?;
     items(alloc, &[b"a".as_slice(), &first, &second, &third, b"c"])
 }
 
@@ -120,6 +120,53 @@ fn whole(bytes: &[u8], terms: u32) -> DictPlace {
     }
 }
 
+// How often a look-up asks the source, which gives what is wanted.
+fn asks_in(
+    rt: &impl Abort,
+    bytes: &[u8],
+    place: DictPlace,
+    term: &[u8],
+    wanted: Option<Entry>,
+) -> u64
+    requires { length bytes.now < 2 ^ 32 }
+{
+    let mut source = SliceSource::new(bytes);
+    equal(rt, look_up_in(&mut source, place, term), Ok(wanted));
+    source.asked()
+}
+
+// How often one by a table of pivots does.
+fn asks_near(
+    rt: &impl Abort,
+    bytes: &[u8],
+    place: DictPlace,
+    pivots: &mut [u64],
+    term: &[u8],
+    wanted: Option<Entry>,
+) -> u64
+    requires { length bytes.now < 2 ^ 32 }
+{
+    let mut source = SliceSource::new(bytes);
+    equal(
+        rt,
+        look_up_near(&mut source, place, pivots, term),
+        Ok(wanted),
+    );
+    source.asked()
+}
+
+// That windows over a source give it too, and ask the source no more often.
+fn windows_find(rt: &impl Abort, bytes: &[u8], place: DictPlace, term: &[u8], wanted: Option<Entry>)
+    requires { length bytes.now < 2 ^ 32 }
+{
+    let asks = asks_in(rt, bytes, place, term, wanted);
+    let mut below = SliceSource::new(bytes);
+    let mut windows = Windows::on(&mut below, place);
+    equal(rt, look_up_in(&mut windows, place, term), Ok(wanted));
+    equal(rt, windows.asked(), asks);
+    assert!(rt; below.asked() <= asks);
+}
+
 // That each way of reading gives the same for a term: the slice, a source where the dictionary
 // lies in the midst, windows over it, and by a table of pivots, whatever it has.
 fn looks_up(
@@ -129,35 +176,51 @@ fn looks_up(
     terms: u32,
     term: &[u8],
     wanted: Option<Entry>,
-) -> Result<(), Fail> {
-    assert_eq!(rt; Dict::open(bytes, terms).look_up(term), Ok(wanted));
+) {
+    equal(rt, Dict::open(bytes, terms).look_up(term), Ok(wanted));
     assert!(rt; amid.len() < 100_000_000);
     let place = DictPlace {
         at: 7,
         ..whole(bytes, terms)
     };
-    let mut source = SliceSource::new(amid);
-    assert_eq!(rt; look_up_in(&mut source, place, term), Ok(wanted));
-    let asked = source.asked();
-    let mut below = SliceSource::new(amid);
-    let mut windows = Windows::on(&mut below, place);
-    assert_eq!(rt; look_up_in(&mut windows, place, term), Ok(wanted));
-    assert_eq!(rt; windows.asked(), asked);
-    assert!(rt; below.asked() <= asked);
-    let mut pivots = [0; 16];
-    for _ in 0..3 {
-        assert_eq!(rt;
-            look_up_near(&mut source, place, &mut pivots, term),
-            Ok(wanted)
-        );
+    windows_find(rt, amid, place, term, wanted);
+    for pivot in [0, 1, 0x6161_6162_0000_0000, u64::MAX] {
+        let mut pivots = [pivot; 16];
+        for _ in 0..3 {
+            let _asks = asks_near(rt, amid, place, &mut pivots, term, wanted);
+        }
     }
-    for wrong in [1, 0x6161_6162_0000_0000, u64::MAX] {
-        let mut pivots = [wrong; 16];
-        assert_eq!(rt;
-            look_up_near(&mut source, place, &mut pivots, term),
-            Ok(wanted)
-        );
+}
+
+// That each item is found by each way, and not a term that stands just after it.
+fn each_is_found(
+    rt: &impl Abort,
+    alloc: Global,
+    items: &[(Vec<u8>, Entry)],
+    bytes: &[u8],
+) -> Result<(), Fail> {
+    let amid = amid(alloc, bytes)?;
+    let terms = u32::try_from(items.len())?;
+    for (term, entry) in items.iter() {
+        looks_up(rt, bytes, &amid, terms, term, Some(*entry));
+        let mut next = Vec::from_slice(alloc, term)?;
+        next.push(0)?;
+        looks_up(rt, bytes, &amid, terms, &next, None);
     }
+    looks_up(rt, bytes, &amid, terms, &[0xFF; 2], None);
+    Ok(())
+}
+
+// That the terms with a prefix are these items.
+fn lists(
+    rt: &impl Abort,
+    alloc: Global,
+    dict: Dict<'_>,
+    prefix: &[u8],
+    items: Option<&[(Vec<u8>, Entry)]>,
+) -> Result<(), DictFault> {
+    let found = dict.entries_with_prefix(alloc, prefix)?;
+    assert_eq!(rt; Some(found.as_slice()), items);
     Ok(())
 }
 
@@ -165,19 +228,9 @@ fn looks_up(
 // them up by each way, and a term that stands just after each; then lists them all.
 fn holds(rt: &impl Abort, alloc: Global, items: &[(Vec<u8>, Entry)]) -> Result<(), Fail> {
     let bytes = written(rt, alloc, items)?;
-    let mut amid = Vec::from_slice(alloc, &[9u8; 7])?;
-    amid.extend_from_slice(&bytes)?;
-    amid.extend_from_slice(&[9u8; 3])?;
+    each_is_found(rt, alloc, items, &bytes)?;
     let terms = u32::try_from(items.len())?;
-    for (term, entry) in items.iter() {
-        looks_up(rt, &bytes, &amid, terms, term, Some(*entry))?;
-        let mut next = Vec::from_slice(alloc, term)?;
-        next.push(0)?;
-        looks_up(rt, &bytes, &amid, terms, &next, None)?;
-    }
-    looks_up(rt, &bytes, &amid, terms, &[0xFF; 2], None)?;
-    let all = Dict::open(&bytes, terms).entries_with_prefix(alloc, &[])?;
-    assert_eq!(rt; all.as_slice(), items);
+    lists(rt, alloc, Dict::open(&bytes, terms), &[], Some(items))?;
     Ok(())
 }
 
@@ -219,22 +272,26 @@ fn terms_that_rise_may_be_added(rt: HostRuntime) -> Result<(), Fail> {
 }
 
 #[test]
-fn the_row_is_read(rt: HostRuntime) -> Result<(), Fail> {
-    let pair = pair(rt.alloc())?;
+fn the_terms_of_the_row_are_found(rt: HostRuntime) {
     let dict = Dict::open(&ROW, 2);
     for (term, found) in [
         (b"newt".as_slice(), Some(entry(1, 5))),
         (b"new", Some(entry(1, 0))),
         (b"ne", None),
     ] {
-        assert_eq!(rt; dict.look_up(term), Ok(found));
-    }
-    for (prefix, from) in [(b"newt".as_slice(), 1usize), (b"ne", 0), (b"newts", 2)] {
-        let found = dict.entries_with_prefix(rt.alloc(), prefix)?;
-        assert_eq!(rt; Some(found.as_slice()), pair.get(from..2));
+        equal(&rt, dict.look_up(term), Ok(found));
     }
     let damaged = Dict::open(&TOO_FEW_KEPT, 2);
-    assert_eq!(rt; damaged.look_up(b"newt"), Err(DictFault::Damaged));
+    equal(&rt, damaged.look_up(b"newt"), Err(DictFault::Damaged));
+}
+
+#[test]
+fn the_terms_of_the_row_are_listed(rt: HostRuntime) -> Result<(), Fail> {
+    let pair = pair(rt.alloc())?;
+    let dict = Dict::open(&ROW, 2);
+    for (prefix, from) in [(b"newt".as_slice(), 1usize), (b"ne", 0), (b"newts", 2)] {
+        lists(&rt, rt.alloc(), dict, prefix, pair.get(from..2))?;
+    }
     Ok(())
 }
 
@@ -266,40 +323,56 @@ fn a_prefix_lists_its_terms(rt: HostRuntime) -> Result<(), Fail> {
         ("b", 5_000, 5_000),
         ("A", 0, 0),
     ] {
-        let found = dict.entries_with_prefix(alloc, prefix.as_bytes())?;
-        assert_eq!(rt; Some(found.as_slice()), terms.get(from..to));
+        lists(&rt, alloc, dict, prefix.as_bytes(), terms.get(from..to))?;
     }
     Ok(())
 }
 
-// Each byte of the row set to 00 and to FF: each call answers, and what it refuses is damage. The
-// row cut short anywhere is damage to whoever reads what is missing, and so is a dictionary that
-// goes past the end of its source: nothing is asked then.
+// That a look-up answers over any bytes, and refuses none for want of memory.
+fn looks_up_anyhow(rt: &impl Abort, dict: Dict<'_>) {
+    for term in [b"".as_slice(), b"ne", b"new", b"newt", b"newts", b"o"] {
+        assert!(rt; !matches!(dict.look_up(term), Err(DictFault::Memory)));
+    }
+}
+
+// That a list of two terms at most is answered over any bytes, or that they are damaged.
+fn lists_anyhow(rt: &impl Abort, alloc: Global, dict: Dict<'_>, prefix: &[u8]) {
+    match dict.entries_with_prefix(alloc, prefix) {
+        Ok(found) => assert!(rt; found.len() <= 2),
+        Err(fault) => equal(rt, fault, DictFault::Damaged),
+    }
+}
+
+// Each byte of the row set to 00 and to FF: each call answers, and what it refuses is damage.
 #[test]
-fn damage_is_answered(rt: HostRuntime) -> Result<(), Fail> {
-    let alloc = rt.alloc();
+fn changed_bytes_are_answered(rt: HostRuntime) {
     for at in 0..ROW.len() {
         for byte in [0x00, 0xFF] {
             let mut bytes = ROW;
             bytes[at] = byte;
             let dict = Dict::open(&bytes, 2);
-            for term in [b"".as_slice(), b"ne", b"new", b"newt", b"newts", b"o"] {
-                assert!(rt; !matches!(dict.look_up(term), Err(DictFault::Memory)));
-            }
+            looks_up_anyhow(&rt, dict);
             for prefix in [b"".as_slice(), b"new", b"o"] {
-                match dict.entries_with_prefix(alloc, prefix) {
-                    Ok(found) => assert!(rt; found.len() <= 2),
-                    Err(fault) => assert_eq!(rt; fault, DictFault::Damaged),
-                }
+                lists_anyhow(&rt, rt.alloc(), dict, prefix);
             }
         }
     }
+}
+
+// The row cut short anywhere is damage to whoever reads what is missing.
+#[test]
+fn a_row_cut_short_is_damaged(rt: HostRuntime) {
     for len in 0..ROW.len() {
         let dict = Dict::open(&ROW[..len], 2);
-        assert_eq!(rt; dict.look_up(b"newt"), Err(DictFault::Damaged));
-        let listed = dict.entries_with_prefix(alloc, b"");
-        assert_eq!(rt; listed.err(), Some(DictFault::Damaged));
+        equal(&rt, dict.look_up(b"newt"), Err(DictFault::Damaged));
+        let listed = dict.entries_with_prefix(rt.alloc(), b"");
+        equal(&rt, listed.err(), Some(DictFault::Damaged));
     }
+}
+
+// A dictionary that goes past the end of its source is damaged: nothing is asked then.
+#[test]
+fn a_dictionary_past_the_end_is_damaged(rt: HostRuntime) {
     let mut source = SliceSource::new(&ROW);
     let place = DictPlace {
         at: 1,
@@ -307,11 +380,10 @@ fn damage_is_answered(rt: HostRuntime) -> Result<(), Fail> {
         terms: 2,
     };
     let looked_up = look_up_in(&mut source, place, b"new");
-    assert_eq!(rt; looked_up, Err(SourceFault::Damaged));
-    let listed = entries_in(alloc, &mut source, place, b"new");
-    assert_eq!(rt; listed.err(), Some(EntriesFault::Damaged));
-    assert_eq!(rt; source.asked(), 0);
-    Ok(())
+    equal(&rt, looked_up, Err(SourceFault::Damaged));
+    let listed = entries_in(rt.alloc(), &mut source, place, b"new");
+    equal(&rt, listed.err(), Some(EntriesFault::Damaged));
+    equal(&rt, source.asked(), 0);
 }
 
 // Of 17 terms the second group is read: the windows are asked for its offset and for its term,
@@ -324,58 +396,85 @@ fn windows_ask_once(rt: HostRuntime) -> Result<(), Fail> {
     let place = whole(&bytes, 17);
     let mut source = SliceSource::new(&bytes);
     let mut windows = Windows::on(&mut source, place);
-    assert_eq!(rt; windows.len() as usize, bytes.len());
+    equal(&rt, windows.len() as usize, bytes.len());
     let found = look_up_in(&mut windows, place, b"aaadc");
-    assert_eq!(rt; found, Ok(Some(entry_at(16))));
-    assert_eq!(rt; windows.asked(), 2);
-    assert_eq!(rt; source.asked(), 2);
+    equal(&rt, found, Ok(Some(entry_at(16))));
+    equal(&rt, windows.asked(), 2);
+    equal(&rt, source.asked(), 2);
     Ok(())
 }
 
-// The bytes of a source by their places, over windows of which the first has the first 8 of them:
-// how often the source was asked after each stretch.
+// The bytes from 0 to 250, again and again.
+fn a_thousand_bytes() -> [u8; 1_000] {
+    let mut bytes = [0; 1_000];
+    for (i, byte) in bytes.iter_mut().enumerate() {
+        *byte = (i % 251) as u8;
+    }
+    bytes
+}
+
+// A dictionary of 32 terms has two offsets, which begin at place 0.
+const OF_32: DictPlace = DictPlace {
+    at: 0,
+    bytes: 1_000,
+    terms: 32,
+};
+
+// Stretches of a source of a thousand bytes, by place and length, over windows of which the first
+// has the first 8 bytes: how often the source was asked after each of them.
+const STRETCHES: [(u32, u32, u64); 12] = [
+    (4, 4, 1),
+    (4, 4, 1),
+    (500, 100, 2),
+    (6, 2, 2),
+    (528, 100, 2),
+    (528, 101, 3),
+    (4, 128, 3),
+    (4, 129, 4),
+    (528, 4, 4),
+    (5, 3, 4),
+    (990, 10, 5),
+    (0, 4, 6),
+];
+
+// That a stretch is lent after so many others.
+fn is_lent_after(rt: &impl Abort, bytes: &[u8; 1_000], count: usize, stretch: (u32, u32, u64)) {
+    let mut source = SliceSource::new(bytes);
+    let mut windows = Windows::on(&mut source, OF_32);
+    for (at, n, _) in STRETCHES.iter().take(count) {
+        assert!(rt; windows.lend(*at, (*n).min(4096)).is_ok());
+    }
+    let (at, n, asked) = stretch;
+    let start = at.min(1_000) as usize;
+    let n = n.min(4096);
+    equal(
+        rt,
+        windows.lend(at, n).ok(),
+        bytes.get(start..start + n as usize),
+    );
+    equal(rt, source.asked(), asked);
+}
+
 #[test]
-fn each_window_keeps_its_bytes(rt: HostRuntime) -> Result<(), Fail> {
-    let alloc = rt.alloc();
-    let mut bytes = Vec::new(alloc);
-    for i in 0..1_000u32 {
-        bytes.push((i % 251) as u8)?;
+fn each_window_keeps_its_bytes(rt: HostRuntime) {
+    let bytes = a_thousand_bytes();
+    for (count, stretch) in STRETCHES.iter().enumerate() {
+        is_lent_after(&rt, &bytes, count, *stretch);
     }
-    assert!(rt; bytes.len() == 1_000);
-    // Of 32 terms there are two offsets, which begin at place 0.
-    let place = whole(&bytes, 32);
-    let stretches: [(u32, u32, u64); 12] = [
-        (4, 4, 1),
-        (4, 4, 1),
-        (500, 100, 2),
-        (6, 2, 2),
-        (528, 100, 2),
-        (528, 101, 3),
-        (4, 128, 3),
-        (4, 129, 4),
-        (528, 4, 4),
-        (5, 3, 4),
-        (990, 10, 5),
-        (0, 4, 6),
-    ];
-    for (count, (at, n, asked)) in stretches.iter().enumerate() {
-        let mut source = SliceSource::new(&bytes);
-        let mut windows = Windows::on(&mut source, place);
-        for (at, n, _) in stretches.iter().take(count) {
-            assert!(rt; windows.lend(*at, (*n).min(4096)).is_ok());
-        }
-        let start = (*at).min(1_000) as usize;
-        let n = (*n).min(4096);
-        let wanted = bytes.get(start..start + n as usize);
-        assert_eq!(rt; windows.lend(*at, n).ok(), wanted);
-        assert_eq!(rt; source.asked(), *asked);
-    }
+}
+
+#[test]
+fn no_window_goes_past_the_end(rt: HostRuntime) {
+    let bytes = a_thousand_bytes();
     let mut source = SliceSource::new(&bytes);
-    let mut windows = Windows::on(&mut source, place);
-    assert_eq!(rt; windows.lend(999, 2).err(), Some(SourceFault::Damaged));
-    assert_eq!(rt; windows.lend(500, 501).err(), Some(SourceFault::Damaged));
-    assert_eq!(rt; source.asked(), 0);
-    Ok(())
+    let mut windows = Windows::on(&mut source, OF_32);
+    equal(&rt, windows.lend(999, 2).err(), Some(SourceFault::Damaged));
+    equal(
+        &rt,
+        windows.lend(500, 501).err(),
+        Some(SourceFault::Damaged),
+    );
+    equal(&rt, source.asked(), 0);
 }
 
 // Of 4,096 words each group begins with one that another look-up came by, once each word was looked
@@ -393,25 +492,18 @@ fn each_window_keeps_its_bytes(rt: HostRuntime) -> Result<(), Fail> {
 //   terms take 8 * 9 + 2 * 10 = 92, and one piece has them: 2 + 1.
 #[test]
 fn pivots_spare_asks(rt: HostRuntime) -> Result<(), Fail> {
-    let alloc = rt.alloc();
-    let words = words(alloc, 4096)?;
-    let bytes = written(&rt, alloc, &words)?;
+    let words = words(rt.alloc(), 4096)?;
+    let bytes = written(&rt, rt.alloc(), &words)?;
     assert!(rt; bytes.len() < 1_000_000);
     let place = whole(&bytes, 4096);
-    let mut source = SliceSource::new(&bytes);
     let mut pivots = [0; 512];
     for (word, entry) in words.iter() {
-        let found = look_up_near(&mut source, place, &mut pivots, word);
-        assert_eq!(rt; found, Ok(Some(*entry)));
+        let _asks = asks_near(&rt, &bytes, place, &mut pivots, word, Some(*entry));
     }
-    for (at, asks) in [(1605usize, 5u64), (1615, 6), (5, 5), (4090, 3)] {
-        let Some((word, entry)) = words.get(at) else {
-            return Err(Fail::from("a word that is not there"));
-        };
-        let mut source = SliceSource::new(&bytes);
-        let found = look_up_near(&mut source, place, &mut pivots, word);
-        assert_eq!(rt; found, Ok(Some(*entry)));
-        assert_eq!(rt; source.asked(), asks);
+    for (at, wanted) in [(1605usize, 5u64), (1615, 6), (5, 5), (4090, 3)] {
+        let (word, entry) = words.get(at).ok_or("a word that is not there")?;
+        let asks = asks_near(&rt, &bytes, place, &mut pivots, word, Some(*entry));
+        equal(&rt, asks, wanted);
     }
     Ok(())
 }
@@ -434,21 +526,44 @@ fn of_33(rt: &impl Abort, alloc: Global) -> Result<Vec<u8>, Fail>
     Ok(bytes)
 }
 
-// Each call below fails in turn: the look-up answers Disk, and the next one finds the term.
+// That a look-up whose call after so many others fails answers Disk, and the next one finds the
+// term.
+fn fails_once(rt: &impl Abort, bytes: &[u8], passes: u64)
+    requires { length bytes.now < 4096 }
+{
+    let place = whole(bytes, 33);
+    let mut source = Failing::after(bytes, passes);
+    let failed = look_up_in(&mut source, place, SOUGHT);
+    equal(rt, failed, Err(SourceFault::Disk));
+    equal(rt, source.failures, 1);
+    equal(rt, look_up_in(&mut source, place, SOUGHT), Ok(FOUND));
+}
+
+// Each call below fails in turn.
 #[test]
 fn each_failed_read_of_a_look_up_is_answered(rt: HostRuntime) -> Result<(), Fail> {
     let bytes = of_33(&rt, rt.alloc())?;
-    let place = whole(&bytes, 33);
-    let mut clean = SliceSource::new(&bytes);
-    assert_eq!(rt; look_up_in(&mut clean, place, SOUGHT), Ok(FOUND));
-    for passes in 0..clean.asked() {
-        let mut source = Failing::after(&bytes, passes);
-        let failed = look_up_in(&mut source, place, SOUGHT);
-        assert_eq!(rt; failed, Err(SourceFault::Disk));
-        assert_eq!(rt; source.failures, 1);
-        assert_eq!(rt; look_up_in(&mut source, place, SOUGHT), Ok(FOUND));
+    let asks = asks_in(&rt, &bytes, whole(&bytes, 33), SOUGHT, FOUND);
+    for passes in 0..asks {
+        fails_once(&rt, &bytes, passes);
     }
     Ok(())
+}
+
+// The same by a table of pivots.
+fn fails_once_near(rt: &impl Abort, bytes: &[u8], pivots: &mut [u64; 16], passes: u64)
+    requires { length bytes.now < 4096 }
+{
+    let place = whole(bytes, 33);
+    let mut source = Failing::after(bytes, passes);
+    let failed = look_up_near(&mut source, place, pivots, SOUGHT);
+    equal(rt, failed, Err(SourceFault::Disk));
+    equal(rt, source.failures, 1);
+    equal(
+        rt,
+        look_up_near(&mut source, place, pivots, SOUGHT),
+        Ok(FOUND),
+    );
 }
 
 // The same by a table of pivots, once it has its keys.
@@ -457,41 +572,33 @@ fn each_failed_read_by_pivots_is_answered(rt: HostRuntime) -> Result<(), Fail> {
     let bytes = of_33(&rt, rt.alloc())?;
     let place = whole(&bytes, 33);
     let mut pivots = [0; 16];
-    let mut first = SliceSource::new(&bytes);
-    assert_eq!(rt;
-        look_up_near(&mut first, place, &mut pivots, SOUGHT),
-        Ok(FOUND)
-    );
-    let mut clean = SliceSource::new(&bytes);
-    assert_eq!(rt;
-        look_up_near(&mut clean, place, &mut pivots, SOUGHT),
-        Ok(FOUND)
-    );
-    for passes in 0..clean.asked() {
-        let mut source = Failing::after(&bytes, passes);
-        let failed = look_up_near(&mut source, place, &mut pivots, SOUGHT);
-        assert_eq!(rt; failed, Err(SourceFault::Disk));
-        assert_eq!(rt; source.failures, 1);
-        assert_eq!(rt;
-            look_up_near(&mut source, place, &mut pivots, SOUGHT),
-            Ok(FOUND)
-        );
+    let _first = asks_near(&rt, &bytes, place, &mut pivots, SOUGHT, FOUND);
+    let asks = asks_near(&rt, &bytes, place, &mut pivots, SOUGHT, FOUND);
+    for passes in 0..asks {
+        fails_once_near(&rt, &bytes, &mut pivots, passes);
     }
     Ok(())
+}
+
+// How many entries with the prefix `aaad` are listed over a source whose call after so many others
+// fails, and how often it was asked.
+fn listed(alloc: Global, bytes: &[u8], passes: u64) -> (Result<usize, EntriesFault>, u64)
+    requires { length bytes.now < 4096 }
+{
+    let mut source = Failing::after(bytes, passes);
+    let listed = entries_in(alloc, &mut source, whole(bytes, 33), b"aaad");
+    (listed.map(|entries| entries.len()), source.asked())
 }
 
 // A list of entries ends with Disk.
 #[test]
 fn each_failed_read_of_a_list_is_answered(rt: HostRuntime) -> Result<(), Fail> {
-    let alloc = rt.alloc();
-    let bytes = of_33(&rt, alloc)?;
-    let place = whole(&bytes, 33);
-    let mut clean = SliceSource::new(&bytes);
-    assert_eq!(rt; entries_in(alloc, &mut clean, place, b"aaad")?.len(), 5);
-    for passes in 0..clean.asked() {
-        let mut source = Failing::after(&bytes, passes);
-        let listed = entries_in(alloc, &mut source, place, b"aaad");
-        assert_eq!(rt; listed.err(), Some(EntriesFault::Disk));
+    let bytes = of_33(&rt, rt.alloc())?;
+    let (entries, asks) = listed(rt.alloc(), &bytes, u64::MAX);
+    equal(&rt, entries, Ok(5));
+    for passes in 0..asks {
+        let (entries, _) = listed(rt.alloc(), &bytes, passes);
+        equal(&rt, entries, Err(EntriesFault::Disk));
     }
     Ok(())
 }
@@ -504,7 +611,7 @@ fn a_failed_read_of_a_window_is_answered(rt: HostRuntime) -> Result<(), Fail> {
     let mut below = Failing::after(&bytes, 0);
     let mut windows = Windows::on(&mut below, place);
     let failed = look_up_in(&mut windows, place, SOUGHT);
-    assert_eq!(rt; failed, Err(SourceFault::Disk));
-    assert_eq!(rt; look_up_in(&mut windows, place, SOUGHT), Ok(FOUND));
+    equal(&rt, failed, Err(SourceFault::Disk));
+    equal(&rt, look_up_in(&mut windows, place, SOUGHT), Ok(FOUND));
     Ok(())
 }

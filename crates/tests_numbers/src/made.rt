@@ -56,3 +56,8 @@ pub fn mixed(bits: u32) -> [u32; 128]
     }
     xs
 }
+
+/// The bytes, with seven others before them and three after.
+pub fn amid(alloc: Global, bytes: &[u8]) -> Result<Vec<u8>, AllocError> {
+    [[9u8; 7].as_slice(), bytes, &[9; 3]].concat(alloc)
+}

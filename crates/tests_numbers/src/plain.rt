@@ -1,23 +1,10 @@
 //! Plain readings of the formats: bit by bit and number by number, as their descriptions say, with
 //! no kernel.
 
-ghost use Rattle.std.specs.Prelude.{◌↔◌, IsTrue};
-ghost use Rattle.std.specs.List.Sorted.{IsStrictlyIncreasing};
+ghost use Rattle.std.specs.Prelude.{IsTrue};
 ghost use Rattle.pk_posting.specs.Posting.{IsPosting};
 
 use std::alloc::{AllocError, Global};
-
-/// Whether the numbers rise strictly.
-pub fn rises(xs: &[u32]) -> bool
-    ensures { IsTrue result ↔ IsStrictlyIncreasing xs.now }
-{
-    'places: for i in 1..xs.len() {
-        if xs[i] <= xs[i - 1] {
-            return false;
-        }
-    }
-    true
-}
 
 /// Whether a list rises from 1 on and is short enough.
 pub fn is_posting(xs: &[u32]) -> bool

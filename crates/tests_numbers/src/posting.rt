@@ -1,5 +1,6 @@
 //! Posting lists: worked rows, lists of many kinds there and back, damaged bytes, and sources.
 
+use crate::checks::equal;
 use crate::made::{apart, uneven};
 use crate::plain::{is_posting, plain_decode, plain_encode};
 use pk_posting::{
@@ -132,23 +133,36 @@ fn lists_have_their_bytes(rt: HostRuntime) -> Result<(), Fail> {
     }
     let to_128 = apart(rt.alloc(), 1, 1, 128)?;
     assert!(rt; is_spelled(rt.alloc(), &to_128, &TO_128)?);
+    Ok(())
+}
 
-    // How long the bytes of these are, and one of their bytes: where it is, and what.
-    let rows = [
+// How long the bytes of a rising list are, and one of them: where it is, and what.
+fn has_byte(
+    rt: &impl Abort,
+    alloc: Global,
+    first: u32,
+    count: usize,
+    length: usize,
+    at: usize,
+    byte: u8,
+) -> Result<(), AllocError> {
+    let xs = apart(alloc, first, 1, count)?;
+    let plain = plain_encode(alloc, &xs)?;
+    let spelled = is_spelled(alloc, &xs, &plain)?;
+    let found = (spelled, plain.len(), plain.get(at).copied());
+    assert_eq!(rt; found, (true, length, Some(byte)), "{count} from {first}");
+    Ok(())
+}
+
+#[test]
+fn longer_lists_have_their_bytes(rt: HostRuntime) -> Result<(), Fail> {
+    for (first, count, length, at, byte) in [
         (1, 128, 88, 24, 0x03u8),
         (1, 2048, 1108, 324, 0x03),
         (1, 2049, 1109, 1108, 0x81),
         (TOP, 128, 552, 24, 0x20),
-    ];
-    for (first, count, bytes, at, byte) in rows {
-        let xs = apart(rt.alloc(), first, 1, count)?;
-        let plain = plain_encode(rt.alloc(), &xs)?;
-        assert!(rt;
-            is_spelled(rt.alloc(), &xs, &plain)?,
-            "{count} from {first}"
-        );
-        assert_eq!(rt; plain.len(), bytes, "{count} from {first}");
-        assert_eq!(rt; plain.get(at).copied(), Some(byte), "{count} from {first}");
+    ] {
+        has_byte(&rt, rt.alloc(), first, count, length, at, byte)?;
     }
     Ok(())
 }
@@ -160,11 +174,16 @@ fn overwrite(bytes: &mut [u8], at: usize, new: &[u8]) {
     }
 }
 
+// That the bytes spell no list.
+fn is_damaged(rt: &impl Abort, alloc: Global, bytes: &[u8]) {
+    let fault = decode(alloc, bytes).err();
+    assert_eq!(rt; fault, Some(DecodeFault::Damaged), "{bytes:?}");
+}
+
 #[test]
 fn what_spells_no_list_is_damaged(rt: HostRuntime) {
     for bytes in NO_LIST {
-        let fault = decode(rt.alloc(), bytes).err();
-        assert_eq!(rt; fault, Some(DecodeFault::Damaged), "{bytes:?}");
+        is_damaged(&rt, rt.alloc(), bytes);
     }
 }
 
@@ -190,68 +209,69 @@ fn wrapping(rt: &impl Abort, alloc: Global) -> Result<Vec<u8>, AllocError> {
 
 #[test]
 fn blocks_spelled_otherwise_are_damaged(rt: HostRuntime) -> Result<(), Fail> {
-    let wide = too_wide(rt.alloc())?;
-    let wraps = wrapping(&rt, rt.alloc())?;
+    is_damaged(&rt, rt.alloc(), &too_wide(rt.alloc())?);
+    is_damaged(&rt, rt.alloc(), &wrapping(&rt, rt.alloc())?);
     // A width where no block is.
     let mut second_width = TO_128;
     overwrite(&mut second_width, 25, &[0x01]);
-    let rows: [(&str, &[u8]); 3] = [
-        ("too wide", &wide),
-        ("a second width", &second_width),
-        ("wraps", &wraps),
-    ];
-    for (name, bytes) in rows {
-        let fault = decode(rt.alloc(), bytes).err();
-        assert_eq!(rt; fault, Some(DecodeFault::Damaged), "{name}");
-    }
+    is_damaged(&rt, rt.alloc(), &second_width);
     Ok(())
 }
 
 #[test]
-fn shorter_prefixes_are_damaged(rt: HostRuntime) -> Result<(), Fail> {
+fn shorter_prefixes_are_damaged(rt: HostRuntime) {
     for bytes in [SHORT[0].1, SHORT[1].1, SHORT[2].1, SHORT[3].1, &TO_128] {
         for n in 0..bytes.len() {
-            assert_eq!(rt;
-                decode(rt.alloc(), &bytes[..n]).err(),
-                Some(DecodeFault::Damaged)
-            );
+            is_damaged(&rt, rt.alloc(), &bytes[..n]);
+        }
+    }
+}
+
+// That the list of so many numbers from `first` on, which are `gap` apart, comes back.
+fn apart_come_back(
+    rt: &impl Abort,
+    alloc: Global,
+    first: u32,
+    gap: u32,
+    count: usize,
+) -> Result<(), AllocError> {
+    let back = comes_back(alloc, &apart(alloc, first, gap, count)?)?;
+    assert!(rt; back, "{count} numbers from {first} on, {gap} apart");
+    Ok(())
+}
+
+#[test]
+fn each_length_comes_back(rt: HostRuntime) -> Result<(), Fail> {
+    for count in 0..401usize {
+        apart_come_back(&rt, rt.alloc(), 1, 1, count)?;
+    }
+    for count in LONG {
+        apart_come_back(&rt, rt.alloc(), 1, 1, count)?;
+        apart_come_back(&rt, rt.alloc(), 3, 1_000_003, count)?;
+    }
+    // Up to the greatest number.
+    for count in [1usize, 2, 127, 128, 129, 300, 2048, 2049, 4097] {
+        let first = 0u32.wrapping_sub(count as u32);
+        apart_come_back(&rt, rt.alloc(), first, 1, count)?;
+    }
+    Ok(())
+}
+
+#[test]
+fn each_gap_comes_back(rt: HostRuntime) -> Result<(), Fail> {
+    for k in 0..24u32 {
+        for count in [1usize, 127, 128, 129, 256, 300] {
+            apart_come_back(&rt, rt.alloc(), 1, 1u32.wrapping_shl(k), count)?;
         }
     }
     Ok(())
 }
 
 #[test]
-fn each_length_and_gap_comes_back(rt: HostRuntime) -> Result<(), Fail> {
-    for count in (0..401usize).chain(LONG.iter().copied()) {
-        let xs = apart(rt.alloc(), 1, 1, count)?;
-        assert!(rt; comes_back(rt.alloc(), &xs)?, "{count} numbers");
-    }
-    for k in 0..24u32 {
-        for count in [1usize, 127, 128, 129, 256, 300] {
-            let xs = apart(rt.alloc(), 1, 1u32.wrapping_shl(k), count)?;
-            assert!(rt;
-                comes_back(rt.alloc(), &xs)?,
-                "{count} numbers, 2^{k} apart"
-            );
-        }
-    }
-    for count in LONG {
-        let xs = apart(rt.alloc(), 3, 1_000_003, count)?;
-        assert!(rt;
-            comes_back(rt.alloc(), &xs)?,
-            "{count} numbers, a million apart"
-        );
-    }
-    for count in [1usize, 2, 127, 128, 129, 300, 2048, 2049, 4097] {
-        let xs = apart(rt.alloc(), 0u32.wrapping_sub(count as u32), 1, count)?;
-        assert!(rt;
-            comes_back(rt.alloc(), &xs)?,
-            "{count} numbers up to the greatest"
-        );
-    }
+fn uneven_numbers_come_back(rt: HostRuntime) -> Result<(), Fail> {
     for count in [200usize, 1000, 4097] {
         let xs = uneven(rt.alloc(), u32::MAX, count)?;
-        assert!(rt; comes_back(rt.alloc(), &xs)?, "{count} uneven numbers");
+        assert!(rt; comes_back(rt.alloc(), &xs)?, "{count} numbers");
     }
     Ok(())
 }
@@ -264,18 +284,26 @@ fn two_million_numbers_come_back(rt: HostRuntime) -> Result<(), Fail> {
     Ok(())
 }
 
+// That all changes of one byte of the list of so many numbers from `first` on are answered right.
+fn changes_agree(
+    rt: &impl Abort,
+    alloc: Global,
+    first: u32,
+    count: usize,
+) -> Result<(), AllocError> {
+    let bytes = plain_encode(alloc, &apart(alloc, first, 1, count)?)?;
+    let agree = each_change_agrees(alloc, &bytes)?;
+    assert!(rt; agree, "{count} numbers from {first}");
+    Ok(())
+}
+
 #[test]
 fn each_changed_byte_of_a_block_is_answered_right(rt: HostRuntime) -> Result<(), Fail> {
     for (_, bytes) in SHORT {
         assert!(rt; each_change_agrees(rt.alloc(), bytes)?, "{bytes:?}");
     }
     for first in [1, TOP] {
-        let xs = apart(rt.alloc(), first, 1, 128)?;
-        let bytes = plain_encode(rt.alloc(), &xs)?;
-        assert!(rt;
-            each_change_agrees(rt.alloc(), &bytes)?,
-            "128 numbers from {first}"
-        );
+        changes_agree(&rt, rt.alloc(), first, 128)?;
     }
     Ok(())
 }
@@ -283,54 +311,72 @@ fn each_changed_byte_of_a_block_is_answered_right(rt: HostRuntime) -> Result<(),
 #[test]
 fn each_changed_byte_of_a_metablock_is_answered_right(rt: HostRuntime) -> Result<(), Fail> {
     for count in [2048usize, 2049] {
-        let xs = apart(rt.alloc(), 1, 1, count)?;
-        let bytes = plain_encode(rt.alloc(), &xs)?;
-        assert!(rt; each_change_agrees(rt.alloc(), &bytes)?, "{count} numbers");
+        changes_agree(&rt, rt.alloc(), 1, count)?;
     }
     Ok(())
 }
 
+// A list without blocks, whose tail begins behind its count, and the numbers 1 to 128.
+const ONE: Shape = Shape {
+    count: 1,
+    blocks: 0,
+    tail: 4,
+};
+
+const OF_128: Shape = Shape {
+    count: 128,
+    blocks: 1,
+    tail: 88,
+};
+
 #[test]
-fn fields_are_read(rt: HostRuntime) -> Result<(), Fail> {
-    let shape = |count: u32, blocks: u32, tail: u32| Shape {
-        count,
-        blocks,
-        tail,
-    };
+fn shapes_are_read(rt: HostRuntime) {
     let rows: [(&[u8], Option<Shape>); 5] = [
         (&[0x01, 0x00, 0x00], None),
         (&[0x80, 0x00, 0x00, 0x00], None),
         (&[0x01, 0x00, 0x00, 0x08], None),
-        (&[0x01, 0x00, 0x00, 0x00, 0x81], Some(shape(1, 0, 4))),
-        (&TO_128, Some(shape(128, 1, 88))),
+        (&[0x01, 0x00, 0x00, 0x00, 0x81], Some(ONE)),
+        (&TO_128, Some(OF_128)),
     ];
     for (bytes, want) in rows {
         assert_eq!(rt; Shape::of(bytes), want, "{bytes:?}");
     }
+}
+
+#[test]
+fn shapes_of_sixteen_blocks_are_read(rt: HostRuntime) -> Result<(), Fail> {
     for count in [2048u32, 2049] {
         let xs = apart(rt.alloc(), 1, 1, count as usize)?;
         let bytes = plain_encode(rt.alloc(), &xs)?;
-        assert_eq!(rt; Shape::of(&bytes), Some(shape(count, 16, 1108)));
+        let shape = Shape {
+            count,
+            blocks: 16,
+            tail: 1108,
+        };
+        equal(&rt, Shape::of(&bytes), Some(shape));
     }
+    Ok(())
+}
+
+#[test]
+fn skip_entries_are_read(rt: HostRuntime) {
     let skip = Skip {
         offset: 16,
         last: [125, 126, 127, 128],
     };
-    assert_eq!(rt; skip_of(&TO_128[4..24]), skip);
-    Ok(())
+    equal(&rt, skip_of(&TO_128[4..24]), skip);
 }
 
 // Three bytes: two are lent from the second on, and no two from the third on.
 #[test]
-fn a_slice_lends_its_bytes(rt: HostRuntime) -> Result<(), Fail> {
+fn a_slice_lends_its_bytes(rt: HostRuntime) {
     let mut source = SliceSource::new(&[7u8, 8, 9]);
-    assert_eq!(rt; source.len(), 3);
-    assert_eq!(rt; source.asked(), 0);
-    assert_eq!(rt; source.bytes(1, 2)?, [8u8, 9].as_slice());
-    assert_eq!(rt; source.bytes(2, 2).err(), Some(SourceFault::Damaged));
-    assert_eq!(rt; source.asked(), 2);
-    assert_eq!(rt; source.bytes(3, 0)?.len(), 0);
-    assert_eq!(rt; source.bytes(4, 0).err(), Some(SourceFault::Damaged));
-    assert_eq!(rt; source.asked(), 4);
-    Ok(())
+    equal(&rt, source.len(), 3);
+    equal(&rt, source.asked(), 0);
+    equal(&rt, source.bytes(1, 2), Ok([8u8, 9].as_slice()));
+    equal(&rt, source.bytes(2, 2), Err(SourceFault::Damaged));
+    equal(&rt, source.asked(), 2);
+    equal(&rt, source.bytes(3, 0), Ok([].as_slice()));
+    equal(&rt, source.bytes(4, 0), Err(SourceFault::Damaged));
+    equal(&rt, source.asked(), 4);
 }

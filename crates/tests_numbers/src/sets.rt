@@ -4,7 +4,6 @@ ghost use Rattle.std.specs.Prelude.{◌<◌, ◌≤◌, length};
 ghost use Rattle.std.specs.List.Sorted.{IsStrictlyIncreasing};
 
 use crate::made::{apart, thinned};
-use crate::plain::rises;
 use pk_sets::{both, both_gallop, both_merge, either, is_rising, without};
 use std::alloc::{AllocError, Global};
 use std::process::Abort;
@@ -18,6 +17,11 @@ struct Wanted<'a> {
     without: &'a [u32],
 }
 
+// That an operation gives these numbers.
+fn gives(rt: &impl Abort, operation: &str, found: &[u32], wanted: &[u32]) {
+    assert_eq!(rt; found, wanted, "{operation}");
+}
+
 // Each way to intersect gives these numbers, in just the room that it asks for and some to spare.
 fn both_gives(rt: &impl Abort, a: &[u32], b: &[u32], spare: usize, wanted: &[u32])
     requires short_a { length a.now ≤ 70 }
@@ -29,11 +33,11 @@ fn both_gives(rt: &impl Abort, a: &[u32], b: &[u32], spare: usize, wanted: &[u32
     let mut out = [7; 77];
     let room = &mut out[..a.len().min(b.len()) + spare];
     let n = both_merge(a, b, room);
-    assert_eq!(rt; &room[..n], wanted, "both_merge");
+    gives(rt, "both_merge", &room[..n], wanted);
     let n = both_gallop(a, b, room);
-    assert_eq!(rt; &room[..n], wanted, "both_gallop");
+    gives(rt, "both_gallop", &room[..n], wanted);
     let n = both(a, b, room);
-    assert_eq!(rt; &room[..n], wanted, "both");
+    gives(rt, "both", &room[..n], wanted);
 }
 
 // So it is with the union and the difference.
@@ -47,10 +51,10 @@ fn others_give(rt: &impl Abort, a: &[u32], b: &[u32], spare: usize, wanted: &Wan
     let mut out = [7; 147];
     let room = &mut out[..a.len() + b.len() + spare];
     let n = either(a, b, room);
-    assert_eq!(rt; &room[..n], wanted.either, "either");
+    gives(rt, "either", &room[..n], wanted.either);
     let room = &mut out[..a.len() + spare];
     let n = without(a, b, room);
-    assert_eq!(rt; &room[..n], wanted.without, "without");
+    gives(rt, "without", &room[..n], wanted.without);
 }
 
 // Each operation gives what is wanted of these two lists.
@@ -58,7 +62,7 @@ fn answers(rt: &impl Abort, a: &[u32], b: &[u32], wanted: &Wanted)
     requires short_a { length a.now ≤ 70 }
     requires short_b { length b.now ≤ 70 }
 {
-    assert!(rt; rises(a) && rises(b));
+    assert!(rt; is_rising(a) && is_rising(b));
     for spare in [0usize, 7] {
         both_gives(rt, a, b, spare, wanted.both);
         others_give(rt, a, b, spare, wanted);
@@ -125,25 +129,30 @@ fn a_set_rises(rt: HostRuntime) {
 fn last_places_of_stretches(rt: HostRuntime) -> Result<(), Fail> {
     let short = [32, 9984, 10_001];
     let long = apart(rt.alloc(), 1, 1, 10_000)?;
-    assert!(rt; rises(&short) && rises(&long));
+    assert!(rt; is_rising(&short) && is_rising(&long));
     let mut out = [0; 3];
     let n = both(&short, &long, &mut out);
-    assert_eq!(rt; &out[..n], &[32, 9984][..]);
+    gives(&rt, "the short one first", &out[..n], &[32, 9984]);
     let n = both(&long, &short, &mut out);
-    assert_eq!(rt; &out[..n], &[32, 9984][..]);
+    gives(&rt, "the long one first", &out[..n], &[32, 9984]);
     Ok(())
+}
+
+// That a gallop through the even numbers up to 4,000 finds this one if it is among them.
+fn is_found_if_even(rt: &impl Abort, even: &[u32], x: u32)
+    requires { IsStrictlyIncreasing even.now }
+{
+    let found = both_gallop(&[x], even, &mut [0]);
+    let wanted = x % 2 == 0 && 0 < x && x <= 4000;
+    assert_eq!(rt; found == 1, wanted, "{x}");
 }
 
 #[test]
 fn a_gallop_finds_each_number(rt: HostRuntime) -> Result<(), Fail> {
     let even = apart(rt.alloc(), 2, 2, 2000)?;
-    assert!(rt; rises(&even));
+    assert!(rt; is_rising(&even));
     for x in 0..4003 {
-        let one = [x];
-        assert!(rt; rises(&one));
-        let found = both_gallop(&one, &even, &mut [0]);
-        let wanted = x % 2 == 0 && 0 < x && x <= 4000;
-        assert_eq!(rt; found == 1, wanted, "{x}");
+        is_found_if_even(&rt, &even, x);
     }
     Ok(())
 }

@@ -1,8 +1,9 @@
 //! Variable bytes: worked rows, what is refused, and the numbers about each power of two.
 
+use crate::checks::equal;
 use crate::plain::{put_variable, variable_at};
 use pk_vbyte::{VFault, put, take};
-use std::alloc::Global;
+use std::alloc::{AllocError, Global};
 use std::process::Abort;
 use std::test::Fail;
 
@@ -29,20 +30,17 @@ const REFUSED: [(&[u8], VFault); 7] = [
 fn is_put(rt: &impl Abort, n: u32, bytes: &[u8]) {
     let mut out = [0xEE; 5];
     let used = put(n, &mut out);
-    assert_eq!(rt; &out[..used], bytes);
-    for b in &out[used..] {
-        assert_eq!(rt; *b, 0xEE);
-    }
+    equal(rt, &out[..used], bytes);
+    equal(rt, &out[used..], &[0xEE; 5][used..]);
 }
 
 // The bytes are taken as the number, with and without bytes behind them; cut, they are Short.
-fn is_taken(rt: &impl Abort, alloc: Global, n: u32, bytes: &[u8]) -> Result<(), Fail> {
-    assert_eq!(rt; take(bytes), Ok((n, bytes.len())));
-    let mut longer = bytes.to_vec(alloc)?;
-    longer.extend_from_slice(&[0x00, 0xFF])?;
-    assert_eq!(rt; take(&longer), Ok((n, bytes.len())));
+fn is_taken(rt: &impl Abort, alloc: Global, n: u32, bytes: &[u8]) -> Result<(), AllocError> {
+    equal(rt, take(bytes), Ok((n, bytes.len())));
+    let longer = [bytes, &[0x00, 0xFF]].concat(alloc)?;
+    equal(rt, take(&longer), Ok((n, bytes.len())));
     for cut in 0..bytes.len() {
-        assert_eq!(rt; take(&bytes[..cut]), Err(VFault::Short));
+        equal(rt, take(&bytes[..cut]), Err(VFault::Short));
     }
     Ok(())
 }
@@ -63,18 +61,24 @@ fn what_is_no_number_has_its_fault(rt: HostRuntime) {
     }
 }
 
+// The number is put as its plain bytes, and these are taken as the number.
+fn comes_back(rt: &impl Abort, alloc: Global, n: u32) -> Result<(), AllocError> {
+    let mut plain = Vec::new(alloc);
+    put_variable(&mut plain, n)?;
+    let mut out = [0u8; 5];
+    let used = put(n, &mut out);
+    let found = (&out[..used], take(&plain), variable_at(&plain, 0));
+    let wanted = (plain.as_slice(), Ok((n, plain.len())), (n, plain.len()));
+    assert_eq!(rt; found, wanted, "{n}");
+    Ok(())
+}
+
 #[test]
 fn numbers_about_each_power_come_back(rt: HostRuntime) -> Result<(), Fail> {
     for k in 0..32u32 {
         for d in 0..5u32 {
             let n = 1u32.wrapping_shl(k).wrapping_add(d).wrapping_sub(2);
-            let mut plain = Vec::new(rt.alloc());
-            put_variable(&mut plain, n)?;
-            let mut out = [0u8; 5];
-            let used = put(n, &mut out);
-            assert_eq!(rt; &out[..used], plain.as_slice(), "{n}");
-            assert_eq!(rt; take(&plain), Ok((n, plain.len())), "{n}");
-            assert_eq!(rt; variable_at(&plain, 0), (n, plain.len()), "{n}");
+            comes_back(&rt, rt.alloc(), n)?;
         }
     }
     Ok(())
