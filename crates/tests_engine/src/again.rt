@@ -2,7 +2,7 @@
 //! when it is asked again. The numbers of the calls are nowhere told.
 
 use crate::player::Player;
-use crate::script::{ScriptFault, play_on, spelled_out};
+use crate::script::{ScriptFault, is_wanted, play_on};
 use std::alloc::{AllocError, Global};
 use std::test::Fail;
 
@@ -152,8 +152,25 @@ fn is_fault(answer: &str) -> bool {
     answer == "disk" || answer == "refused disk"
 }
 
-/// What a line is answered. One that is refused for the failing call is asked again, where the store
-/// is to be opened again behind an opening.
+/// Opens the store again, and asks a line.
+fn answer_opened(player: &mut Player, asked: &str) -> Result<String, AllocError> {
+    let _ = player.answer("!close")?;
+    let _ = player.answer("!open")?;
+    player.answer(asked)
+}
+
+/// What a line is answered once more behind a fault; where the store is to be opened again, behind
+/// an opening.
+fn answer_again(player: &mut Player, asked: &str, met: &mut Met) -> Result<String, AllocError> {
+    let again = player.answer(asked)?;
+    if again.as_str() == "refused reopen" {
+        met.reopen = true;
+        return answer_opened(player, asked);
+    }
+    Ok(again)
+}
+
+/// What a line is answered. One that is refused for the failing call is asked again.
 fn answer_of(player: &mut Player, asked: &str, met: &mut Met) -> Result<String, AllocError> {
     let answer = player.answer(asked)?;
     if !is_fault(answer.as_str()) {
@@ -162,26 +179,32 @@ fn answer_of(player: &mut Player, asked: &str, met: &mut Met) -> Result<String, 
     met.fault = true;
     met.in_opening = asked == "!open";
     met.in_merge = asked == "merge" || asked == "tidy";
-    let again = player.answer(asked)?;
-    if again.as_str() != "refused reopen" {
-        return Ok(again);
+    answer_again(player, asked, met)
+}
+
+/// Plays a line of a session, and tells what was answered in place of what it says, if it was.
+fn play_line(
+    alloc: Global,
+    player: &mut Player,
+    line: &str,
+    met: &mut Met,
+) -> Result<Option<String>, AllocError> {
+    let (asked, wanted) = line.trim().split_once(" => ").unwrap_or(("", ""));
+    if asked.is_empty() {
+        return Ok(None);
     }
-    met.reopen = true;
-    let _ = player.answer("!close")?;
-    let _ = player.answer("!open")?;
-    player.answer(asked)
+    let answer = answer_of(player, asked, met)?;
+    if is_wanted(alloc, answer.as_str(), wanted)? {
+        return Ok(None);
+    }
+    Ok(Some(answer))
 }
 
 /// Plays a session in which a call may fail once, and tells what it met.
 fn play_session(alloc: Global, player: &mut Player, session: &str) -> Result<Met, ScriptFault> {
     let mut met = Met::default();
     for (index, line) in session.lines().enumerate() {
-        let (asked, wanted) = line.trim().split_once(" => ").unwrap_or(("", ""));
-        if asked.is_empty() {
-            continue;
-        }
-        let answer = answer_of(player, asked, &mut met)?;
-        if answer.as_str() != spelled_out(alloc, wanted)?.as_str() {
+        if let Some(answer) = play_line(alloc, player, line, &mut met)? {
             let line = index.saturating_add(1);
             return Err(ScriptFault::Answer { line, answer });
         }
@@ -189,43 +212,62 @@ fn play_session(alloc: Global, player: &mut Player, session: &str) -> Result<Met
     Ok(met)
 }
 
-/// A player with what goes before the opening, of which the `k`th call is to fail.
-fn player_of(
+/// Plays what goes before the opening, of which the `k`th call is to fail.
+fn begin(
     alloc: Global,
+    player: &mut Player,
     setting: &str,
     before: &str,
     k: u64,
     how: &str,
-) -> Result<Player, ScriptFault> {
-    let mut player = Player::new(alloc);
-    play_on(alloc, &mut player, setting)?;
-    play_on(alloc, &mut player, before)?;
-    play_on(
-        alloc,
-        &mut player,
-        format!(in alloc; "!fail {k}{how}")?.as_str(),
-    )?;
-    Ok(player)
+) -> Result<(), ScriptFault> {
+    play_on(alloc, player, setting)?;
+    play_on(alloc, player, before)?;
+    play_on(alloc, player, format!(in alloc; "!fail {k}{how}")?.as_str())
 }
 
-/// Plays a round whose `k`th call fails once.
-fn play_round(alloc: Global, setting: &str, round: &Round, k: u64) -> Result<Met, ScriptFault> {
-    let mut player = player_of(alloc, setting, round.before, k, " once")?;
-    let met = play_session(alloc, &mut player, round.session)?;
-    play_on(alloc, &mut player, "!close\n!crash A7\n")?;
-    play_on(alloc, &mut player, round.left)?;
+/// Plays a round on a new player, whose `k`th call fails once.
+fn play_round(
+    alloc: Global,
+    player: &mut Player,
+    setting: &str,
+    round: &Round,
+    k: u64,
+) -> Result<Met, ScriptFault> {
+    begin(alloc, player, setting, round.before, k, " once")?;
+    let met = play_session(alloc, player, round.session)?;
+    play_on(alloc, player, "!close\n!crash A7\n")?;
+    play_on(alloc, player, round.left)?;
     Ok(met)
 }
 
-/// How many bytes the calls before the `k`th read, up to the line that this one fails in.
-fn read_before(alloc: Global, setting: &str, round: &Round, k: u64) -> Result<u64, ScriptFault> {
-    let mut player = player_of(alloc, setting, round.before, k, "")?;
-    for line in round.session.lines() {
-        let (asked, _) = line.trim().split_once(" => ").unwrap_or(("", ""));
-        if !asked.is_empty() && is_fault(player.answer(asked)?.as_str()) {
+/// Asks a line of a session, and says whether its answer tells of a call that failed.
+fn meets_fault(player: &mut Player, line: &str) -> Result<bool, AllocError> {
+    let (asked, _) = line.trim().split_once(" => ").unwrap_or(("", ""));
+    Ok(!asked.is_empty() && is_fault(player.answer(asked)?.as_str()))
+}
+
+/// Asks the lines of a session, up to the one that meets a fault.
+fn ask_to_fault(player: &mut Player, session: &str) -> Result<(), AllocError> {
+    for line in session.lines() {
+        if meets_fault(player, line)? {
             break;
         }
     }
+    Ok(())
+}
+
+/// How many bytes the calls before the `k`th read, up to the line that this one fails in. The player
+/// is a new one.
+fn read_before(
+    alloc: Global,
+    player: &mut Player,
+    setting: &str,
+    round: &Round,
+    k: u64,
+) -> Result<u64, ScriptFault> {
+    begin(alloc, player, setting, round.before, k, "")?;
+    ask_to_fault(player, round.session)?;
     let _ = player.answer("!close")?;
     Ok(player.bytes_read())
 }
@@ -237,11 +279,12 @@ fn is_done_again(alloc: Global, setting: &str, round: &Round) -> Result<bool, Sc
     let mut refused_merges = 0u64;
     let mut read = 0u64;
     for k in 1..MOST_CALLS {
-        let met = play_round(alloc, setting, round, k)?;
+        let met = play_round(alloc, &mut Player::new(alloc), setting, round, k)?;
         if !met.fault {
             return Ok(refused_merges > 0);
         }
-        let further = read_before(alloc, setting, round, k.saturating_add(1))?;
+        let next = k.saturating_add(1);
+        let further = read_before(alloc, &mut Player::new(alloc), setting, round, next)?;
         let is_read = further > read;
         read = further;
         if met.reopen == is_read && !met.in_opening {

@@ -6,27 +6,31 @@ use crate::sessions::filled;
 use std::alloc::{AllocError, Global};
 use std::test::Fail;
 
-/// The reply of a find: the numbers from one on, so many.
-fn found(alloc: Global, from: u32, count: u32) -> Result<String, AllocError> {
-    let mut reply = format!(in alloc; "find a => found {count}:")?;
+/// Puts a find behind a script, with what it is to find: the numbers from one on, so many.
+fn put_find(script: &mut String, from: u32, count: u32) -> Result<(), AllocError> {
+    write!(script, "find a => found {count}:")?;
     for number in from..from.saturating_add(count) {
-        reply.push_str(format!(in alloc; " {number}")?.as_str())?;
+        write!(script, " {number}")?;
     }
-    reply.push_str("\n")?;
-    Ok(reply)
+    script.push_str("\n")
 }
 
-/// A session of 200 documents, of which one leaves.
-pub fn session(alloc: Global) -> Result<String, AllocError> {
-    let mut script = String::from_str(alloc, "!disk 32768\n!create => created\n")?;
+/// Puts a session of 200 documents behind a script, of which one leaves.
+fn put_session(script: &mut String) -> Result<(), AllocError> {
     for number in 1..=200u32 {
-        script.push_str(format!(in alloc; "add a => added {number}\n")?.as_str())?;
+        writeln!(script, "add a => added {number}")?;
     }
     script.push_str("commit => committed\n")?;
-    script.push_str(found(alloc, 1, 200)?.as_str())?;
-    script.push_str(found(alloc, 1, 200)?.as_str())?;
+    put_find(script, 1, 200)?;
+    put_find(script, 1, 200)?;
     script.push_str("delete 1 => deleted 1\ncommit => committed\nmerge => merged\n")?;
-    script.push_str(found(alloc, 2, 199)?.as_str())?;
+    put_find(script, 2, 199)
+}
+
+/// That session on a new store.
+pub fn session(alloc: Global) -> Result<String, AllocError> {
+    let mut script = String::from_str(alloc, "!disk 32768\n!create => created\n")?;
+    put_session(&mut script)?;
     Ok(script)
 }
 
@@ -57,13 +61,19 @@ fn with_many(alloc: Global) -> Result<Player, Fail> {
     Ok(player)
 }
 
+/// How many bytes one find and two finds read, without kept blocks, and with 64 of them.
+fn reads(player: &mut Player) -> Result<[u64; 4], AllocError> {
+    Ok([
+        read_by(player, "!blocks 0", 1)?,
+        read_by(player, "!blocks 0", 2)?,
+        read_by(player, "!blocks 64", 1)?,
+        read_by(player, "!blocks 64", 2)?,
+    ])
+}
+
 #[test]
 fn a_find_again_reads_fewer_bytes(rt: HostRuntime) -> Result<(), Fail> {
-    let mut player = with_many(rt.alloc())?;
-    let one = read_by(&mut player, "!blocks 0", 1)?;
-    let two = read_by(&mut player, "!blocks 0", 2)?;
-    let one_kept = read_by(&mut player, "!blocks 64", 1)?;
-    let two_kept = read_by(&mut player, "!blocks 64", 2)?;
+    let [one, two, one_kept, two_kept] = reads(&mut with_many(rt.alloc())?)?;
     assert!(rt; one_kept < two_kept);
     assert!(rt; two_kept.saturating_sub(one_kept) < two.saturating_sub(one));
     Ok(())

@@ -3,10 +3,10 @@
 
 use crate::player::told;
 use pk_disk::{Disk, MemoryDisk};
-use pk_model::{Command, Counts, DocNo, Query, Refusal, Reply};
+use pk_model::{Command, DocNo, Query, Refusal, Reply};
 use pk_pages::PageCache;
 use pk_store::{Refused, Store};
-use std::alloc::Global;
+use std::alloc::{AllocError, Global};
 use std::process::Abort;
 use std::test::Fail;
 
@@ -37,6 +37,12 @@ pub fn new_store(alloc: Global) -> Result<Store<MemoryDisk>, Fail> {
     store_on(alloc, new_disk(alloc)?, 0)
 }
 
+/// A new store that keeps so many decoded blocks, where there is memory for it.
+pub fn store_if_memory(alloc: Global, blocks: u32) -> Option<Store<MemoryDisk>> {
+    let zeros = vec![in alloc; 0u8; 32_768].ok()?;
+    Store::create(alloc, MemoryDisk::of_bytes(alloc, zeros), blocks).ok()
+}
+
 /// One that keeps so many decoded blocks.
 pub fn store_with_blocks(alloc: Global, blocks: u32) -> Result<Store<MemoryDisk>, Fail> {
     store_on(alloc, new_disk(alloc)?, blocks)
@@ -47,99 +53,149 @@ pub fn store_on_pages(alloc: Global, pages: usize) -> Result<Store<PageCache<Mem
     store_on(alloc, PageCache::new(alloc, new_disk(alloc)?, pages), 2)
 }
 
-/// Runs a list of commands.
+/// A list of commands.
+fn commands(alloc: Global) -> Result<Vec<Command>, AllocError> {
+    let text = String::from_str(alloc, "a")?;
+    let word = String::from_str(alloc, "a")?;
+    let commands = [
+        Command::Add(text),
+        Command::Commit,
+        Command::Find(Query::Term(word)),
+        Command::Show(DocNo(1)),
+        Command::Count,
+        Command::Delete(DocNo(2)),
+        Command::Delete(DocNo(1)),
+        Command::Merge,
+        Command::Tidy,
+    ];
+    Ok(Vec::from_array(alloc, commands)?)
+}
+
+/// Whether this is the reply to the command at a place of that list.
+fn is_reply_to(place: usize, reply: &Reply) -> bool {
+    match reply {
+        Reply::Added(number) => place == 0 && *number == DocNo(1),
+        Reply::Committed => place == 1,
+        Reply::Found(numbers) => place == 2 && numbers.as_slice() == [DocNo(1)].as_slice(),
+        Reply::Text(text) => place == 3 && text.as_str() == "a",
+        Reply::Counted(counts) => place == 4 && counts.documents == 1 && counts.next == 2,
+        Reply::Refused(why) => place == 5 && *why == Refusal::NoSuchDocument,
+        Reply::Deleted(number) => place == 6 && *number == DocNo(1),
+        Reply::Merged => place == 7,
+        Reply::Tidied => place == 8,
+    }
+}
+
+/// Runs the list of commands.
 fn run_list<D: Disk>(rt: &impl Abort, alloc: Global, store: &mut Store<D>) -> Result<(), Fail> {
-    let mut commands = Vec::new(alloc);
-    commands.push(Command::Add(String::from_str(alloc, "a")?))?;
-    commands.push(Command::Commit)?;
-    commands.push(Command::Find(Query::Term(String::from_str(alloc, "a")?)))?;
-    commands.push(Command::Show(DocNo(1)))?;
-    commands.push(Command::Count)?;
-    commands.push(Command::Delete(DocNo(2)))?;
-    commands.push(Command::Delete(DocNo(1)))?;
-    commands.push(Command::Merge)?;
-    commands.push(Command::Tidy)?;
-    let replies = store.run(alloc, &commands)?;
-    let [
-        added,
-        committed,
-        found,
-        text,
-        counts,
-        missing,
-        deleted,
-        merged,
-        tidied,
-    ] = replies.as_slice()
-    else {
-        return Err(Fail::new("as many replies as commands"));
-    };
-    assert!(rt; matches!(added, Reply::Added(DocNo(1))));
-    assert!(rt; matches!(committed, Reply::Committed));
-    assert!(rt; matches!(found, Reply::Found(n) if n.as_slice() == [DocNo(1)].as_slice()));
-    assert!(rt; matches!(text, Reply::Text(t) if t.as_str() == "a"));
-    let expected = Counts {
-        documents: 1,
-        next: 2,
-    };
-    assert!(rt; matches!(counts, Reply::Counted(c) if *c == expected));
-    assert!(rt; matches!(missing, Reply::Refused(Refusal::NoSuchDocument)));
-    assert!(rt; matches!(deleted, Reply::Deleted(DocNo(1))));
-    assert!(rt; matches!(merged, Reply::Merged));
-    assert!(rt; matches!(tidied, Reply::Tidied));
+    let replies = store.run(alloc, &commands(alloc)?)?;
+    assert_eq!(rt; replies.len(), 9);
+    for (place, reply) in replies.iter().enumerate() {
+        assert!(rt; is_reply_to(place, reply), "reply {place}");
+    }
     Ok(())
 }
 
-#[test]
-fn a_list_of_commands_is_answered_in_turn(rt: HostRuntime) -> Result<(), Fail> {
-    let alloc = rt.alloc();
-    for blocks in BLOCKS {
-        run_list(&rt, alloc, &mut store_with_blocks(alloc, blocks)?)?;
-    }
-    for pages in PAGES {
-        run_list(&rt, alloc, &mut store_on_pages(alloc, pages)?)?;
-    }
-    Ok(())
+/// Whether document 1 is shown with its line feed and its backslash spelled out.
+fn is_spelled_out<D: Disk>(alloc: Global, store: &mut Store<D>) -> Result<bool, AllocError> {
+    Ok(told(alloc, store, "show 1")?.as_str() == "text a\\n\\\\b")
 }
 
 /// Shows a text with a line feed and a backslash, before a commit and after it.
 fn show_text<D: Disk>(rt: &impl Abort, alloc: Global, store: &mut Store<D>) -> Result<(), Fail> {
     assert_eq!(rt; store.add(alloc, "a\n\\b"), Ok(DocNo(1)));
-    assert!(rt; told(alloc, store, "show 1")?.as_str() == "text a\\n\\\\b");
+    assert!(rt; is_spelled_out(alloc, store)?);
     assert_eq!(rt; store.commit(alloc), Ok(()));
-    assert!(rt; told(alloc, store, "show 1")?.as_str() == "text a\\n\\\\b");
+    assert!(rt; is_spelled_out(alloc, store)?);
+    Ok(())
+}
+
+/// What is asked of a store.
+#[derive(Clone, Copy)]
+enum Asked {
+    /// The list of commands.
+    List,
+    /// The text with a line feed and a backslash.
+    Text,
+}
+
+/// Asks a store.
+fn ask<D: Disk>(
+    rt: &impl Abort,
+    alloc: Global,
+    store: &mut Store<D>,
+    asked: Asked,
+) -> Result<(), Fail> {
+    match asked {
+        Asked::List => run_list(rt, alloc, store),
+        Asked::Text => show_text(rt, alloc, store),
+    }
+}
+
+/// Asks a new store that keeps so many decoded blocks.
+fn ask_with_blocks(rt: &impl Abort, alloc: Global, blocks: u32, asked: Asked) -> Result<(), Fail> {
+    ask(rt, alloc, &mut store_with_blocks(alloc, blocks)?, asked)
+}
+
+/// Asks a new store on a page cache of so many pages.
+fn ask_on_pages(rt: &impl Abort, alloc: Global, pages: usize, asked: Asked) -> Result<(), Fail> {
+    ask(rt, alloc, &mut store_on_pages(alloc, pages)?, asked)
+}
+
+/// Asks a store of each kind.
+fn ask_each(rt: &impl Abort, alloc: Global, asked: Asked) -> Result<(), Fail> {
+    for blocks in BLOCKS {
+        ask_with_blocks(rt, alloc, blocks, asked)?;
+    }
+    for pages in PAGES {
+        ask_on_pages(rt, alloc, pages, asked)?;
+    }
     Ok(())
 }
 
 #[test]
-fn a_line_feed_and_a_backslash_are_spelled_out(rt: HostRuntime) -> Result<(), Fail> {
-    let alloc = rt.alloc();
-    for blocks in BLOCKS {
-        show_text(&rt, alloc, &mut store_with_blocks(alloc, blocks)?)?;
-    }
-    for pages in PAGES {
-        show_text(&rt, alloc, &mut store_on_pages(alloc, pages)?)?;
-    }
-    Ok(())
+fn a_list_of_commands_is_answered_in_turn(rt: HostRuntime) -> Result<(), Fail> {
+    ask_each(&rt, rt.alloc(), Asked::List)
 }
+
+#[test]
+fn a_line_feed_and_a_backslash_are_spelled_out(rt: HostRuntime) -> Result<(), Fail> {
+    ask_each(&rt, rt.alloc(), Asked::Text)
+}
+
+/// Whether the addition of so many hyphens is answered so.
+pub fn is_added(
+    alloc: Global,
+    store: &mut Store<MemoryDisk>,
+    length: usize,
+    answer: Result<DocNo, Refusal>,
+) -> Result<bool, AllocError> {
+    let text = "-".repeat(alloc, length)?;
+    Ok(store.add(alloc, text.as_str()) == answer)
+}
+
+/// What a full buffer answers, by the length of a text.
+const FULL: [(usize, Result<DocNo, Refusal>); 3] = [
+    (1, Err(Refusal::BufferFull)),
+    (0, Ok(DocNo(65))),
+    (1_048_577, Err(Refusal::TextTooLong)),
+];
 
 // 64 of the longest texts fill the buffer, and an empty text fits beside them.
 #[test]
 fn the_buffer_has_its_bytes(rt: HostRuntime) -> Result<(), Fail> {
     let alloc = rt.alloc();
-    let text = "-".repeat(alloc, 1_048_576)?;
     let mut store = new_store(alloc)?;
     for n in 1..=64u32 {
-        assert_eq!(rt; store.add(alloc, text.as_str()), Ok(DocNo(n)));
+        assert!(rt;
+            is_added(alloc, &mut store, 1_048_576, Ok(DocNo(n)))?,
+            "{n}"
+        );
     }
-    let longer = "-".repeat(alloc, 1_048_577)?;
-    assert_eq!(rt; store.add(alloc, "-"), Err(Refusal::BufferFull));
-    assert_eq!(rt; store.add(alloc, ""), Ok(DocNo(65)));
-    assert_eq!(rt;
-        store.add(alloc, longer.as_str()),
-        Err(Refusal::TextTooLong)
-    );
+    for (length, answer) in FULL {
+        assert!(rt; is_added(alloc, &mut store, length, answer)?, "{length}");
+    }
     assert_eq!(rt; store.delete(alloc, DocNo(1)), Ok(()));
-    assert_eq!(rt; store.add(alloc, "-"), Ok(DocNo(66)));
+    assert!(rt; is_added(alloc, &mut store, 1, Ok(DocNo(66)))?);
     Ok(())
 }

@@ -489,10 +489,10 @@ pub const BY_LISTS: &str = "
 
 #[test]
 fn deletions_and_merges_go_as_written(rt: HostRuntime) -> Result<(), Fail> {
-    for session in SESSIONS {
+    for session in &SESSIONS {
         play_in_each_setting(rt.alloc(), &[SMALL, session])?;
     }
-    for session in PLACES {
+    for session in &PLACES {
         play_in_each_setting(rt.alloc(), &[SMALL, session])?;
     }
     play_in_each_setting(rt.alloc(), &[SMALL, KIND_1, MERGED, BY_LISTS])?;

@@ -1,7 +1,7 @@
 //! Sessions in which a call of the device fails, and what a crash leaves of them.
 
 use crate::script::play_in_each_setting;
-use crate::sweeps::{EITHER, ON, ONCE, Sweep, play_sweep, play_sweep_on_pages};
+use crate::sweeps::{EITHER, ON, ONCE, Sweep, play_sweeps};
 use std::test::Fail;
 
 /// A new disk, and a new store.
@@ -428,80 +428,66 @@ const SECOND_COMMIT: [Sweep; 3] = [
 /// The same on a page cache. Opening makes five calls: a sync, the page of both gates and of one
 /// generation, that of the other, the body, and the segment's page. The commit makes seven, as the
 /// gates' page is kept: the close of gate A, a sync, the segment, the body, a sync, the gate, a
-/// sync. Where one page is kept, which is the segment's, that of the gates is read before them.
-const SECOND_COMMIT_ON_PAGES: [(&str, Sweep); 6] = [
-    (
-        "!pages 64\n",
-        Sweep {
-            before: ONE_COMMIT,
-            first: 10,
-            last: 10,
-            how: ON,
-            session: COMMIT_CUT,
-            shut: ONE,
-            open: ONE,
-        },
-    ),
-    (
-        "!pages 64\n",
-        Sweep {
-            before: ONE_COMMIT,
-            first: 12,
-            last: 12,
-            how: ONCE,
-            session: COMMIT_CUT_AND_ASKED,
-            shut: ONE,
-            open: TWO,
-        },
-    ),
-    (
-        "!pages 64\n",
-        Sweep {
-            before: ONE_COMMIT,
-            first: 12,
-            last: 12,
-            how: ONCE,
-            session: COMMIT_CUT_AND_OPENED,
-            shut: TWO,
-            open: TWO,
-        },
-    ),
-    (
-        "!pages 1\n",
-        Sweep {
-            before: ONE_COMMIT,
-            first: 11,
-            last: 11,
-            how: ON,
-            session: COMMIT_CUT,
-            shut: ONE,
-            open: ONE,
-        },
-    ),
-    (
-        "!pages 1\n",
-        Sweep {
-            before: ONE_COMMIT,
-            first: 13,
-            last: 13,
-            how: ONCE,
-            session: COMMIT_CUT_AND_ASKED,
-            shut: ONE,
-            open: TWO,
-        },
-    ),
-    (
-        "!pages 1\n",
-        Sweep {
-            before: ONE_COMMIT,
-            first: 13,
-            last: 13,
-            how: ONCE,
-            session: COMMIT_CUT_AND_OPENED,
-            shut: TWO,
-            open: TWO,
-        },
-    ),
+/// sync.
+const SECOND_COMMIT_ON_64_PAGES: [Sweep; 3] = [
+    Sweep {
+        before: ONE_COMMIT,
+        first: 10,
+        last: 10,
+        how: ON,
+        session: COMMIT_CUT,
+        shut: ONE,
+        open: ONE,
+    },
+    Sweep {
+        before: ONE_COMMIT,
+        first: 12,
+        last: 12,
+        how: ONCE,
+        session: COMMIT_CUT_AND_ASKED,
+        shut: ONE,
+        open: TWO,
+    },
+    Sweep {
+        before: ONE_COMMIT,
+        first: 12,
+        last: 12,
+        how: ONCE,
+        session: COMMIT_CUT_AND_OPENED,
+        shut: TWO,
+        open: TWO,
+    },
+];
+
+/// Where one page is kept, which is the segment's, that of the gates is read before them.
+const SECOND_COMMIT_ON_ONE_PAGE: [Sweep; 3] = [
+    Sweep {
+        before: ONE_COMMIT,
+        first: 11,
+        last: 11,
+        how: ON,
+        session: COMMIT_CUT,
+        shut: ONE,
+        open: ONE,
+    },
+    Sweep {
+        before: ONE_COMMIT,
+        first: 13,
+        last: 13,
+        how: ONCE,
+        session: COMMIT_CUT_AND_ASKED,
+        shut: ONE,
+        open: TWO,
+    },
+    Sweep {
+        before: ONE_COMMIT,
+        first: 13,
+        last: 13,
+        how: ONCE,
+        session: COMMIT_CUT_AND_OPENED,
+        shut: TWO,
+        open: TWO,
+    },
 ];
 
 /// A store with two segments, of documents 1 `a b` and 3 `a`, and of document 5 `c a`.
@@ -643,32 +629,29 @@ pub const ANSWERS: [&str; 2] = [
     ",
 ];
 
-/// All sweeps.
-const SWEEPS: [&[Sweep]; 6] = [
-    &CREATING,
-    &OPENING,
-    &COMMITTING,
-    &SHUT_GATE,
-    &SECOND_COMMIT,
-    &READING,
+/// All sweeps, with the line that puts the store on a page cache.
+const SWEEPS: [(&str, &[Sweep]); 8] = [
+    ("", &CREATING),
+    ("", &OPENING),
+    ("", &COMMITTING),
+    ("", &SHUT_GATE),
+    ("", &SECOND_COMMIT),
+    ("!pages 64\n", &SECOND_COMMIT_ON_64_PAGES),
+    ("!pages 1\n", &SECOND_COMMIT_ON_ONE_PAGE),
+    ("", &READING),
 ];
 
 #[test]
 fn each_call_that_fails_is_answered(rt: HostRuntime) -> Result<(), Fail> {
-    for sweeps in SWEEPS {
-        for sweep in sweeps {
-            play_sweep(rt.alloc(), sweep)?;
-        }
-    }
-    for (pages, sweep) in &SECOND_COMMIT_ON_PAGES {
-        play_sweep_on_pages(rt.alloc(), pages, sweep)?;
+    for (pages, sweeps) in &SWEEPS {
+        play_sweeps(rt.alloc(), pages, sweeps)?;
     }
     Ok(())
 }
 
 #[test]
 fn documents_are_found_and_shown(rt: HostRuntime) -> Result<(), Fail> {
-    for answers in ANSWERS {
+    for answers in &ANSWERS {
         play_in_each_setting(rt.alloc(), &[READ, answers])?;
     }
     Ok(())

@@ -1,6 +1,6 @@
 //! Deletions, commits with deletion lists, merges and openings in which a call of the device fails.
 
-use crate::sweeps::{EITHER, ON, ONCE, Sweep, play_sweep};
+use crate::sweeps::{EITHER, ON, ONCE, Sweep, play_sweep, play_sweeps};
 use std::test::Fail;
 
 /// Two segments of two documents each.
@@ -362,7 +362,7 @@ fn each_call_that_fails_in_a_merge_loses_nothing(rt: HostRuntime) -> Result<(), 
             shut: KEPT,
             open: KEPT,
         };
-        play_sweep(rt.alloc(), &sweep)?;
+        play_sweep(rt.alloc(), "", &sweep)?;
     }
     Ok(())
 }
@@ -373,9 +373,7 @@ const SWEEPS: [&[Sweep]; 2] = [&COMMITTING, &OPENING];
 #[test]
 fn each_call_that_fails_loses_nothing(rt: HostRuntime) -> Result<(), Fail> {
     for sweeps in SWEEPS {
-        for sweep in sweeps {
-            play_sweep(rt.alloc(), sweep)?;
-        }
+        play_sweeps(rt.alloc(), "", sweeps)?;
     }
     Ok(())
 }

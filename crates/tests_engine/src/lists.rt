@@ -4,9 +4,11 @@ use crate::calls::new_store;
 use crate::lying::has_store;
 use crate::script::play_in_each_setting;
 use pk_disk::MemoryDisk;
-use pk_model::DocNo;
+use pk_model::{DocNo, Refusal};
 use pk_posting::decode;
+use pk_store::Store;
 use std::alloc::{AllocError, Global};
+use std::process::Abort;
 use std::test::Fail;
 
 /// A store with one segment, of documents 1 `a b` and 3 `a`. The place of a deletion list in its
@@ -97,7 +99,7 @@ pub fn with_list(
 #[test]
 fn lists_are_opened_as_they_stand(rt: HostRuntime) -> Result<(), Fail> {
     let alloc = rt.alloc();
-    for (list, length, told) in LISTS {
+    for (list, length, told) in &LISTS {
         let script = with_list(alloc, list, length, told)?;
         play_in_each_setting(alloc, &[script.as_str()])?;
     }
@@ -119,9 +121,8 @@ const LENGTH: usize = 4 + 20 + 16 + 48 + 2;
 /// Where the entry says how long.
 const LENGTH_PLACE: usize = 1_092;
 
-/// The disk of that store.
-fn long_list(alloc: Global) -> Result<Vec<u8>, Fail> {
-    let mut store = new_store(alloc)?;
+/// Adds those documents to a store, and deletes of them those.
+fn fill(alloc: Global, store: &mut Store<MemoryDisk>) -> Result<(), Refusal> {
     for _ in 0..DOCUMENTS {
         store.add(alloc, "a")?;
     }
@@ -129,7 +130,13 @@ fn long_list(alloc: Global) -> Result<Vec<u8>, Fail> {
     for n in 1..=DELETED {
         store.delete(alloc, DocNo(n))?;
     }
-    store.commit(alloc)?;
+    store.commit(alloc)
+}
+
+/// The disk of that store.
+fn long_list(alloc: Global) -> Result<Vec<u8>, Fail> {
+    let mut store = new_store(alloc)?;
+    fill(alloc, &mut store)?;
     Ok(store.close().into_bytes())
 }
 
@@ -141,24 +148,51 @@ fn is_list(alloc: Global, bytes: &[u8]) -> bool {
     }
 }
 
+/// Whether the bytes of the disk have the list in its place.
+fn has_list(alloc: Global, bytes: &[u8]) -> bool {
+    bytes.len() == 32_768 && is_list(alloc, &bytes[PLACE..PLACE + LENGTH])
+}
+
+/// Bytes with another one at a place.
+fn changed(alloc: Global, bytes: &[u8], place: usize, byte: u8) -> Result<Vec<u8>, AllocError> {
+    let mut bytes = bytes.to_vec(alloc)?;
+    if let Some(there) = bytes.get_mut(place) {
+        *there = byte;
+    }
+    Ok(bytes)
+}
+
+/// Whether a disk opens just where its list is one.
+fn opens_by_its_list(rt: &impl Abort, alloc: Global, bytes: Vec<u8>) -> Result<bool, AllocError> {
+    let is_good = has_list(alloc, &bytes);
+    Ok(has_store(rt, alloc, MemoryDisk::of_bytes(alloc, bytes))? == is_good)
+}
+
 // A list may name numbers that its segment doesn't have. Then the store opens, and each command is
 // answered, or refused as damaged.
 #[test]
 fn a_list_with_a_changed_byte_is_answered(rt: HostRuntime) -> Result<(), Fail> {
     let alloc = rt.alloc();
     let bytes = long_list(alloc)?;
-    assert!(rt; bytes.len() == 32_768);
-    assert!(rt; is_list(alloc, &bytes[PLACE..PLACE + LENGTH]));
+    assert!(rt; has_list(alloc, &bytes));
     for place in PLACE..PLACE + LENGTH {
         for byte in [0x00, 0xFF] {
-            let mut changed = bytes.to_vec(alloc)?;
-            changed[place] = byte;
-            let opens = is_list(alloc, &changed[PLACE..PLACE + LENGTH]);
-            let disk = MemoryDisk::of_bytes(alloc, changed);
-            assert_eq!(rt; has_store(&rt, alloc, disk)?, opens, "{byte} at {place}");
+            let disk = changed(alloc, &bytes, place, byte)?;
+            assert!(rt; opens_by_its_list(&rt, alloc, disk)?, "{byte} at {place}");
         }
     }
     Ok(())
+}
+
+/// Whether a disk opens where its entry says that the list has so many bytes.
+fn opens_with_length(
+    rt: &impl Abort,
+    alloc: Global,
+    bytes: &[u8],
+    length: u8,
+) -> Result<bool, AllocError> {
+    let bytes = changed(alloc, bytes, LENGTH_PLACE, length)?;
+    has_store(rt, alloc, MemoryDisk::of_bytes(alloc, bytes))
 }
 
 // A list has one spelling, so that none of another length begins it.
@@ -166,13 +200,10 @@ fn a_list_with_a_changed_byte_is_answered(rt: HostRuntime) -> Result<(), Fail> {
 fn a_list_of_another_length_is_damaged(rt: HostRuntime) -> Result<(), Fail> {
     let alloc = rt.alloc();
     let bytes = long_list(alloc)?;
-    assert!(rt; bytes.len() == 32_768);
+    assert!(rt; has_list(alloc, &bytes));
     for length in 0..=255u8 {
-        let mut changed = bytes.to_vec(alloc)?;
-        changed[LENGTH_PLACE] = length;
-        let disk = MemoryDisk::of_bytes(alloc, changed);
-        let opens = length as usize == LENGTH;
-        assert_eq!(rt; has_store(&rt, alloc, disk)?, opens, "{length} bytes");
+        let opens = opens_with_length(&rt, alloc, &bytes, length)?;
+        assert_eq!(rt; opens, length as usize == LENGTH, "{length} bytes");
     }
     Ok(())
 }

@@ -106,13 +106,33 @@ fn is_allowed(line: &str, reply: &str, start: &str, other: &str) -> bool {
     reply.starts_with(start) || reply.starts_with(other)
 }
 
+/// Whether an open store answers a line as it may.
+fn is_answered<D: Disk>(
+    alloc: Global,
+    store: &mut Store<D>,
+    line: &str,
+    start: &str,
+    other: &str,
+) -> Result<bool, AllocError> {
+    Ok(is_allowed(line, told(alloc, store, line)?.as_str(), start, other))
+}
+
 /// Gives an open store each of the lines.
 fn ask<D: Disk>(rt: &impl Abort, alloc: Global, store: &mut Store<D>) -> Result<(), AllocError> {
-    for (line, start, other) in ASKED {
-        let reply = told(alloc, store, line)?;
-        assert!(rt; is_allowed(line, reply.as_str(), start, other), "{line}");
+    for (line, start, other) in &ASKED {
+        assert!(rt; is_answered(alloc, store, line, start, other)?, "{line}");
     }
     Ok(())
+}
+
+/// Gives an open store each of the lines twice.
+fn ask_twice<D: Disk>(
+    rt: &impl Abort,
+    alloc: Global,
+    store: &mut Store<D>,
+) -> Result<(), AllocError> {
+    ask(rt, alloc, store)?;
+    ask(rt, alloc, store)
 }
 
 /// Opens a disk and asks its store twice, if it has one. Answers whether it has.
@@ -123,8 +143,7 @@ pub fn has_store<D: Disk + Drop>(
 ) -> Result<bool, AllocError> {
     match Store::open_on(alloc, disk, 0) {
         Ok(mut store) => {
-            ask(rt, alloc, &mut store)?;
-            ask(rt, alloc, &mut store)?;
+            ask_twice(rt, alloc, &mut store)?;
             Ok(true)
         }
         Err(Refused { why, .. }) => {
@@ -132,6 +151,16 @@ pub fn has_store<D: Disk + Drop>(
             Ok(false)
         }
     }
+}
+
+/// How many of 2,000 lossy disks with the same bytes have a store.
+fn count_stores(rt: &impl Abort, alloc: Global, bytes: &[u8]) -> Result<u32, Fail> {
+    let mut stores = 0u32;
+    for seed in 0..2_000 {
+        let disk = LossyDisk::of_bytes(bytes.to_vec(alloc)?, seed);
+        stores = stores.saturating_add(u32::from(has_store(rt, alloc, disk)?));
+    }
+    Ok(stores)
 }
 
 // A lossy disk changes a byte of each read, so that gate A is read as open where it is FD. The
@@ -142,15 +171,16 @@ fn a_lossy_disk_is_answered(rt: HostRuntime) -> Result<(), Fail> {
     let mut bytes = new_store(alloc)?.close().into_bytes();
     assert!(rt; bytes.len() == 32_768);
     bytes[0] = 0xFD;
-    let mut stores = 0u32;
-    for seed in 0..2_000 {
-        let disk = LossyDisk::of_bytes(bytes.to_vec(alloc)?, seed);
-        if has_store(&rt, alloc, disk)? {
-            stores = stores.saturating_add(1);
-        }
-    }
-    assert!(rt; stores > 0);
+    assert!(rt; count_stores(&rt, alloc, &bytes)? > 0);
     Ok(())
+}
+
+/// The disk of a store with one document.
+fn with_document(rt: &impl Abort, alloc: Global) -> Result<MemoryDisk, Fail> {
+    let mut store = new_store(alloc)?;
+    assert_eq!(rt; store.add(alloc, "x y"), Ok(DocNo(1)));
+    assert_eq!(rt; store.commit(alloc), Ok(()));
+    Ok(store.close())
 }
 
 // Opening makes nine calls, so the commands meet the first lie.
@@ -158,10 +188,7 @@ fn a_lossy_disk_is_answered(rt: HostRuntime) -> Result<(), Fail> {
 fn a_disk_that_begins_to_lie_is_answered(rt: HostRuntime) -> Result<(), Fail> {
     let alloc = rt.alloc();
     for served in 0..120 {
-        let mut store = new_store(alloc)?;
-        assert_eq!(rt; store.add(alloc, "x y"), Ok(DocNo(1)));
-        assert_eq!(rt; store.commit(alloc), Ok(()));
-        let below = store.close();
+        let below = with_document(&rt, alloc)?;
         let is_store = has_store(&rt, alloc, Liar { below, served })?;
         assert_eq!(rt; is_store, served >= 9, "{served} calls");
     }

@@ -1,7 +1,8 @@
 //! Deletions, commits with deletion lists, merges and openings that are refused memory.
 
+use crate::calls::store_if_memory;
 use pk_disk::MemoryDisk;
-use pk_model::{Counts, DocNo, Refusal};
+use pk_model::{Counts, DocNo, Query, Refusal};
 use pk_query::parse;
 use pk_store::{OpenFault, Refused, Store};
 use std::alloc::Global;
@@ -70,8 +71,26 @@ fn take(alloc: Global, store: &mut Store<MemoryDisk>, step: &Step) -> Result<(),
     }
 }
 
-/// Takes the steps on a store without anything uncommitted. One that is refused memory has changed
-/// nothing, and is done when it is asked for again.
+/// Does what is asked. Where that is refused memory it has changed nothing, and is done when it is
+/// asked for again.
+fn take_again(
+    rt: &impl Abort,
+    alloc: Global,
+    store: &mut Store<MemoryDisk>,
+    step: &Step,
+    now: Counts,
+    taken: &mut Taken,
+) -> Result<(), Refusal> {
+    let done = take(alloc, store, step);
+    if done != Err(Refusal::Memory) {
+        return done;
+    }
+    assert!(rt; store.counts() == Ok(now));
+    *taken = Taken::Again;
+    take(alloc, store, step)
+}
+
+/// Takes the steps on a store without anything uncommitted.
 fn take_all(
     rt: &impl Abort,
     alloc: Global,
@@ -83,12 +102,7 @@ fn take_all(
     let mut marked = start;
     let mut now = start;
     for (step, documents, next) in steps {
-        let mut done = take(alloc, store, step);
-        if done == Err(Refusal::Memory) {
-            assert!(rt; store.counts() == Ok(now));
-            taken = Taken::Again;
-            done = take(alloc, store, step);
-        }
+        let done = take_again(rt, alloc, store, step, now, &mut taken);
         if done == Err(Refusal::Disk) {
             return Taken::Cut { marked, now };
         }
@@ -126,26 +140,61 @@ fn open_again(
     }
 }
 
-/// Whether memory was there for the finds.
+/// Whether memory was there for a find, which then has found these.
+fn is_found(
+    rt: &impl Abort,
+    alloc: Global,
+    store: &mut Store<MemoryDisk>,
+    text: &str,
+    numbers: &[DocNo],
+) -> bool {
+    let Ok(query) = parse(alloc, text) else {
+        return false;
+    };
+    match store.find(alloc, &query) {
+        Ok(found) => {
+            assert!(rt; found.as_slice() == numbers);
+            true
+        }
+        Err(why) => {
+            assert!(rt; why == Refusal::Memory);
+            false
+        }
+    }
+}
+
+/// Whether memory was there for all finds.
 fn finds_all(rt: &impl Abort, alloc: Global, store: &mut Store<MemoryDisk>) -> bool {
-    for (text, numbers) in FOUND {
-        let Ok(query) = parse(alloc, text) else {
+    for (text, numbers) in &FOUND {
+        if !is_found(rt, alloc, store, text, numbers) {
             return false;
-        };
-        match store.find(alloc, &query) {
-            Ok(found) => assert!(rt; found.as_slice() == numbers),
-            Err(why) => {
-                assert!(rt; why == Refusal::Memory);
-                return false;
-            }
         }
     }
     true
 }
 
+/// Whether memory was there for all finds. Where it was not, it is when they are asked again.
+fn finds_in_the_end(rt: &impl Abort, alloc: Global, store: &mut Store<MemoryDisk>) -> bool {
+    if finds_all(rt, alloc, store) {
+        return true;
+    }
+    assert!(rt; finds_all(rt, alloc, store));
+    false
+}
+
+/// Whether a session is to go on: not after a write that failed, which leaves what was committed or
+/// what was there.
+fn goes_on(rt: &impl Abort, store: &Store<MemoryDisk>, taken: Taken) -> bool {
+    let Taken::Cut { marked, now } = taken else {
+        return true;
+    };
+    let left = store.counts();
+    assert!(rt; left == Ok(marked) || left == Ok(now));
+    false
+}
+
 /// Takes the steps of a session on an open store, which is then opened again. Answers it, and
-/// whether it is to go on: not after a write that failed, which leaves what was committed or what
-/// was there.
+/// whether it is to go on.
 fn play(
     rt: &impl Abort,
     alloc: Global,
@@ -159,46 +208,34 @@ fn play(
         *is_whole = false;
     }
     let store = open_again(rt, alloc, store.close(), is_whole);
-    match taken {
-        Taken::Cut { marked, now } => {
-            let left = store.counts();
-            assert!(rt; left == Ok(marked) || left == Ok(now));
-            (store, false)
-        }
-        Taken::Whole | Taken::Again => (store, true),
-    }
+    let goes_on = goes_on(rt, &store, taken);
+    (store, goes_on)
 }
+
+/// What is counted in a new store.
+const NEW: Counts = Counts {
+    documents: 0,
+    next: 1,
+};
+
+/// What is behind the first session.
+const BETWEEN: Counts = Counts {
+    documents: 2,
+    next: 4,
+};
 
 /// Plays both sessions on a new store, and answers whether memory was there for all that was asked.
 fn is_answered_in_full(rt: &impl Abort, alloc: Global) -> bool {
-    let Ok(zeros) = vec![in alloc; 0u8; 32_768] else {
-        return false;
-    };
-    let Ok(store) = Store::create(alloc, MemoryDisk::of_bytes(alloc, zeros), 0) else {
+    let Some(store) = store_if_memory(alloc, 0) else {
         return false;
     };
     let mut is_whole = true;
-    let start = Counts {
-        documents: 0,
-        next: 1,
-    };
-    let (store, goes_on) = play(rt, alloc, store, start, &BEFORE, &mut is_whole);
+    let (store, goes_on) = play(rt, alloc, store, NEW, &BEFORE, &mut is_whole);
     if !goes_on {
         return false;
     }
-    let start = Counts {
-        documents: 2,
-        next: 4,
-    };
-    let (mut store, goes_on) = play(rt, alloc, store, start, &BEHIND, &mut is_whole);
-    if !goes_on {
-        return false;
-    }
-    if !finds_all(rt, alloc, &mut store) {
-        assert!(rt; finds_all(rt, alloc, &mut store));
-        return false;
-    }
-    is_whole
+    let (mut store, goes_on) = play(rt, alloc, store, BETWEEN, &BEHIND, &mut is_whole);
+    goes_on && finds_in_the_end(rt, alloc, &mut store) && is_whole
 }
 
 /// Run with one request for memory refused after another (tools/refuse_memory.py): of two sessions
@@ -210,38 +247,48 @@ fn deletions_short_of_memory(rt: HostRuntime) {
     assert!(rt; first || second);
 }
 
-/// Finds 130 documents that a store has committed which keeps one decoded block; whether memory was
-/// there for all that was asked.
-fn is_found_by_a_block(rt: &impl Abort, alloc: Global) -> bool {
-    let Ok(zeros) = vec![in alloc; 0u8; 32_768] else {
-        return false;
-    };
-    let Ok(mut store) = Store::create(alloc, MemoryDisk::of_bytes(alloc, zeros), 1) else {
-        return false;
-    };
-    let Ok(query) = parse(alloc, "a") else {
-        return false;
-    };
+/// Whether memory was there for 130 documents and their commit.
+fn has_documents(alloc: Global, store: &mut Store<MemoryDisk>) -> bool {
     for _ in 0..130 {
         if store.add(alloc, "a").is_err() {
             return false;
         }
     }
-    if store.commit(alloc).is_err() {
+    store.commit(alloc).is_ok()
+}
+
+/// How many documents a find finds.
+fn count_found(
+    alloc: Global,
+    store: &mut Store<MemoryDisk>,
+    query: &Query,
+) -> Result<usize, Refusal> {
+    Ok(store.find(alloc, query)?.len())
+}
+
+/// Finds 130 documents twice that a new store has committed; whether memory was there for all.
+fn is_found_twice(rt: &impl Abort, alloc: Global, store: &mut Store<MemoryDisk>) -> bool {
+    let Ok(query) = parse(alloc, "a") else {
+        return false;
+    };
+    if !has_documents(alloc, store) {
         return false;
     }
-    let first = store.find(alloc, &query);
-    let again = store.find(alloc, &query);
+    let first = count_found(alloc, store, &query);
+    let again = count_found(alloc, store, &query);
     match (first, again) {
-        (Ok(first), Ok(again)) => {
-            assert!(rt; first.len() == 130 && again.len() == 130);
-            true
-        }
-        (Ok(found), Err(why)) | (Err(why), Ok(found)) => {
-            assert!(rt; why == Refusal::Memory && found.len() == 130);
-            false
-        }
-        (Err(_), Err(_)) => panic!(rt; "both finds are refused"),
+        (Ok(130), Ok(130)) => true,
+        (Ok(130), Err(Refusal::Memory)) | (Err(Refusal::Memory), Ok(130)) => false,
+        _ => panic!(rt; "neither find is answered, or one otherwise"),
+    }
+}
+
+/// Finds them in a store that keeps one decoded block; whether memory was there for all that was
+/// asked.
+fn is_found_by_a_block(rt: &impl Abort, alloc: Global) -> bool {
+    match store_if_memory(alloc, 1) {
+        Some(mut store) => is_found_twice(rt, alloc, &mut store),
+        None => false,
     }
 }
 

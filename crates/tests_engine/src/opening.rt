@@ -205,10 +205,10 @@ const TOO_SMALL: &str = "
 
 #[test]
 fn stores_are_opened_as_they_stand(rt: HostRuntime) -> Result<(), Fail> {
-    for script in STORES {
+    for script in &STORES {
         play_in_each_setting(rt.alloc(), &[SEGMENTS, STORE, script])?;
     }
-    for script in DISKS {
+    for script in &DISKS {
         play_in_each_setting(rt.alloc(), &[script])?;
     }
     play_in_each_setting(rt.alloc(), &[TOO_SMALL])?;
@@ -217,32 +217,28 @@ fn stores_are_opened_as_they_stand(rt: HostRuntime) -> Result<(), Fail> {
 }
 
 /// A body of generation 3 that names a segment at unit 60, where there is none.
-const STALE: &str = "
-    50 4B 53 52 43 48 30 31 03 00 00 00 00 00 00 00 40 00 00 00 09 00 00 00
-    09 00 00 00 00 00 00 00 01 00 00 00
-    01 00 00 00 00 00 00 00 3C 00 00 00 01 00 00 00 27 00 00 00 01 00 00 00
-";
+const STALE: &str = "\
+    50 4B 53 52 43 48 30 31 03 00 00 00 00 00 00 00 40 00 00 00 09 00 00 00 \
+    09 00 00 00 00 00 00 00 01 00 00 00 \
+    01 00 00 00 00 00 00 00 3C 00 00 00 01 00 00 00 27 00 00 00 01 00 00 00";
 
 /// A body of generation 3 that names both segments.
-const EQUAL: &str = "
-    50 4B 53 52 43 48 30 31 03 00 00 00 00 00 00 00 40 00 00 00 09 00 00 00
-    09 00 00 00 00 00 00 00 02 00 00 00
-    01 00 00 00 00 00 00 00 32 00 00 00 01 00 00 00 27 00 00 00 01 00 00 00 {00 *16}
-    02 00 00 00 00 00 00 00 34 00 00 00 01 00 00 00 27 00 00 00 01 00 00 00
-";
+const EQUAL: &str = "\
+    50 4B 53 52 43 48 30 31 03 00 00 00 00 00 00 00 40 00 00 00 09 00 00 00 \
+    09 00 00 00 00 00 00 00 02 00 00 00 \
+    01 00 00 00 00 00 00 00 32 00 00 00 01 00 00 00 27 00 00 00 01 00 00 00 {00 *16} \
+    02 00 00 00 00 00 00 00 34 00 00 00 01 00 00 00 27 00 00 00 01 00 00 00";
 
 /// A body of generation 4 that names the second segment.
-const GREATER: &str = "
-    50 4B 53 52 43 48 30 31 04 00 00 00 00 00 00 00 40 00 00 00 09 00 00 00
-    09 00 00 00 00 00 00 00 01 00 00 00
-    02 00 00 00 00 00 00 00 34 00 00 00 01 00 00 00 27 00 00 00 01 00 00 00
-";
+const GREATER: &str = "\
+    50 4B 53 52 43 48 30 31 04 00 00 00 00 00 00 00 40 00 00 00 09 00 00 00 \
+    09 00 00 00 00 00 00 00 01 00 00 00 \
+    02 00 00 00 00 00 00 00 34 00 00 00 01 00 00 00 27 00 00 00 01 00 00 00";
 
 /// A body of generation 4 that names none.
-const WITHOUT: &str = "
-    50 4B 53 52 43 48 30 31 04 00 00 00 00 00 00 00 40 00 00 00 09 00 00 00
-    09 00 00 00 00 00 00 00 00 00 00 00
-";
+const WITHOUT: &str = "\
+    50 4B 53 52 43 48 30 31 04 00 00 00 00 00 00 00 40 00 00 00 09 00 00 00 \
+    09 00 00 00 00 00 00 00 00 00 00 00";
 
 /// What opening tells where both gates are open, by the body of A and that of B. The greater
 /// generation is judged alone, at equal ones that of A: the other body may name units that hold
@@ -269,15 +265,13 @@ pub const BOTH: [(&str, &str, &str); 5] = [
 
 /// A script over these bodies, with both gates open.
 pub fn over_both(alloc: Global, a: &str, b: &str, end: &str) -> Result<String, AllocError> {
-    let a = a.replace(alloc, "\n", " ")?;
-    let b = b.replace(alloc, "\n", " ")?;
     format!(in alloc; "{SEGMENTS}!set 1024 {a}\n!set 9216 {b}\n!set 0 A7\n!set 512 A7\n{end}")
 }
 
 #[test]
 fn the_greater_generation_is_opened(rt: HostRuntime) -> Result<(), Fail> {
     let alloc = rt.alloc();
-    for (a, b, end) in BOTH {
+    for (a, b, end) in &BOTH {
         let script = over_both(alloc, a, b, end)?;
         play_in_each_setting(alloc, &[script.as_str()])?;
     }
@@ -377,7 +371,7 @@ pub fn without_documents(
 #[test]
 fn numbers_and_ids_have_an_end(rt: HostRuntime) -> Result<(), Fail> {
     let alloc = rt.alloc();
-    for (generation, number, segment, end) in ENDS {
+    for (generation, number, segment, end) in &ENDS {
         let script = without_documents(alloc, generation, number, segment, end)?;
         play_in_each_setting(alloc, &[script.as_str()])?;
     }

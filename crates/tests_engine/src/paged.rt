@@ -4,10 +4,11 @@
 use crate::deletions::{self, BY_LISTS, KIND_1};
 use crate::lists::{self, LISTS};
 use crate::opening::{self, BOTH, DISKS, ENDS, STORES};
-use crate::script::{ScriptFault, has_failing_call, play, play_on_pages};
+use crate::script::{ScriptFault, has_failing_call, joined, play, play_on_pages};
 use crate::sessions::{self, MANY, SMALL};
 use crate::{cached, faults, searching};
 use std::alloc::{AllocError, Global};
+use std::process::Abort;
 use std::test::Fail;
 
 /// Sessions with a failing call below a page cache. A new store is opened in three calls: a sync,
@@ -79,18 +80,27 @@ fn a_numbered_call_below_fails(rt: HostRuntime) -> Result<(), Fail> {
 /// No store makes more calls of the device than these.
 const MOST_CALLS: u64 = 4_000;
 
+/// Puts an opening behind a script, between what goes before it and what it opens for.
+fn put_opened(
+    script: &mut String,
+    before: &str,
+    opening: &str,
+    piece: &str,
+) -> Result<(), AllocError> {
+    script.push_str(before)?;
+    script.push_str(opening)?;
+    script.push_str(piece)
+}
+
 /// A script on a page cache, of which the `k`th call from an opening on fails alone: from the first
 /// opening or creation on for 0, else from that `!open`, counted from 1.
 fn planned(alloc: Global, script: &str, place: usize, k: u64) -> Result<String, AllocError> {
+    let plan = format!(in alloc; "!fail {k} once\n")?;
     let mut whole = String::from_str(alloc, "!pages 2\n")?;
     for (index, piece) in script.split("!open").enumerate() {
-        if index == place {
-            whole.push_str(format!(in alloc; "!fail {k} once\n")?.as_str())?;
-        }
-        if index > 0 {
-            whole.push_str("!open")?;
-        }
-        whole.push_str(piece)?;
+        let before = if index == place { plan.as_str() } else { "" };
+        let opening = if index > 0 { "!open" } else { "" };
+        put_opened(&mut whole, before, opening, piece)?;
     }
     Ok(whole)
 }
@@ -134,58 +144,80 @@ fn is_whole_played(alloc: Global, script: &str) -> Result<bool, Fail> {
     Ok(true)
 }
 
-/// The same of the parts of a script, which follow one another. One that has a failing call of its
-/// own is left out.
-fn is_played(alloc: Global, parts: &[&str]) -> Result<bool, Fail> {
+/// The same of a script of parts that follow one another. One that has a failing call of its own is
+/// left out.
+fn is_played(alloc: Global, first: &str, parts: &[&str]) -> Result<bool, Fail> {
     if has_failing_call(parts) {
         return Ok(true);
     }
-    let mut script = String::new(alloc);
-    for part in parts {
-        script.push_str(part)?;
-    }
-    is_whole_played(alloc, script.as_str())
+    is_whole_played(alloc, joined(alloc, first, parts)?.as_str())
 }
+
+/// Plays each of some scripts behind two parts that go before it.
+fn play_each(
+    rt: &impl Abort,
+    alloc: Global,
+    first: &str,
+    second: &str,
+    scripts: &[&str],
+) -> Result<(), Fail> {
+    for script in scripts {
+        assert!(rt; is_played(alloc, first, &[second, script])?, "{script}");
+    }
+    Ok(())
+}
+
+/// Plays a script that has no failing call of its own.
+fn play_one(rt: &impl Abort, alloc: Global, script: &str) -> Result<(), Fail> {
+    assert!(rt; is_whole_played(alloc, script)?, "{script}");
+    Ok(())
+}
+
+/// What goes before scripts in two parts, and these.
+type Scripts = (&'static str, &'static str, &'static [&'static str]);
+
+/// Sessions on a new store.
+const ON_A_NEW_STORE: [Scripts; 4] = [
+    (SMALL, "", &sessions::SESSIONS),
+    (SMALL, "", &deletions::SESSIONS),
+    (SMALL, "", &deletions::PLACES),
+    (SMALL, KIND_1, &[BY_LISTS]),
+];
 
 #[test]
 fn a_failing_call_below_is_told(rt: HostRuntime) -> Result<(), Fail> {
-    let alloc = rt.alloc();
-    for session in sessions::SESSIONS {
-        assert!(rt; is_played(alloc, &[SMALL, session])?);
+    for (first, second, scripts) in ON_A_NEW_STORE {
+        play_each(&rt, rt.alloc(), first, second, scripts)?;
     }
-    for session in deletions::SESSIONS {
-        assert!(rt; is_played(alloc, &[SMALL, session])?);
-    }
-    for session in deletions::PLACES {
-        assert!(rt; is_played(alloc, &[SMALL, session])?);
-    }
-    assert!(rt; is_played(alloc, &[SMALL, KIND_1, BY_LISTS])?);
     Ok(())
 }
+
+/// Scripts on disks that are made by hand.
+const BY_HAND: [Scripts; 3] = [
+    (opening::SEGMENTS, opening::STORE, &STORES),
+    ("", "", &DISKS),
+    (faults::READ, "", &faults::ANSWERS),
+];
 
 #[test]
 fn a_failing_call_below_a_disk_by_hand_is_told(rt: HostRuntime) -> Result<(), Fail> {
     let alloc = rt.alloc();
-    for script in STORES {
-        assert!(rt; is_played(alloc, &[opening::SEGMENTS, opening::STORE, script])?);
+    for (first, second, scripts) in BY_HAND {
+        play_each(&rt, alloc, first, second, scripts)?;
     }
-    for script in DISKS {
-        assert!(rt; is_played(alloc, &[script])?);
+    for (a, b, end) in &BOTH {
+        play_one(&rt, alloc, opening::over_both(alloc, a, b, end)?.as_str())?;
     }
-    for (a, b, end) in BOTH {
-        let script = opening::over_both(alloc, a, b, end)?;
-        assert!(rt; is_whole_played(alloc, script.as_str())?);
-    }
-    for (generation, number, segment, end) in ENDS {
+    for (generation, number, segment, end) in &ENDS {
         let script = opening::without_documents(alloc, generation, number, segment, end)?;
-        assert!(rt; is_whole_played(alloc, script.as_str())?);
+        play_one(&rt, alloc, script.as_str())?;
     }
-    for (list, length, told) in LISTS {
-        let script = lists::with_list(alloc, list, length, told)?;
-        assert!(rt; is_whole_played(alloc, script.as_str())?);
-    }
-    for answers in faults::ANSWERS {
-        assert!(rt; is_played(alloc, &[faults::READ, answers])?);
+    for (list, length, told) in &LISTS {
+        play_one(
+            &rt,
+            alloc,
+            lists::with_list(alloc, list, length, told)?.as_str(),
+        )?;
     }
     Ok(())
 }
@@ -193,11 +225,14 @@ fn a_failing_call_below_a_disk_by_hand_is_told(rt: HostRuntime) -> Result<(), Fa
 #[test]
 fn a_failing_call_below_many_documents_is_told(rt: HostRuntime) -> Result<(), Fail> {
     let alloc = rt.alloc();
-    assert!(rt; is_whole_played(alloc, cached::session(alloc)?.as_str())?);
-    assert!(rt; is_whole_played(alloc, searching::session(alloc)?.as_str())?);
-    for (last, lines, end) in MANY {
-        let script = sessions::filled(alloc, last, lines, end)?;
-        assert!(rt; is_whole_played(alloc, script.as_str())?);
+    play_one(&rt, alloc, cached::session(alloc)?.as_str())?;
+    play_one(&rt, alloc, searching::session(alloc)?.as_str())?;
+    for (last, lines, end) in &MANY {
+        play_one(
+            &rt,
+            alloc,
+            sessions::filled(alloc, *last, lines, end)?.as_str(),
+        )?;
     }
     Ok(())
 }

@@ -30,18 +30,21 @@ fn halvings(number: u32) -> usize
     }
 }
 
+/// Adds a document. The 50th leaves, and behind three others there is a commit.
+fn add(script: &mut String, n: u32) -> Result<(), AllocError> {
+    writeln!(script, "add {}{{ *0}} => added {n}", text_of(n))?;
+    script.push_str(match n {
+        50 => "delete 50 => deleted 50\n",
+        100 | 107 | 108 => "commit => committed\n",
+        _ => "",
+    })
+}
+
 /// A script that makes the store.
 fn store(alloc: Global) -> Result<String, AllocError> {
     let mut script = String::from_str(alloc, "!disk 131072\n!create => created\n")?;
     for n in 1..=108u32 {
-        let text = text_of(n);
-        writeln!(script, "add {text}{{ *0}} => added {n}")?;
-        if n == 50 {
-            script.push_str("delete 50 => deleted 50\n")?;
-        }
-        if n == 100 || n == 107 || n == 108 {
-            script.push_str("commit => committed\n")?;
-        }
+        add(&mut script, n)?;
     }
     script.push_str("!close\n")?;
     Ok(script)

@@ -38,17 +38,27 @@ impl From<AllocError> for ScriptFault {
     }
 }
 
+/// Puts a piece of a text behind others, with a `{c*n` at its end spelled out.
+fn put_piece(alloc: Global, whole: &mut String, piece: &str) -> Result<(), AllocError> {
+    let (plain, repeated) = piece.split_once("{").unwrap_or((piece, ""));
+    let (what, times) = repeated.split_once("*").unwrap_or(("", ""));
+    let times = times.parse::<usize>().unwrap_or(0);
+    whole.push_str(plain)?;
+    whole.push_str(what.repeat(alloc, times)?.as_str())
+}
+
 /// The text with each `{c*n}` spelled out.
-pub fn spelled_out(alloc: Global, text: &str) -> Result<String, AllocError> {
+fn spelled_out(alloc: Global, text: &str) -> Result<String, AllocError> {
     let mut whole = String::new(alloc);
     for piece in text.split('}') {
-        let (plain, repeated) = piece.split_once("{").unwrap_or((piece, ""));
-        let (what, times) = repeated.split_once("*").unwrap_or(("", ""));
-        let times = times.parse::<usize>().unwrap_or(0);
-        whole.push_str(plain)?;
-        whole.push_str(what.repeat(alloc, times)?.as_str())?;
+        put_piece(alloc, &mut whole, piece)?;
     }
     Ok(whole)
+}
+
+/// Whether an answer is what a line wants, once that is spelled out.
+pub fn is_wanted(alloc: Global, answer: &str, wanted: &str) -> Result<bool, AllocError> {
+    Ok(answer == spelled_out(alloc, wanted)?.as_str())
 }
 
 /// Plays one line, and tells what was answered in place of what it says, if it was.
@@ -58,7 +68,7 @@ fn play_line(alloc: Global, player: &mut Player, line: &str) -> Result<Option<St
     }
     let (asked, wanted) = line.split_once(" => ").unwrap_or((line, ""));
     let answer = player.answer(spelled_out(alloc, asked)?.as_str())?;
-    if answer.as_str() == spelled_out(alloc, wanted)?.as_str() {
+    if is_wanted(alloc, answer.as_str(), wanted)? {
         return Ok(None);
     }
     Ok(Some(answer))
@@ -91,14 +101,19 @@ pub fn has_failing_call(parts: &[&str]) -> bool {
     parts.iter().any(|part| part.contains("!fail"))
 }
 
+/// A text and parts that follow it, as one script.
+pub fn joined(alloc: Global, first: &str, parts: &[&str]) -> Result<String, AllocError> {
+    let mut script = String::from_str(alloc, first)?;
+    for part in parts {
+        script.push_str(part)?;
+    }
+    Ok(script)
+}
+
 /// Plays parts of a script that follow one another, once behind each of the settings.
 fn play_behind(alloc: Global, settings: &[&str], parts: &[&str]) -> Result<(), ScriptFault> {
     for setting in settings {
-        let mut script = String::from_str(alloc, setting)?;
-        for part in parts {
-            script.push_str(part)?;
-        }
-        play(alloc, script.as_str())?;
+        play(alloc, joined(alloc, setting, parts)?.as_str())?;
     }
     Ok(())
 }

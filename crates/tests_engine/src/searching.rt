@@ -1,7 +1,5 @@
 //! Finds over a segment of kind 1, two of kind 2 and the buffer. Each answer is told from the texts.
 
-ghost use Rattle.std.specs.Prelude.{◌<◌};
-
 use crate::script::play_in_each_setting;
 use std::alloc::{AllocError, Global};
 use std::test::Fail;
@@ -93,19 +91,36 @@ fn add(script: &mut String, n: u32) -> Result<(), AllocError> {
     Ok(())
 }
 
-/// Asks a query.
-fn ask(alloc: Global, script: &mut String, place: usize) -> Result<(), AllocError>
-    requires { place < 12 }
-{
+/// Whether the query at a place finds the document.
+fn is_found(place: usize, n: u32) -> bool {
+    is_there(n) && satisfies(place, n)
+}
+
+/// How many documents the query at a place finds.
+fn count_found(place: usize) -> u32 {
     let mut count = 0u32;
-    let mut numbers = String::new(alloc);
     for n in 1..=LAST {
-        if is_there(n) && satisfies(place, n) {
-            count = count.saturating_add(1);
-            write!(numbers, " {n}")?;
+        count = count.saturating_add(u32::from(is_found(place, n)));
+    }
+    count
+}
+
+/// Asks a query.
+fn ask(script: &mut String, place: usize, query: &str) -> Result<(), AllocError> {
+    write!(script, "find {query} => found {}:", count_found(place))?;
+    for n in 1..=LAST {
+        if is_found(place, n) {
+            write!(script, " {n}")?;
         }
     }
-    writeln!(script, "find {} => found {count}:{numbers}", QUERIES[place])?;
+    script.push_str("\n")
+}
+
+/// Asks all queries.
+fn ask_all(script: &mut String) -> Result<(), AllocError> {
+    for (place, query) in QUERIES.iter().enumerate() {
+        ask(script, place, query)?;
+    }
     Ok(())
 }
 
@@ -119,13 +134,9 @@ pub fn session(alloc: Global) -> Result<String, AllocError> {
         }
     }
     script.push_str("delete 380 => deleted 380\n")?;
-    for place in 0..12 {
-        ask(alloc, &mut script, place)?;
-    }
+    ask_all(&mut script)?;
     script.push_str("merge => merged\n")?;
-    for place in 0..12 {
-        ask(alloc, &mut script, place)?;
-    }
+    ask_all(&mut script)?;
     Ok(script)
 }
 

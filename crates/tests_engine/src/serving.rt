@@ -1,7 +1,9 @@
 //! Whole inputs of the shell, and readers, writers and memory that give out.
 ghost use Rattle.std.specs.Prelude.{◌≤◌};
 
-use crate::calls::{BLOCKS, PAGES, new_store, store_on_pages, store_with_blocks};
+use crate::calls::{
+    BLOCKS, PAGES, is_added, new_store, store_if_memory, store_on_pages, store_with_blocks,
+};
 use pk_disk::{Disk, MemoryDisk};
 use pk_model::DocNo;
 use pk_shell::{Ended, ShellFault, serve};
@@ -122,20 +124,46 @@ where
     Ok(is_answered_by(alloc, input, replies, end, &mut store))
 }
 
+/// Whether a whole input is answered so by a store that keeps so many blocks.
+fn is_answered_by_blocks(
+    alloc: Global,
+    bytes: &[u8],
+    replies: &str,
+    end: Ended,
+    blocks: u32,
+) -> Result<bool, Fail> {
+    let mut store = store_with_blocks(alloc, blocks)?;
+    Ok(is_answered_by(alloc, bytes, replies, Ok(end), &mut store))
+}
+
+/// Whether it is by a store on a page cache of so many pages.
+fn is_answered_by_pages(
+    alloc: Global,
+    bytes: &[u8],
+    replies: &str,
+    end: Ended,
+    pages: usize,
+) -> Result<bool, Fail> {
+    let mut store = store_on_pages(alloc, pages)?;
+    Ok(is_answered_by(alloc, bytes, replies, Ok(end), &mut store))
+}
+
 // The cuts of the reader don't matter.
 #[test]
 fn whole_inputs_are_answered(rt: HostRuntime) -> Result<(), Fail> {
     let alloc = rt.alloc();
     for (bytes, replies, end) in INPUTS {
         for blocks in BLOCKS {
-            let mut store = store_with_blocks(alloc, blocks)?;
-            let is_good = is_answered_by(alloc, bytes, replies, Ok(end), &mut store);
-            assert!(rt; is_good, "{replies}");
+            assert!(rt;
+                is_answered_by_blocks(alloc, bytes, replies, end, blocks)?,
+                "{replies}"
+            );
         }
         for pages in PAGES {
-            let mut store = store_on_pages(alloc, pages)?;
-            let is_good = is_answered_by(alloc, bytes, replies, Ok(end), &mut store);
-            assert!(rt; is_good, "{replies}");
+            assert!(rt;
+                is_answered_by_pages(alloc, bytes, replies, end, pages)?,
+                "{replies}"
+            );
         }
         let pieces = ByteByByte {
             bytes,
@@ -167,17 +195,20 @@ fn a_read_that_fails_ends_the_session(rt: HostRuntime) -> Result<(), Fail> {
     Ok(())
 }
 
+/// Whether a session with output that takes five bytes ends when it is to write the sixth.
+fn is_cut(alloc: Global, fails: bool) -> Result<bool, Fail> {
+    let mut store = new_store(alloc)?;
+    let mut input = b"count\ncount\n".as_slice();
+    let mut output = with_room(alloc, 5, fails);
+    let end = serve(alloc, &mut input, &mut output, &mut store);
+    let taken = output.taken.as_slice();
+    Ok(end == Err(ShellFault::Output) && taken == b"count".as_slice() && output.calls == 2)
+}
+
 #[test]
 fn output_that_takes_five_bytes(rt: HostRuntime) -> Result<(), Fail> {
-    let alloc = rt.alloc();
     for fails in [true, false] {
-        let mut store = new_store(alloc)?;
-        let mut input = b"count\ncount\n".as_slice();
-        let mut output = with_room(alloc, 5, fails);
-        let end = serve(alloc, &mut input, &mut output, &mut store);
-        assert_eq!(rt; end, Err(ShellFault::Output));
-        assert!(rt; output.taken.as_slice() == b"count".as_slice());
-        assert_eq!(rt; output.calls, 2);
+        assert!(rt; is_cut(rt.alloc(), fails)?, "{fails}");
     }
     Ok(())
 }
@@ -189,18 +220,22 @@ fn writes<D: Disk>(alloc: Global, store: &mut Store<D>, mut lines: &[u8]) -> (u6
     (output.calls, output.taken.len())
 }
 
+/// Six lines, with a reply each.
+const SIX: &[u8] = b"add new drug\nfind drug\nshow 1\ncount\nfind (\nquit\n";
+
+/// Counts the writes for these lines to a new store, and for a long text behind them.
+fn count_writes(rt: &impl Abort, alloc: Global, store: &mut Store<MemoryDisk>) -> Result<(), Fail> {
+    let (calls, _) = writes(alloc, store, SIX);
+    assert_eq!(rt; calls, 6);
+    assert!(rt; is_added(alloc, store, 100_000, Ok(DocNo(2)))?);
+    assert!(rt; writes(alloc, store, b"show 2") == (2, 100_006));
+    Ok(())
+}
+
 // A reply of more than 65,536 bytes goes out in pieces of that length.
 #[test]
 fn one_call_of_write_for_each_reply(rt: HostRuntime) -> Result<(), Fail> {
-    let alloc = rt.alloc();
-    let mut store = new_store(alloc)?;
-    let lines = b"add new drug\nfind drug\nshow 1\ncount\nfind (\nquit\n";
-    let (calls, _) = writes(alloc, &mut store, lines);
-    assert_eq!(rt; calls, 6);
-    let text = "-".repeat(alloc, 100_000)?;
-    assert_eq!(rt; store.add(alloc, text.as_str()), Ok(DocNo(2)));
-    assert_eq!(rt; writes(alloc, &mut store, b"show 2"), (2, 100_006));
-    Ok(())
+    count_writes(&rt, rt.alloc(), &mut new_store(rt.alloc())?)
 }
 
 /// Takes up to 256 bytes, without memory of its own.
@@ -228,44 +263,51 @@ impl Write for Page {
 /// Lines for a store that is short of memory.
 const LINES: &[u8] = b"add new drug\nfind new (drug OR hopes)\nshow 1\nquit\n";
 
-/// What they are answered: with memory for all, without that for the addition, for the find and for
-/// the text.
+/// What they are answered with memory for all.
 const WHOLE: &[u8] = b"added 1\nfound 1: 1\ntext new drug\nbye\n";
 
-const NO_ADDITION: &[u8] = b"refused memory\nfound 0:\nrefused no such document\nbye\n";
+/// What they are answered without memory for the addition, for the find and for the text.
+const SHORT: [&[u8]; 3] = [
+    b"refused memory\nfound 0:\nrefused no such document\nbye\n",
+    b"added 1\nrefused memory\ntext new drug\nbye\n",
+    b"added 1\nfound 1: 1\nrefused memory\nbye\n",
+];
 
-const NO_FIND: &[u8] = b"added 1\nrefused memory\ntext new drug\nbye\n";
+/// Whether what was written answers all lines with memory for each of them.
+fn is_whole(rt: &impl Abort, written: &[u8]) -> bool {
+    for short in SHORT {
+        if written == short {
+            return false;
+        }
+    }
+    assert!(rt; written == WHOLE);
+    true
+}
 
-const NO_TEXT: &[u8] = b"added 1\nfound 1: 1\nrefused memory\nbye\n";
-
-/// Answers the lines on a new store, and whether memory was there for all of them. Where it was
-/// not, there is no store, or the shell ends with that before it reads, or one of the replies is
-/// `refused memory`.
-fn is_answered_in_full(rt: &impl Abort, alloc: Global) -> bool {
-    let Ok(zeros) = vec![in alloc; 0u8; 32_768] else {
-        return false;
-    };
-    let Ok(mut store) = Store::create(alloc, MemoryDisk::of_bytes(alloc, zeros), 0) else {
-        return false;
-    };
+/// Answers the lines on a store, and whether memory was there for all of them. Where it was not, the
+/// shell ends with that before it reads, or one of the replies is `refused memory`.
+fn answers_in_full(rt: &impl Abort, alloc: Global, store: &mut Store<MemoryDisk>) -> bool {
     let mut input = LINES;
     let mut page = Page {
         bytes: [0; 256],
         len: 0,
     };
-    let end = serve(alloc, &mut input, &mut page, &mut store);
+    let end = serve(alloc, &mut input, &mut page, store);
     if end == Err(ShellFault::Memory) {
         assert_eq!(rt; page.len, 0);
         assert_eq!(rt; input.len(), LINES.len());
         return false;
     }
     assert_eq!(rt; end, Ok(Ended::Quit));
-    let written = &page.bytes[..page.len];
-    if written == NO_ADDITION || written == NO_FIND || written == NO_TEXT {
-        return false;
+    is_whole(rt, &page.bytes[..page.len])
+}
+
+/// Answers them on a new store. Without memory for all there may be no store either.
+fn is_answered_in_full(rt: &impl Abort, alloc: Global) -> bool {
+    match store_if_memory(alloc, 0) {
+        Some(mut store) => answers_in_full(rt, alloc, &mut store),
+        None => false,
     }
-    assert!(rt; written == WHOLE);
-    true
 }
 
 /// Run with one request for memory refused after another (tools/refuse_memory.py): of two sessions

@@ -233,19 +233,20 @@ pub const SESSIONS: [&str; 17] = [
     ",
 ];
 
-/// The lines with the number in place of each `#`, for each number from 1 on.
-fn for_each(alloc: Global, last: u32, lines: &str) -> Result<String, AllocError> {
-    let mut whole = String::new(alloc);
-    for n in 1..=last {
-        let number = n.to_string(alloc)?;
-        whole.push_str(lines.replace(alloc, "#", number.as_str())?.as_str())?;
-    }
-    Ok(whole)
+/// Puts lines behind a script, with a number in place of each `#`.
+fn put_lines(
+    alloc: Global,
+    script: &mut String,
+    lines: &str,
+    number: u32,
+) -> Result<(), AllocError> {
+    let number = number.to_string(alloc)?;
+    script.push_str(lines.replace(alloc, "#", number.as_str())?.as_str())
 }
 
 #[test]
 fn sessions_go_as_written(rt: HostRuntime) -> Result<(), Fail> {
-    for session in SESSIONS {
+    for session in &SESSIONS {
         play_in_each_setting(rt.alloc(), &[SMALL, session])?;
     }
     Ok(())
@@ -332,7 +333,9 @@ pub const MANY: [(u32, &str, &str); 3] = [
 /// The lines for each number, and those behind them, on a new store.
 pub fn filled(alloc: Global, last: u32, lines: &str, end: &str) -> Result<String, AllocError> {
     let mut whole = String::from_str(alloc, LARGE)?;
-    whole.push_str(for_each(alloc, last, lines)?.as_str())?;
+    for number in 1..=last {
+        put_lines(alloc, &mut whole, lines, number)?;
+    }
     whole.push_str(end)?;
     Ok(whole)
 }
@@ -340,8 +343,8 @@ pub fn filled(alloc: Global, last: u32, lines: &str, end: &str) -> Result<String
 #[test]
 fn stores_are_filled_up(rt: HostRuntime) -> Result<(), Fail> {
     let alloc = rt.alloc();
-    for (last, lines, end) in MANY {
-        let script = filled(alloc, last, lines, end)?;
+    for (last, lines, end) in &MANY {
+        let script = filled(alloc, *last, lines, end)?;
         play_in_each_setting(alloc, &[script.as_str()])?;
     }
     Ok(())
@@ -373,15 +376,17 @@ const WRONG: [(&str, usize, &str); 10] = [
     ("!tidy\n", 1, "no such step"),
 ];
 
+/// Whether a script is told to be answered otherwise in a line, and so.
+fn is_told(alloc: Global, script: &str, wrong: usize, told: &str) -> bool {
+    match play(alloc, script) {
+        Err(ScriptFault::Answer { line, answer }) => line == wrong && answer.as_str() == told,
+        _ => false,
+    }
+}
+
 #[test]
 fn a_wrong_answer_is_told(rt: HostRuntime) {
-    for (script, wrong, told) in WRONG {
-        match play(rt.alloc(), script) {
-            Err(ScriptFault::Answer { line, answer }) => {
-                assert_eq!(rt; line, wrong, "{script}");
-                assert!(rt; answer.as_str() == told, "{script}");
-            }
-            _ => panic!(rt; "no line is told: {script}"),
-        }
+    for (script, line, told) in &WRONG {
+        assert!(rt; is_told(rt.alloc(), script, *line, told), "{script}");
     }
 }

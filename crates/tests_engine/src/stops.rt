@@ -1,6 +1,8 @@
 //! A script that is stopped at each call of the device in turn, and what is left of it: the
 //! collection after a prefix of what was accepted that has all that a commit acknowledged.
 
+ghost use Rattle.std.specs.Prelude.{◌≤◌};
+
 use crate::calls::new_store;
 use crate::player::told;
 use pk_disk::{Disk, FaultDisk, MemoryDisk};
@@ -9,6 +11,7 @@ use pk_pages::PageCache;
 use pk_query::parse;
 use pk_store::{OpenFault, Refused, Store};
 use std::alloc::{AllocError, Global};
+use std::process::Abort;
 use std::test::Fail;
 
 /// What is asked, as one list of commands.
@@ -73,6 +76,15 @@ fn commands(alloc: Global) -> Result<Vec<Command>, Fail> {
     Ok(commands)
 }
 
+/// Whether a document that is there has a word, or lacks `red`.
+fn is_hit(text: Option<&str>, word: &str) -> bool {
+    match text {
+        None => false,
+        Some(text) if word == "NOT red" => !text.contains("red"),
+        Some(text) => text.contains(word),
+    }
+}
+
 /// What there is after lines that were accepted: the texts of the live documents, each at the place
 /// of its number.
 #[derive(Drop)]
@@ -101,29 +113,38 @@ impl Shelf {
         Ok(())
     }
 
-    /// The reply line to a question.
-    fn answer(&self, alloc: Global, question: &str) -> Result<String, AllocError> {
-        let mut numbers = String::new(alloc);
+    /// How many documents have a word, or lack `red`.
+    fn count(&self, word: &str) -> usize {
+        let mut count = 0usize;
+        for text in &self.texts {
+            count = count.saturating_add(usize::from(is_hit(*text, word)));
+        }
+        count
+    }
+
+    /// Puts the numbers of these behind an answer.
+    fn put_numbers(&self, answer: &mut String, word: &str) -> Result<(), AllocError> {
         let mut number = 0u32;
-        let mut count = 0u32;
-        let word = question.strip_prefix("find ").unwrap_or("");
         for text in &self.texts {
             number = number.saturating_add(1);
-            let is_hit = match text {
-                None => false,
-                Some(text) if word == "NOT red" => !text.contains("red"),
-                Some(text) => text.contains(word),
-            };
-            if is_hit {
-                count = count.saturating_add(1);
-                write!(numbers, " {number}")?;
+            if is_hit(*text, word) {
+                write!(answer, " {number}")?;
             }
         }
+        Ok(())
+    }
+
+    /// The reply line to a question.
+    fn answer(&self, alloc: Global, question: &str) -> Result<String, AllocError> {
+        let word = question.strip_prefix("find ").unwrap_or("");
+        let count = self.count(word);
         if question == "count" {
-            let next = number.saturating_add(1);
+            let next = self.texts.len().saturating_add(1);
             return format!(in alloc; "count {count} next {next}");
         }
-        format!(in alloc; "found {count}:{numbers}")
+        let mut answer = format!(in alloc; "found {count}:")?;
+        self.put_numbers(&mut answer, word)?;
+        Ok(answer)
     }
 }
 
@@ -187,6 +208,26 @@ impl Run {
     }
 }
 
+/// The run whose commands had these replies.
+fn run_of(alloc: Global, replies: &[Reply]) -> Result<Run, AllocError> {
+    let mut run = Run::new(alloc);
+    for (line, reply) in LINES.iter().zip(replies.iter()) {
+        run.take(line, reply)?;
+    }
+    Ok(run)
+}
+
+/// Whether a store answers a question as the shelf.
+fn has<D: Disk>(
+    alloc: Global,
+    shelf: &Shelf,
+    store: &mut Store<D>,
+    question: &str,
+) -> Result<bool, AllocError> {
+    let answer = shelf.answer(alloc, question)?;
+    Ok(told(alloc, store, question)?.as_str() == answer.as_str())
+}
+
 /// Whether a store answers all questions as the shelf.
 fn has_all<D: Disk>(
     alloc: Global,
@@ -194,25 +235,24 @@ fn has_all<D: Disk>(
     store: &mut Store<D>,
 ) -> Result<bool, AllocError> {
     for question in QUESTIONS {
-        let answer = shelf.answer(alloc, question)?;
-        if told(alloc, store, question)?.as_str() != answer.as_str() {
+        if !has(alloc, shelf, store, question)? {
             return Ok(false);
         }
     }
     Ok(true)
 }
 
-/// A disk after a crash that leaves this byte at all open positions, or what was written.
-fn crashed(alloc: Global, disk: MemoryDisk, byte: Option<u8>) -> Result<MemoryDisk, AllocError> {
+/// What a crash leaves at the open positions of the disk: this byte, or what was written.
+fn picks_of(alloc: Global, byte: Option<u8>) -> Result<Vec<u8>, AllocError> {
     match byte {
-        Some(byte) => Ok(disk.crash(&vec![in alloc; byte; SIZE]?)),
-        None => Ok(disk.crash(&[])),
+        Some(byte) => vec![in alloc; byte; SIZE],
+        None => Ok(Vec::new(alloc)),
     }
 }
 
 /// Opens the store while calls fail from the first on, from the second on, and so on, each time with
 /// a crash, until none fails. Each time the disk is handed back.
-fn open_in_the_end(alloc: Global, mut disk: MemoryDisk) -> Result<MemoryDisk, Fail> {
+fn open_in_the_end(alloc: Global, mut disk: MemoryDisk, picks: &[u8]) -> Result<MemoryDisk, Fail> {
     for call in 1..MOST_CALLS {
         match Store::open_on(alloc, FaultDisk::new(disk, call), 0) {
             Ok(store) => return Ok(store.close().into_inner()),
@@ -221,31 +261,34 @@ fn open_in_the_end(alloc: Global, mut disk: MemoryDisk) -> Result<MemoryDisk, Fa
                     disk: device,
                     why: OpenFault::Disk,
                 },
-            ) => disk = crashed(alloc, device.into_inner(), Some(0xA7))?,
+            ) => disk = device.into_inner().crash(picks),
             Err(Refused { why, .. }) => return Err(Fail::from(why)),
         }
     }
     Err(Fail::new("opening makes no end of calls"))
 }
 
+/// Runs the script on an open store.
+fn run_script<D: Disk>(alloc: Global, store: &mut Store<D>) -> Result<Run, Fail> {
+    let replies = store.run(alloc, &commands(alloc)?)?;
+    Ok(run_of(alloc, &replies)?)
+}
+
 /// Runs the script on a device; none where it wasn't opened.
 fn run_on<D: Disk + Drop>(alloc: Global, device: D) -> Result<Option<(Run, D)>, Fail> {
-    let mut store = match Store::open_on(alloc, device, 0) {
-        Ok(store) => store,
+    match Store::open_on(alloc, device, 0) {
+        Ok(mut store) => {
+            let run = run_script(alloc, &mut store)?;
+            Ok(Some((run, store.close())))
+        }
         Err(
             Refused {
                 why: OpenFault::Disk,
                 ..
             },
-        ) => return Ok(None),
-        Err(Refused { why, .. }) => return Err(Fail::from(why)),
-    };
-    let replies = store.run(alloc, &commands(alloc)?)?;
-    let mut run = Run::new(alloc);
-    for (line, reply) in LINES.iter().zip(replies.iter()) {
-        run.take(line, reply)?;
+        ) => Ok(None),
+        Err(Refused { why, .. }) => Err(Fail::from(why)),
     }
-    Ok(Some((run, store.close())))
 }
 
 /// Whether what is left of a run is a prefix as it should be.
@@ -256,74 +299,104 @@ fn is_left(alloc: Global, run: &Run, disk: MemoryDisk) -> Result<bool, Fail> {
     }
 }
 
+/// Runs the script on a device whose calls fail from one on, with a crash behind that. Whether no
+/// command met a fault.
+fn is_whole_to(rt: &impl Abort, alloc: Global, call: u64, picks: &[u8]) -> Result<bool, Fail>
+    requires { 1 ≤ call }
+{
+    let device = FaultDisk::new(new_store(alloc)?.close(), call);
+    let Some((run, device)) = run_on(alloc, device)? else {
+        return Ok(false);
+    };
+    let mut disk = device.into_inner().crash(picks);
+    if picks.first() == Some(&0xA7) {
+        disk = open_in_the_end(alloc, disk, picks)?;
+    }
+    assert!(rt; is_left(alloc, &run, disk)?, "{call}");
+    Ok(run.faults == 0)
+}
+
+/// Does so with each call in turn, up to a run that meets none; whether there is one.
+fn is_stopped_at_each(rt: &impl Abort, alloc: Global, picks: &[u8]) -> Result<bool, Fail> {
+    for call in 1..MOST_CALLS {
+        if is_whole_to(rt, alloc, call, picks)? {
+            return Ok(true);
+        }
+    }
+    Ok(false)
+}
+
 // All calls of the device fail from one on, which is each in turn. Then there is a crash; behind one
 // of the crashes there are others while the store is opened.
 #[test]
 fn a_run_is_stopped_at_each_call(rt: HostRuntime) -> Result<(), Fail> {
     let alloc = rt.alloc();
     for byte in [Some(0xA7), Some(0x00), Some(0xFF), None] {
-        let mut whole = false;
-        for call in 1..MOST_CALLS {
-            let device = FaultDisk::new(new_store(alloc)?.close(), call);
-            let Some((run, device)) = run_on(alloc, device)? else {
-                continue;
-            };
-            let mut disk = crashed(alloc, device.into_inner(), byte)?;
-            if byte == Some(0xA7) {
-                disk = open_in_the_end(alloc, disk)?;
-            }
-            assert!(rt; is_left(alloc, &run, disk)?, "{call}");
-            whole = run.faults == 0;
-            if whole {
-                break;
-            }
-        }
-        assert!(rt; whole);
+        let picks = picks_of(alloc, byte)?;
+        assert!(rt; is_stopped_at_each(&rt, alloc, &picks)?);
     }
     Ok(())
+}
+
+/// Takes in a run in which one call failed, and what is left of it. Whether no command met the
+/// fault.
+fn is_whole(
+    rt: &impl Abort,
+    alloc: Global,
+    call: u64,
+    run: &Run,
+    disk: MemoryDisk,
+) -> Result<bool, Fail> {
+    assert!(rt; run.is_told_once(), "{call}");
+    assert!(rt; is_left(alloc, run, disk)?, "{call}");
+    Ok(run.faults == 0)
+}
+
+/// A device with a new store, of which one call fails.
+fn device(alloc: Global, call: u64) -> Result<FaultDisk<MemoryDisk>, Fail>
+    requires { 1 ≤ call }
+{
+    Ok(FaultDisk::once(new_store(alloc)?.close(), call))
+}
+
+/// Runs the script on such a device.
+fn is_whole_past(rt: &impl Abort, alloc: Global, call: u64) -> Result<bool, Fail>
+    requires { 1 ≤ call }
+{
+    match run_on(alloc, device(alloc, call)?)? {
+        Some((run, device)) => is_whole(rt, alloc, call, &run, device.into_inner()),
+        None => Ok(false),
+    }
 }
 
 // One call of the device fails, each in turn. The store is opened again on the same disk.
 #[test]
 fn a_run_goes_past_each_call(rt: HostRuntime) -> Result<(), Fail> {
-    let alloc = rt.alloc();
-    let mut whole = false;
     for call in 1..MOST_CALLS {
-        let device = FaultDisk::once(new_store(alloc)?.close(), call);
-        let Some((run, device)) = run_on(alloc, device)? else {
-            continue;
-        };
-        assert!(rt; run.is_told_once(), "{call}");
-        assert!(rt; is_left(alloc, &run, device.into_inner())?, "{call}");
-        whole = run.faults == 0;
-        if whole {
-            break;
+        if is_whole_past(&rt, rt.alloc(), call)? {
+            return Ok(());
         }
     }
-    assert!(rt; whole);
-    Ok(())
+    Err(Fail::new("a run makes no end of calls"))
+}
+
+/// Runs the script on a page cache over such a device.
+fn is_whole_past_on_pages(rt: &impl Abort, alloc: Global, call: u64) -> Result<bool, Fail>
+    requires { 1 ≤ call }
+{
+    match run_on(alloc, PageCache::new(alloc, device(alloc, call)?, 2))? {
+        Some((run, cache)) => is_whole(rt, alloc, call, &run, cache.into_inner().into_inner()),
+        None => Ok(false),
+    }
 }
 
 // The same on a page cache over the device.
 #[test]
 fn a_run_on_a_page_cache_goes_past_each_call(rt: HostRuntime) -> Result<(), Fail> {
-    let alloc = rt.alloc();
-    let mut whole = false;
     for call in 1..MOST_CALLS {
-        let device = FaultDisk::once(new_store(alloc)?.close(), call);
-        let Some((run, cache)) = run_on(alloc, PageCache::new(alloc, device, 2))? else {
-            continue;
-        };
-        assert!(rt; run.is_told_once(), "{call}");
-        assert!(rt;
-            is_left(alloc, &run, cache.into_inner().into_inner())?,
-            "{call}"
-        );
-        whole = run.faults == 0;
-        if whole {
-            break;
+        if is_whole_past_on_pages(&rt, rt.alloc(), call)? {
+            return Ok(());
         }
     }
-    assert!(rt; whole);
-    Ok(())
+    Err(Fail::new("a run makes no end of calls"))
 }

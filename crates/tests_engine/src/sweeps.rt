@@ -51,15 +51,18 @@ fn play_call(alloc: Global, pages: &str, sweep: &Sweep, k: u64) -> Result<(), Fa
     Ok(())
 }
 
-/// Plays a sweep on page caches, as a line `!pages` says.
-pub fn play_sweep_on_pages(alloc: Global, pages: &str, sweep: &Sweep) -> Result<(), Fail> {
+/// Plays a sweep, on page caches where a line `!pages` says so.
+pub fn play_sweep(alloc: Global, pages: &str, sweep: &Sweep) -> Result<(), Fail> {
     for k in sweep.first..=sweep.last {
         play_call(alloc, pages, sweep, k)?;
     }
     Ok(())
 }
 
-/// Plays a sweep.
-pub fn play_sweep(alloc: Global, sweep: &Sweep) -> Result<(), Fail> {
-    play_sweep_on_pages(alloc, "", sweep)
+/// Plays sweeps one after the other.
+pub fn play_sweeps(alloc: Global, pages: &str, sweeps: &[Sweep]) -> Result<(), Fail> {
+    for sweep in sweeps {
+        play_sweep(alloc, pages, sweep)?;
+    }
+    Ok(())
 }
