@@ -9,12 +9,16 @@ use std::cell::{Cell, RefCell};
 use std::fs::{Metadata, OpenFile, OpenOptions};
 use std::io::{ErrorKind, Read, Seek, SeekFrom, Write};
 use std::os::unix::fs::FileExt;
+use std::process::Abort;
 use std::rt::Files;
 use std::test::Fail;
 use std::{fs, io};
 
 // The bytes of a disk of 64 units.
 const LEN: u64 = 32_768;
+
+// The calls that make it at `s`.
+const MADE: &str = "make s, lock file, set_len file, sync_all file, look ., sync_all folder";
 
 // A system of one file and of folders. It notes each call, and fails one of them.
 #[derive(Drop)]
@@ -67,12 +71,11 @@ impl FakeSystem {
         let Ok(mut calls) = self.calls.try_borrow_mut() else {
             return Err(AllocError);
         };
-        if !calls.is_empty() {
-            calls.push_str(", ")?;
+        let gap = if calls.is_empty() { "" } else { ", " };
+        for part in [gap, call, " ", on] {
+            calls.push_str(part)?;
         }
-        calls.push_str(call)?;
-        calls.push_str(" ")?;
-        calls.push_str(on)
+        Ok(())
     }
 
     // How many of n bytes a transfer moves.
@@ -132,6 +135,15 @@ impl<'a> LockFile for FakeFile<'a> {
     }
 }
 
+// Copies n bytes, or as many as both sides have, and tells how many.
+fn copy_some(from: &[u8], to: &mut [u8], n: usize) -> usize
+    ensures { result ≤ n }
+{
+    let n = n.min(from.len()).min(to.len());
+    to[..n].copy_from_slice(&from[..n]);
+    n
+}
+
 impl<'a> FileExt for FakeFile<'a> {
     fn read_at(&self, buf: &mut [u8], offset: u64) -> io::Result<usize> {
         let n = self.system.moved("read_at", self.name, buf.len())?;
@@ -139,10 +151,7 @@ impl<'a> FileExt for FakeFile<'a> {
             return Err(io::Error::from(ErrorKind::Other));
         };
         let start = bytes.len().min(offset as usize);
-        let from = &bytes[start..];
-        let n = n.min(from.len());
-        buf[..n].copy_from_slice(&from[..n]);
-        Ok(n)
+        Ok(copy_some(&bytes[start..], buf, n))
     }
 
     fn write_at(&self, buf: &[u8], offset: u64) -> io::Result<usize> {
@@ -151,10 +160,7 @@ impl<'a> FileExt for FakeFile<'a> {
             return Err(io::Error::from(ErrorKind::Other));
         };
         let start = bytes.len().min(offset as usize);
-        let to = &mut bytes[start..];
-        let n = n.min(to.len());
-        to[..n].copy_from_slice(&buf[..n]);
-        Ok(n)
+        Ok(copy_some(buf, &mut bytes[start..], n))
     }
 }
 
@@ -252,32 +258,35 @@ fn has_noted(system: &FakeSystem, want: &str) -> bool {
     }
 }
 
+// Makes a disk at a path, by these calls.
+fn make_at(rt: &impl Abort, alloc: Global, path: &str, noted: &str) -> Result<(), Fail> {
+    let system = FakeSystem::new(alloc, 0, ErrorKind::Other);
+    let disk = FileDisk::make(&system.files(), path, 64)?;
+    assert!(rt; has_noted(&system, noted));
+    assert!(rt; disk.len() == LEN);
+    Ok(())
+}
+
 // A disk is made of zeros; the file and the folder of its path are synced, in this order.
 #[test]
 fn a_disk_is_made_and_synced(rt: HostRuntime) -> Result<(), Fail> {
-    let rows = [
-        (
-            "s",
-            "make s, lock file, set_len file, sync_all file, look ., sync_all folder",
-        ),
-        (
-            "a/b/s",
-            "make a/b/s, lock file, set_len file, sync_all file, look a/b, sync_all folder",
-        ),
-    ];
-    for (path, want) in rows {
-        let system = FakeSystem::new(rt.alloc(), 0, ErrorKind::Other);
-        let disk = FileDisk::make(&system.files(), path, 64)?;
-        assert!(rt; has_noted(&system, want));
-        assert_eq!(rt; disk.len(), LEN);
-    }
-    Ok(())
+    let alloc = rt.alloc();
+    make_at(&rt, alloc, "s", MADE)?;
+    let made = "make a/b/s, lock file, set_len file, sync_all file, look a/b, sync_all folder";
+    make_at(&rt, alloc, "a/b/s", made)
+}
+
+// What a making answers whose kth call fails, and how many calls it makes.
+fn failed_making(alloc: Global, k: u64, kind: ErrorKind) -> (Option<FileFault>, u64) {
+    let system = FakeSystem::new(alloc, k, kind);
+    let made = FileDisk::make(&system.files(), "s", 64);
+    (made.err(), system.count.get())
 }
 
 // Whichever call of a making fails, the fault comes back, and no other call follows.
 #[test]
-fn each_failing_call_of_a_making_is_told(rt: HostRuntime) -> Result<(), Fail> {
-    let rows = [
+fn each_failing_call_of_a_making_is_told(rt: HostRuntime) {
+    for (k, kind, want) in [
         (1, ErrorKind::AlreadyExists, FileFault::Exists),
         (1, ErrorKind::PermissionDenied, FileFault::Disk),
         (2, ErrorKind::WouldBlock, FileFault::Disk),
@@ -285,48 +294,38 @@ fn each_failing_call_of_a_making_is_told(rt: HostRuntime) -> Result<(), Fail> {
         (4, ErrorKind::Other, FileFault::Disk),
         (5, ErrorKind::NotFound, FileFault::Disk),
         (6, ErrorKind::Other, FileFault::Disk),
-    ];
-    for (k, kind, want) in rows {
-        let system = FakeSystem::new(rt.alloc(), k, kind);
-        let made = FileDisk::make(&system.files(), "s", 64);
-        assert_eq!(rt; made.err(), Some(want));
-        assert_eq!(rt; system.count.get(), k);
+    ] {
+        assert_eq!(rt; failed_making(rt.alloc(), k, kind), (Some(want), k));
     }
-    Ok(())
+}
+
+// What an opening answers whose kth call fails, and whether it makes these calls.
+fn failed_opening(
+    alloc: Global,
+    k: u64,
+    kind: ErrorKind,
+    noted: &str,
+) -> (Option<FileFault>, bool) {
+    let system = FakeSystem::new(alloc, k, kind);
+    let opened = FileDisk::on(&system.files(), "s");
+    (opened.err(), has_noted(&system, noted))
 }
 
 // Opening looks for the file and its length, which here is 0.
 #[test]
-fn each_failing_call_of_an_opening_is_told(rt: HostRuntime) -> Result<(), Fail> {
-    let rows = [
+fn each_failing_call_of_an_opening_is_told(rt: HostRuntime) {
+    let locked = "open s, lock file";
+    let measured = "open s, lock file, metadata file";
+    for (k, kind, want, noted) in [
         (1, ErrorKind::NotFound, FileFault::Missing, "open s"),
         (1, ErrorKind::PermissionDenied, FileFault::Disk, "open s"),
-        (
-            2,
-            ErrorKind::WouldBlock,
-            FileFault::Disk,
-            "open s, lock file",
-        ),
-        (
-            3,
-            ErrorKind::Other,
-            FileFault::Disk,
-            "open s, lock file, metadata file",
-        ),
-        (
-            4,
-            ErrorKind::Other,
-            FileFault::BadLength,
-            "open s, lock file, metadata file",
-        ),
-    ];
-    for (k, kind, want, noted) in rows {
-        let system = FakeSystem::new(rt.alloc(), k, kind);
-        let opened = FileDisk::on(&system.files(), "s");
-        assert_eq!(rt; opened.err(), Some(want));
-        assert!(rt; has_noted(&system, noted));
+        (2, ErrorKind::WouldBlock, FileFault::Disk, locked),
+        (3, ErrorKind::Other, FileFault::Disk, measured),
+        (4, ErrorKind::Other, FileFault::BadLength, measured),
+    ] {
+        let told = failed_opening(rt.alloc(), k, kind, noted);
+        assert!(rt; told == (Some(want), true), "call {k}");
     }
-    Ok(())
 }
 
 // One of the calls of a disk.
@@ -345,25 +344,52 @@ fn make_call<D: Disk>(disk: &mut D, call: Call) -> Result<(), DiskFault> {
     }
 }
 
+// Whether a call that fails, the first after the making, is that one of the file.
+fn has_noted_next(system: &FakeSystem, noted: &str) -> bool {
+    match system.calls.try_borrow() {
+        Ok(calls) => calls.strip_prefix(MADE) == Some(noted),
+        Err(_) => false,
+    }
+}
+
+// The call fails, is noted, and is made again.
+fn reach_the_file(rt: &impl Abort, alloc: Global, asked: Call, noted: &str) -> Result<(), Fail> {
+    let system = FakeSystem::new(alloc, 7, ErrorKind::Other);
+    let mut disk = FileDisk::make(&system.files(), "s", 64)?;
+    assert!(rt; make_call(&mut disk, asked).is_err());
+    assert!(rt; has_noted_next(&system, noted), "{noted}");
+    assert!(rt; make_call(&mut disk, asked).is_ok());
+    assert!(rt; system.count.get() == 8);
+    Ok(())
+}
+
 // Each call of a disk is one of the file: a sync one of its data. Where that fails the fault comes
 // back, and the same call may be made again.
 #[test]
 fn each_call_reaches_the_file(rt: HostRuntime) -> Result<(), Fail> {
-    let made = "make s, lock file, set_len file, sync_all file, look ., sync_all folder";
-    for (asked, noted) in [
-        (Call::Read, "read_at"),
-        (Call::Write, "write_at"),
-        (Call::Sync, "sync_data"),
-    ] {
-        let system = FakeSystem::new(rt.alloc(), 7, ErrorKind::Other);
-        let mut disk = FileDisk::make(&system.files(), "s", 64)?;
-        assert_eq!(rt; make_call(&mut disk, asked), Err(DiskFault));
-        let want = format!(in rt.alloc(); "{made}, {noted} file")?;
-        assert!(rt; has_noted(&system, want.as_str()));
-        assert_eq!(rt; make_call(&mut disk, asked), Ok(()));
-        assert_eq!(rt; system.count.get(), 8);
-    }
-    Ok(())
+    let alloc = rt.alloc();
+    reach_the_file(&rt, alloc, Call::Read, ", read_at file")?;
+    reach_the_file(&rt, alloc, Call::Write, ", write_at file")?;
+    reach_the_file(&rt, alloc, Call::Sync, ", sync_data file")
+}
+
+// Over the end of a disk of zeros: ten bytes are written, and are read with the one before them.
+fn finish<D: Disk>(rt: &impl Abort, disk: &mut D) {
+    assert!(rt; disk.len() == LEN);
+    let mut out = [77u8; 11];
+    let answers = [
+        disk.write(32_758, &[1, 2, 3, 4, 5, 6, 7, 8, 9, 10]),
+        disk.read(32_757, &mut out),
+    ];
+    assert_eq!(rt; answers, [Ok(()), Ok(())]);
+    assert!(rt; out == [0, 1, 2, 3, 4, 5, 6, 7, 8, 9, 10]);
+}
+
+// The same calls of a disk whose file has no bytes any more.
+fn finish_none<D: Disk>(rt: &impl Abort, disk: &mut D) {
+    assert!(rt; disk.len() == LEN);
+    let answers = [disk.read(32_757, &mut [77; 11]), disk.write(32_758, &[1])];
+    assert_eq!(rt; answers, [Err(DiskFault), Err(DiskFault)]);
 }
 
 // Transfers that move 3 bytes at once and are interrupted are finished; one that moves none is a
@@ -373,48 +399,57 @@ fn short_transfers_are_finished(rt: HostRuntime) -> Result<(), Fail> {
     let mut system = FakeSystem::new(rt.alloc(), 0, ErrorKind::Other);
     system.slow = true;
     let mut disk = FileDisk::make(&system.files(), "s", 64)?;
-    assert_eq!(rt; disk.len(), LEN);
-    assert!(rt; disk.len() == 32_768);
-    assert_eq!(rt;
-        disk.write(32_758, &[1, 2, 3, 4, 5, 6, 7, 8, 9, 10]),
-        Ok(())
-    );
-    let mut out = [77u8; 11];
-    assert_eq!(rt; disk.read(32_757, &mut out), Ok(()));
-    assert_eq!(rt; out, [0, 1, 2, 3, 4, 5, 6, 7, 8, 9, 10]);
+    finish(&rt, &mut disk);
     system.bytes.try_replace(Vec::new(rt.alloc())).is_ok();
-    assert_eq!(rt; disk.read(32_757, &mut out), Err(DiskFault));
-    assert_eq!(rt; disk.write(32_758, &[1]), Err(DiskFault));
+    finish_none(&rt, &mut disk);
     Ok(())
 }
 
-// A file is made, is there, is written and read, and is what it was when it is opened again, which
-// it is not while the first disk has it.
+// A disk that was made is zeros, and gives what is written.
+fn write_some<D: Disk>(rt: &impl Abort, disk: &mut D) {
+    assert!(rt; disk.len() == LEN);
+    let mut before = [7u8; 4];
+    let mut after = [7u8; 4];
+    let answers = [
+        disk.read(32_764, &mut before),
+        disk.write(32_765, &[1, 2, 3]),
+        disk.write(0, &[9]),
+        disk.sync(),
+        disk.read(32_764, &mut after),
+    ];
+    assert_eq!(rt; answers, [Ok(()), Ok(()), Ok(()), Ok(()), Ok(())]);
+    assert!(rt; before == [0, 0, 0, 0]);
+    assert!(rt; after == [0, 1, 2, 3]);
+}
+
+// It has its length and its first bytes still.
+fn read_first<D: Disk>(rt: &impl Abort, disk: &mut D) {
+    assert!(rt; disk.len() == LEN);
+    let mut first = [7u8; 2];
+    assert!(rt; disk.read(0, &mut first) == Ok(()));
+    assert!(rt; first == [9, 0]);
+}
+
+// A file is made, is there, and is written and read. It is not opened while the first disk has it.
+fn make_and_write<F: FileExt + OpenFile + LockFile + Drop>(
+    rt: &(impl Abort + Files<File = F>),
+    path: &str,
+) -> Result<(), Fail> {
+    let mut disk = FileDisk::make(rt, path, 64)?;
+    assert!(rt; FileDisk::make(rt, path, 64).err() == Some(FileFault::Exists));
+    write_some(rt, &mut disk);
+    assert!(rt; FileDisk::on(rt, path).err() == Some(FileFault::Disk));
+    Ok(())
+}
+
+// A file that was made is what it was when it is opened again.
 #[test]
 fn a_file_keeps_what_was_written(rt: HostRuntime) -> Result<(), Fail> {
     let path = "tests_disk_kept";
     let _ = fs::remove_file(&rt, path);
-    let mut disk = FileDisk::make(&rt, path, 64)?;
-    assert_eq!(rt;
-        FileDisk::make(&rt, path, 64).err(),
-        Some(FileFault::Exists)
-    );
-    assert_eq!(rt; disk.len(), 64 * 512);
-    let mut out = [7u8; 4];
-    assert_eq!(rt; disk.read(32_764, &mut out), Ok(()));
-    assert_eq!(rt; out, [0, 0, 0, 0]);
-    assert_eq!(rt; disk.write(32_765, &[1, 2, 3]), Ok(()));
-    assert_eq!(rt; disk.write(0, &[9]), Ok(()));
-    assert_eq!(rt; disk.sync(), Ok(()));
-    assert_eq!(rt; disk.read(32_764, &mut out), Ok(()));
-    assert_eq!(rt; out, [0, 1, 2, 3]);
-    assert_eq!(rt; FileDisk::on(&rt, path).err(), Some(FileFault::Disk));
-    drop(disk);
+    make_and_write(&rt, path)?;
     let mut again = FileDisk::on(&rt, path)?;
-    assert_eq!(rt; again.len(), 64 * 512);
-    let mut first = [7u8; 2];
-    assert_eq!(rt; again.read(0, &mut first), Ok(()));
-    assert_eq!(rt; first, [9, 0]);
+    read_first(&rt, &mut again);
     assert!(rt; fs::read(&rt, path)?.len() == 64 * 512);
     fs::remove_file(&rt, path)?;
     Ok(())
@@ -422,18 +457,28 @@ fn a_file_keeps_what_was_written(rt: HostRuntime) -> Result<(), Fail> {
 
 // Nothing at the path, and nothing is made there; no folder for it.
 #[test]
-fn a_missing_file_is_told(rt: HostRuntime) -> Result<(), Fail> {
+fn a_missing_file_is_told(rt: HostRuntime) {
     let path = "tests_disk_missing";
     let _ = fs::remove_file(&rt, path);
     for _ in 0..2u8 {
-        assert_eq!(rt; FileDisk::on(&rt, path).err(), Some(FileFault::Missing));
+        assert!(rt; FileDisk::on(&rt, path).err() == Some(FileFault::Missing));
     }
-    let no_folder = "tests_disk_no_folder/a";
-    assert_eq!(rt;
-        FileDisk::make(&rt, no_folder, 64).err(),
-        Some(FileFault::Disk)
-    );
-    Ok(())
+    let made = FileDisk::make(&rt, "tests_disk_no_folder/a", 64);
+    assert!(rt; made.err() == Some(FileFault::Disk));
+}
+
+// How long a disk is in a file of so many zeros.
+fn length_in_file<F: FileExt + OpenFile + LockFile + Drop>(
+    files: &impl Files<File = F>,
+    alloc: Global,
+    path: &str,
+    n: usize,
+) -> Result<Result<u64, FileFault>, Fail> {
+    fs::write(files, path, vec![in alloc; 0u8; n]?.as_slice())?;
+    match FileDisk::on(files, path) {
+        Ok(disk) => Ok(Ok(disk.len())),
+        Err(fault) => Ok(Err(fault)),
+    }
 }
 
 // A file of 100 bytes, of 63 units and of 64 units and a byte is no disk; one of 64 units is.
@@ -441,11 +486,10 @@ fn a_missing_file_is_told(rt: HostRuntime) -> Result<(), Fail> {
 fn a_bad_length_is_told(rt: HostRuntime) -> Result<(), Fail> {
     let path = "tests_disk_length";
     for n in [0usize, 100, 63 * 512, 64 * 512 + 1] {
-        fs::write(&rt, path, vec![in rt.alloc(); 0u8; n]?.as_slice())?;
-        assert_eq!(rt; FileDisk::on(&rt, path).err(), Some(FileFault::BadLength));
+        let told = length_in_file(&rt, rt.alloc(), path, n)?;
+        assert!(rt; told == Err(FileFault::BadLength), "{n} bytes");
     }
-    fs::write(&rt, path, vec![in rt.alloc(); 0u8; 64 * 512]?.as_slice())?;
-    assert_eq!(rt; FileDisk::on(&rt, path)?.len(), 64 * 512);
+    assert!(rt; length_in_file(&rt, rt.alloc(), path, 64 * 512)? == Ok(LEN));
     fs::remove_file(&rt, path)?;
     Ok(())
 }

@@ -1,16 +1,17 @@
 //! Segments of kind 2: worked rows, texts that changed, and damage.
 
-ghost use Rattle.std.specs.Prelude.{◌≡◌, ◌<◌, ◌≤◌, length, All, IfOk};
+ghost use Rattle.std.specs.Prelude.{◌≡◌, ◌<◌, ◌≤◌, ◌^◌, length, All, IfOk};
 ghost use Rattle.std.specs.List.Sorted.{IsStrictlyIncreasing};
 ghost use Rattle.pk_model.specs.Collection.{numbers_of};
 ghost use Rattle.pk_segment.specs.Spelling.{docs_of};
 
-use crate::segment::{document, documents, sound};
+use crate::segment::{document, documents, has_numbers, has_text, sound, sound_texts};
 use pk_dict::Entry;
 use pk_model::Document;
 use pk_posting::{ByteSource, ListPlace, SliceSource, decode};
 use pk_segment::{ReadFault, Segment, build, size_of};
 use std::alloc::{AllocError, Global};
+use std::process::Abort;
 use std::test::Fail;
 
 // The segment of kind 2 of documents 1 `a b` and 2 `a`.
@@ -46,48 +47,46 @@ const B: Entry = Entry {
 #[test]
 fn a_segment_is_built(rt: HostRuntime) -> Result<(), Fail> {
     let docs = documents(rt.alloc())?;
-    assert_eq!(rt; size_of(rt.alloc(), &docs, 2)?, 78);
-    assert_eq!(rt; build(rt.alloc(), &docs, 2)?.as_slice(), ROW.as_slice());
+    assert!(rt; size_of(rt.alloc(), &docs, 2)? == 78);
+    assert!(rt; build(rt.alloc(), &docs, 2)?.as_slice() == ROW.as_slice());
     Ok(())
 }
 
-// The row is read, by its documents and by its words, also where other bytes stand in place of the
-// texts.
-#[test]
-fn a_segment_is_read(rt: HostRuntime) -> Result<(), Fail> {
-    for text in [*b"a ba", [0; 4], [0xFF; 4], *b"zzzz"] {
-        let mut bytes = ROW;
-        bytes[TEXTS..POSTINGS].copy_from_slice(&text);
-        let mut source = SliceSource::new(&bytes);
-        let segment = Segment::open(&mut source, 78, 2)?;
-        let numbers = segment.numbers(rt.alloc(), &mut source)?;
-        assert_eq!(rt; numbers.as_slice(), [1u32, 2].as_slice());
-        assert_eq!(rt; segment.postings(), 52);
-        for (word, entry, list) in [
-            ("a", Some(A), [1u32, 2].as_slice()),
-            ("b", Some(B), [1].as_slice()),
-            ("c", None, [].as_slice()),
-            ("", None, [].as_slice()),
-        ] {
-            let found = segment.list_of(rt.alloc(), &mut source, word.as_bytes())?;
-            assert_eq!(rt; found, entry);
-            let with = numbers_with(rt.alloc(), &segment, &mut source, &bytes, word)?;
-            assert_eq!(rt; with.as_slice(), list);
-        }
-        let terms = segment.terms(rt.alloc(), &mut source)?;
-        assert_eq!(rt; terms.len(), 2);
-        for ((term, entry), want) in terms.iter().zip([("a", A), ("b", B)]) {
-            assert_eq!(rt; term.as_slice(), want.0.as_bytes());
-            assert_eq!(rt; *entry, want.1);
-        }
-    }
-    let mut source = SliceSource::new(&ROW);
-    let segment = Segment::open(&mut source, 78, 2)?;
-    for (number, want) in [(1, Some("a b")), (2, Some("a")), (3, None)] {
-        let text = segment.text_of(rt.alloc(), &mut source, number)?;
-        assert_eq!(rt; text.as_deref(), want);
-    }
-    Ok(())
+// A word that is looked up, its entry, and its list.
+#[derive(Clone, Copy)]
+struct Listed {
+    word: &'static str,
+    entry: Option<Entry>,
+    list: &'static [u32],
+}
+
+const LISTED: [Listed; 4] = [
+    Listed {
+        word: "a",
+        entry: Some(A),
+        list: &[1, 2],
+    },
+    Listed {
+        word: "b",
+        entry: Some(B),
+        list: &[1],
+    },
+    Listed {
+        word: "c",
+        entry: None,
+        list: &[],
+    },
+    Listed {
+        word: "",
+        entry: None,
+        list: &[],
+    },
+];
+
+// The bytes of a list, if they are there.
+fn bytes_of<'a>(segment: &Segment, bytes: &'a [u8], place: ListPlace) -> Option<&'a [u8]> {
+    let start = segment.postings() as usize + place.at as usize;
+    bytes.get(start..start + place.bytes as usize)
 }
 
 // The numbers of the list that a word's entry leads to; none where there is no entry, or no such
@@ -102,67 +101,170 @@ fn numbers_with(
     let Some(entry) = segment.list_of(alloc, source, word.as_bytes())? else {
         return Ok(Vec::new(alloc));
     };
-    let start = segment.postings() as usize + entry.place.at as usize;
-    let Some(list) = bytes.get(start..start + entry.place.bytes as usize) else {
-        return Ok(Vec::new(alloc));
-    };
-    Ok(decode(alloc, list)?)
+    match bytes_of(segment, bytes, entry.place) {
+        Some(list) => Ok(decode(alloc, list)?),
+        None => Ok(Vec::new(alloc)),
+    }
+}
+
+// Whether the word has its entry, which leads to its list.
+fn is_listed(
+    alloc: Global,
+    segment: &Segment,
+    source: &mut SliceSource<'_>,
+    bytes: &[u8],
+    listed: Listed,
+) -> Result<bool, Fail> {
+    let found = segment.list_of(alloc, source, listed.word.as_bytes())?;
+    let numbers = numbers_with(alloc, segment, source, bytes, listed.word)?;
+    Ok(found == listed.entry && numbers.as_slice() == listed.list)
+}
+
+// Whether a term is this word with this entry.
+fn is_term(term: &(Vec<u8>, Entry), word: &str, entry: Entry) -> bool {
+    term.0.as_slice() == word.as_bytes() && term.1 == entry
+}
+
+// The terms are the two words of the row.
+fn has_terms(
+    rt: &impl Abort,
+    alloc: Global,
+    segment: &Segment,
+    source: &mut SliceSource<'_>,
+) -> Result<(), Fail> {
+    let terms = segment.terms(alloc, source)?;
+    assert!(rt; terms.len() == 2);
+    assert!(rt; is_term(&terms[0], "a", A));
+    assert!(rt; is_term(&terms[1], "b", B));
+    Ok(())
+}
+
+// The row is read, by its documents and by its words, where these bytes stand in place of the
+// texts.
+fn read_with(rt: &impl Abort, alloc: Global, texts: [u8; 4]) -> Result<(), Fail> {
+    let mut bytes = ROW;
+    bytes[TEXTS..POSTINGS].copy_from_slice(&texts);
+    let mut source = SliceSource::new(&bytes);
+    let segment = Segment::open(&mut source, 78, 2)?;
+    has_numbers(rt, alloc, &segment, &mut source)?;
+    assert!(rt; segment.postings() == 52);
+    for listed in LISTED {
+        let is = is_listed(alloc, &segment, &mut source, &bytes, listed)?;
+        assert!(rt; is, "{}", listed.word);
+    }
+    has_terms(rt, alloc, &segment, &mut source)
+}
+
+// What is read of the index rests on no text.
+#[test]
+fn a_segment_is_read(rt: HostRuntime) -> Result<(), Fail> {
+    for texts in [*b"a ba", [0; 4], [0xFF; 4], *b"zzzz"] {
+        read_with(&rt, rt.alloc(), texts)?;
+    }
+    Ok(())
+}
+
+#[test]
+fn its_texts_are_read(rt: HostRuntime) -> Result<(), Fail> {
+    let mut source = SliceSource::new(&ROW);
+    let segment = Segment::open(&mut source, 78, 2)?;
+    for (number, want) in [(1, Some("a b")), (2, Some("a")), (3, None)] {
+        has_text(&rt, rt.alloc(), &segment, &mut source, number, want)?;
+    }
+    Ok(())
+}
+
+// How many of three words' look-ups are answered.
+fn sound_words<S: ByteSource>(
+    alloc: Global,
+    segment: &Segment,
+    source: &mut S,
+) -> Result<u32, ReadFault> {
+    let mut answered = 0u32;
+    for word in ["a", "b", "c"] {
+        answered = answered.saturating_add(sound(segment.list_of(alloc, source, word.as_bytes()))?);
+    }
+    Ok(answered)
 }
 
 // Calls every reader, and tells how many of them answered.
 fn survey<S: ByteSource>(alloc: Global, source: &mut S) -> Result<u32, ReadFault> {
     let segment = Segment::open(source, 78, 2)?;
-    let mut answered = sound(segment.numbers(alloc, source))?;
-    answered = answered.saturating_add(sound(segment.terms(alloc, source))?);
-    for word in ["a", "b", "c"] {
-        answered = answered.saturating_add(sound(segment.list_of(alloc, source, word.as_bytes()))?);
-    }
-    for number in 0..4u32 {
-        answered = answered.saturating_add(sound(segment.text_of(alloc, source, number))?);
-    }
-    Ok(answered)
+    let numbers = sound(segment.numbers(alloc, source))?;
+    let terms = sound(segment.terms(alloc, source))?;
+    let words = sound_words(alloc, &segment, source)?;
+    let texts = sound_texts(alloc, &segment, source)?;
+    Ok(
+        numbers
+            .saturating_add(terms)
+            .saturating_add(words)
+            .saturating_add(texts),
+    )
 }
 
-// Of a prefix not every reader answers, and of the row with one byte changed none answers anything
-// but damage.
+// Whether not every reader answered, and none anything but damage.
+fn is_damaged(told: Result<u32, ReadFault>) -> bool {
+    match told {
+        Ok(answered) => answered < 9,
+        Err(fault) => fault == ReadFault::Damaged,
+    }
+}
+
 #[test]
-fn damage_is_survived(rt: HostRuntime) -> Result<(), Fail> {
-    assert_eq!(rt; survey(rt.alloc(), &mut SliceSource::new(&ROW)), Ok(9));
+fn every_prefix_is_damaged(rt: HostRuntime) {
+    assert!(rt; survey(rt.alloc(), &mut SliceSource::new(&ROW)) == Ok(9));
     for n in 0..78usize {
         let result = survey(rt.alloc(), &mut SliceSource::new(&ROW[..n]));
-        assert!(rt; matches!(result, Err(ReadFault::Damaged)) || result.is_ok_and(|all| all < 9));
+        assert!(rt; is_damaged(result), "{n} bytes");
     }
+}
+
+// Of the row with one byte changed no reader answers anything but damage.
+#[test]
+fn every_changed_byte_is_survived(rt: HostRuntime) {
     for at in 0..78usize {
         for value in [0x00u8, 0xFF] {
             let mut bytes = ROW;
             bytes[at] = value;
             let result = survey(rt.alloc(), &mut SliceSource::new(&bytes));
-            assert!(rt; result.is_ok() || result == Err(ReadFault::Damaged));
+            assert!(rt;
+                result.is_ok() || result == Err(ReadFault::Damaged),
+                "at {at}"
+            );
         }
     }
-    Ok(())
+}
+
+// The documents in which a word of the two stands.
+fn standing_in(word: &str) -> &'static [u32] {
+    match word {
+        "tail" => &[9],
+        "aa" | "zz" => &[4, 9],
+        _ => &[4],
+    }
 }
 
 // Two documents with many words, so that the dictionary has several groups: each word is found.
 #[test]
 fn many_words_are_found_again(rt: HostRuntime) -> Result<(), Fail> {
-    let docs = wordy(rt.alloc())?;
-    let bytes = build(rt.alloc(), &docs, 2)?;
-    let size = size_of(rt.alloc(), &docs, 2)?;
-    assert_eq!(rt; bytes.len(), size as usize);
-    let mut source = SliceSource::new(&bytes);
+    let alloc = rt.alloc();
+    let docs = wordy(alloc)?;
+    let bytes = build(alloc, &docs, 2)?;
+    let size = size_of(alloc, &docs, 2)?;
+    assert!(rt; bytes.len() == size as usize);
+    find_words(&rt, alloc, &bytes, size)
+}
+
+// Each word of a segment of the two documents is found, and there are no other words.
+fn find_words(rt: &impl Abort, alloc: Global, bytes: &[u8], size: u32) -> Result<(), Fail>
+    requires { length bytes.now < 2 ^ 32 }
+{
+    let mut source = SliceSource::new(bytes);
     let segment = Segment::open(&mut source, size, 2)?;
-    let terms = segment.terms(rt.alloc(), &mut source)?;
-    assert_eq!(rt; terms.len(), 41);
-    let words = WORDS.split(' ').chain(["tail"]);
-    for word in words {
-        let with = numbers_with(rt.alloc(), &segment, &mut source, &bytes, word)?;
-        let want: &[u32] = match word {
-            "tail" => &[9],
-            "aa" | "zz" => &[4, 9],
-            _ => &[4],
-        };
-        assert_eq!(rt; with.as_slice(), want);
+    assert!(rt; segment.terms(alloc, &mut source)?.len() == 41);
+    for word in WORDS.split(' ').chain(["tail"]) {
+        let with = numbers_with(alloc, &segment, &mut source, bytes, word)?;
+        assert!(rt; with.as_slice() == standing_in(word), "{word}");
     }
     Ok(())
 }

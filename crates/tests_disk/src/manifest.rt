@@ -11,6 +11,28 @@ use std::alloc::{AllocError, Global};
 use std::process::Abort;
 use std::test::Fail;
 
+// What is in force: the generation, and the half.
+#[derive(Clone, Copy, Debug, PartialEq, Eq)]
+struct InForce {
+    generation: u64,
+    half: Half,
+}
+
+const FIRST: InForce = InForce {
+    generation: 1,
+    half: Half::A,
+};
+
+const SECOND: InForce = InForce {
+    generation: 2,
+    half: Half::B,
+};
+
+const THIRD: InForce = InForce {
+    generation: 3,
+    half: Half::A,
+};
+
 // The bytes of a disk of 64 units.
 const SIZE: usize = 32_768;
 
@@ -124,6 +146,15 @@ fn both_open(alloc: Global, a: u64, b: u64) -> Result<MemoryDisk, AllocError>
     Ok(MemoryDisk::of_bytes(alloc, bytes))
 }
 
+// What is in force on a disk.
+fn in_force<D: Disk>(alloc: Global, disk: &mut D) -> Result<InForce, ManifestFault>
+    requires { bodies_end ≤ length (D.content disk.old) }
+{
+    let (found, half) = read_current(alloc, disk)?;
+    let generation = found.generation;
+    Ok(InForce { generation, half })
+}
+
 #[test]
 fn the_body_of_a_new_store_has_these_bytes(rt: HostRuntime) -> Result<(), Fail> {
     let body = empty(rt.alloc(), 1).spell(rt.alloc())?;
@@ -131,7 +162,7 @@ fn the_body_of_a_new_store_has_these_bytes(rt: HostRuntime) -> Result<(), Fail> 
         0x50, 0x4B, 0x53, 0x52, 0x43, 0x48, 0x30, 0x31, 1, 0, 0, 0, 0, 0, 0, 0, 0x40, 0, 0, 0, 1,
         0, 0, 0, 1, 0, 0, 0, 0, 0, 0, 0,
     ];
-    assert_eq!(rt; body.len(), 8192);
+    assert!(rt; body.len() == 8192);
     assert!(rt; body.starts_with(&front));
     assert!(rt; body.iter().skip(32).all(|b| *b == 0));
     Ok(())
@@ -144,48 +175,57 @@ fn an_entry_has_these_bytes(rt: HostRuntime) -> Result<(), Fail> {
         3, 0, 0, 0, 0, 0, 0, 0, 40, 0, 0, 0, 2, 0, 0, 0, 0x58, 2, 0, 0, 2, 0, 0, 0, 34, 0, 0, 0, 1,
         0, 0, 0, 5, 0, 0, 0, 0, 0, 0, 0,
     ];
-    assert_eq!(rt; body.len(), 8192);
-    assert_eq!(rt; &body[8..10], [2, 1].as_slice());
-    assert_eq!(rt; &body[32..36], [3, 0, 0, 0].as_slice());
-    assert_eq!(rt; &body[36..76], entry.as_slice());
-    assert!(rt; body[156..].iter().all(|b| *b == 0));
+    assert!(rt; body.len() == 8192);
+    assert!(rt; body[8..].starts_with(&[2, 1]));
+    assert!(rt; body[32..].starts_with(&[3, 0, 0, 0]));
+    assert!(rt; body[36..].starts_with(&entry));
+    assert!(rt; body.iter().skip(156).all(|b| *b == 0));
     Ok(())
+}
+
+// The first units of the extents of a body.
+fn first_units(alloc: Global, manifest: &Manifest) -> Result<Vec<u32>, AllocError> {
+    let extents = manifest.extents(alloc)?;
+    extents.iter().map(|e| e.first).collect(alloc)
+}
+
+// These are the numbers of the three entries' body.
+fn has_numbers(rt: &impl Abort, found: &Manifest) {
+    assert!(rt; found.generation == 258);
+    assert!(rt; found.units == 64);
+    assert!(rt; found.next_number == 77);
+    assert!(rt; found.next_segment == 6);
 }
 
 #[test]
 fn a_body_is_read_as_it_was_spelled(rt: HostRuntime) -> Result<(), Fail> {
     let alloc = rt.alloc();
     let manifest = three(alloc)?;
-    let body = manifest.spell(alloc)?;
-    let mut disk = disk_with(alloc, &body, 0)?;
+    let mut disk = disk_with(alloc, &manifest.spell(alloc)?, 0)?;
     let (found, half) = read_current(alloc, &mut disk)?;
-    assert_eq!(rt; half, Half::A);
-    assert_eq!(rt; found.generation, 258);
-    assert_eq!(rt; found.units, 64);
-    assert_eq!(rt; found.next_number, 77);
-    assert_eq!(rt; found.next_segment, 6);
-    assert_eq!(rt; found.entries.as_slice(), manifest.entries.as_slice());
-    let firsts: Vec<u32> = found
-        .extents(alloc)?
-        .iter()
-        .map(|e| e.first)
-        .collect(alloc)?;
-    assert_eq!(rt; firsts.as_slice(), [40, 34, 35, 63, 42].as_slice());
+    assert!(rt; half == Half::A);
+    has_numbers(&rt, &found);
+    assert!(rt; found.entries.as_slice() == manifest.entries.as_slice());
+    assert!(rt; first_units(alloc, &found)?.as_slice() == [40, 34, 35, 63, 42].as_slice());
     Ok(())
 }
 
-// With no gate open there is no store; a read that fails is told, and the next one answers.
+// With no gate open there is no store.
 #[test]
-fn what_is_no_store_and_what_failed(rt: HostRuntime) -> Result<(), Fail> {
+fn what_has_no_gate_open_is_no_store(rt: HostRuntime) -> Result<(), Fail> {
+    let none = read_current(rt.alloc(), &mut zeros(rt.alloc())?);
+    assert!(rt; none.err() == Some(ManifestFault::NotAStore));
+    Ok(())
+}
+
+// A read that fails is told, and the next one answers.
+#[test]
+fn a_read_that_failed_is_told(rt: HostRuntime) -> Result<(), Fail> {
     let alloc = rt.alloc();
-    let none = read_current(alloc, &mut zeros(alloc)?);
-    assert_eq!(rt; none.err(), Some(ManifestFault::NotAStore));
     let mut disk = FaultDisk::once(created(alloc, 0)?, 1);
     let failed = read_current(alloc, &mut disk);
-    assert_eq!(rt; failed.err(), Some(ManifestFault::Disk));
-    let (found, half) = read_current(alloc, &mut disk)?;
-    assert_eq!(rt; found.generation, 1);
-    assert_eq!(rt; half, Half::A);
+    assert!(rt; failed.err() == Some(ManifestFault::Disk));
+    assert!(rt; in_force(alloc, &mut disk)? == FIRST);
     Ok(())
 }
 
@@ -203,11 +243,10 @@ fn the_last_generation_has_none_after_it(rt: HostRuntime) {
 // Of two open gates the one with the greater generation is in force, at equal ones A.
 #[test]
 fn the_greater_generation_is_in_force(rt: HostRuntime) -> Result<(), Fail> {
-    for (a, b, want) in [(3, 4, Half::B), (4, 4, Half::A), (5, 4, Half::A)] {
-        let mut disk = both_open(rt.alloc(), a, b)?;
-        let (found, half) = read_current(rt.alloc(), &mut disk)?;
-        assert_eq!(rt; half, want);
-        assert_eq!(rt; found.generation, a.max(b));
+    for (a, b, half) in [(3, 4, Half::B), (4, 4, Half::A), (5, 4, Half::A)] {
+        let found = in_force(rt.alloc(), &mut both_open(rt.alloc(), a, b)?)?;
+        let generation = a.max(b);
+        assert_eq!(rt; found, InForce { generation, half });
     }
     Ok(())
 }
@@ -221,11 +260,11 @@ fn judge(rt: &impl Abort, alloc: Global, body: &[u8]) -> Result<bool, Fail>
         Ok((found, half)) => {
             let spelled = found.spell(alloc)?;
             assert!(rt; spelled.as_slice() == body);
-            assert_eq!(rt; half, Half::A);
+            assert!(rt; half == Half::A);
             Ok(true)
         }
         Err(fault) => {
-            assert_eq!(rt; fault, ManifestFault::Damaged);
+            assert!(rt; fault == ManifestFault::Damaged);
             Ok(false)
         }
     }
@@ -242,19 +281,24 @@ fn changed(alloc: Global, body: &[u8], at: usize, to: u8) -> Result<Vec<u8>, All
     Ok(bytes)
 }
 
-// Only the numbers that no other place repeats may be others: the generation, the next document
-// number, the next segment id, ids, kinds, places and lengths.
+// Whether another byte at a place of the three entries' body is told: not that of a number that no
+// other place repeats, as the generation, the next document number, the next segment id, ids,
+// kinds, places and lengths.
+fn is_told(at: usize) -> bool {
+    at < 8 || (16..20).contains(&at) || (32..36).contains(&at) || at >= 156
+}
+
+// Only the numbers that no other place repeats may be others.
 #[test]
 fn another_byte_is_damage_or_another_number(rt: HostRuntime) -> Result<(), Fail> {
     let alloc = rt.alloc();
     let body = three(alloc)?.spell(alloc)?;
     assert!(rt; judge(&rt, alloc, &body)?);
     for (at, was) in body.iter().enumerate() {
-        let is_told = at < 8 || (16..20).contains(&at) || (32..36).contains(&at) || at >= 156;
         for to in [0x00, 0xFF] {
             if to != *was {
                 let is_read = judge(&rt, alloc, &changed(alloc, &body, at, to)?)?;
-                assert!(rt; !(is_told && is_read), "at {at}");
+                assert!(rt; !(is_told(at) && is_read), "at {at}");
             }
         }
     }
@@ -269,14 +313,32 @@ fn random(state: &mut u64) -> u8 {
     ((*state >> 40) & 0xFF) as u8
 }
 
-// So many bytes without a pattern.
-fn noise(alloc: Global, n: usize) -> Result<Vec<u8>, AllocError> {
+// As many bytes as a body has, without a pattern.
+fn noise(alloc: Global) -> Result<Vec<u8>, AllocError>
+    ensures { IfOk result (λ v. length v.items ≡ 8192) }
+{
     let mut state = 1;
-    let mut bytes = Vec::new(alloc);
-    for _ in 0..n {
-        bytes.push(random(&mut state))?;
+    let mut bytes = vec![in alloc; 0u8; 8192]?;
+    for byte in bytes.iter_mut() {
+        *byte = random(&mut state);
     }
     Ok(bytes)
+}
+
+// Whether a body is read whose first n bytes are those of one, and the others those of another.
+fn is_read_of(
+    rt: &impl Abort,
+    alloc: Global,
+    front: &[u8],
+    rest: &[u8],
+    n: usize,
+) -> Result<bool, Fail>
+    requires { length rest.now ≤ 8192 }
+{
+    let mut body = rest.to_vec(alloc)?;
+    let n = n.min(front.len()).min(body.len());
+    body[..n].copy_from_slice(&front[..n]);
+    judge(rt, alloc, &body)
 }
 
 // A spelling whose end, or whose front, is noise; and noise alone.
@@ -284,18 +346,11 @@ fn noise(alloc: Global, n: usize) -> Result<Vec<u8>, AllocError> {
 fn a_body_cut_off_by_random_bytes_is_damage(rt: HostRuntime) -> Result<(), Fail> {
     let alloc = rt.alloc();
     let spelled = three(alloc)?.spell(alloc)?;
-    let noise = noise(alloc, 8192)?;
+    let noise = noise(alloc)?;
     for n in (0..160).chain((160..8192).step_by(61)) {
-        let rest = noise.iter().skip(n);
-        let cut: Vec<u8> = spelled.iter().take(n).chain(rest).copied().collect(alloc)?;
-        assert!(rt;
-            !judge(&rt, alloc, &cut[..cut.len().min(8192)])?,
-            "{n} bytes"
-        );
-        let late = spelled.iter().skip(n);
-        let torn: Vec<u8> = noise.iter().take(n).chain(late).copied().collect(alloc)?;
-        let is_read = judge(&rt, alloc, &torn[..torn.len().min(8192)])?;
-        assert_eq!(rt; is_read, n == 0, "{n} bytes");
+        assert!(rt; !is_read_of(&rt, alloc, &spelled, &noise, n)?, "{n} bytes");
+        let is_read = is_read_of(&rt, alloc, &noise, &spelled, n)?;
+        assert!(rt; is_read == (n == 0), "{n} bytes");
     }
     Ok(())
 }
@@ -352,39 +407,13 @@ fn establish_on(
     Ok((over.into_inner(), answer == Err(DiskFault)))
 }
 
-// What is in force: the generation, and the half.
-#[derive(Clone, Copy, Debug, PartialEq, Eq)]
-struct InForce {
-    generation: u64,
-    half: Half,
-}
-
-const FIRST: InForce = InForce {
-    generation: 1,
-    half: Half::A,
-};
-
-const SECOND: InForce = InForce {
-    generation: 2,
-    half: Half::B,
-};
-
-const THIRD: InForce = InForce {
-    generation: 3,
-    half: Half::A,
-};
-
 // What is in force after a crash with every pick the same, if anything is.
 fn left_by(alloc: Global, disk: MemoryDisk, pick: u8) -> Result<Option<InForce>, Fail>
     requires { length (⟦<MemoryDisk as Disk>⟧.content disk) ≡ 32768 }
 {
     let picks = vec![in alloc; pick; SIZE]?;
-    let mut left = disk.crash(&picks);
-    match read_current(alloc, &mut left) {
-        Ok((found, half)) => {
-            let generation = found.generation;
-            Ok(Some(InForce { generation, half }))
-        }
+    match in_force(alloc, &mut disk.crash(&picks)) {
+        Ok(found) => Ok(Some(found)),
         Err(ManifestFault::NotAStore) => Ok(None),
         Err(fault) => Err(fault)?,
     }
@@ -464,17 +493,27 @@ const ROWS: [Row; 4] = [
     },
 ];
 
+// Puts a body in force over a faulty disk: whether it answered the fault, and what is in force after
+// a crash with every pick the same.
+fn outcome(
+    alloc: Global,
+    start: Start,
+    passed: u32,
+    once: bool,
+    pick: u8,
+) -> Result<(bool, Option<InForce>), Fail> {
+    let (disk, failed) = put_in_force(alloc, start, passed, once)?;
+    Ok((failed, left_by(alloc, disk, pick)?))
+}
+
 // Each of its calls fails, once and for good, and then a crash: the old body is in force, but for
 // picks that open its gate once that was written.
-fn cut_off(rt: &impl Abort, alloc: Global, row: Row, once: bool) -> Result<(), Fail> {
+fn cut_off(rt: &impl Abort, alloc: Global, row: Row, once: bool, pick: u8) -> Result<(), Fail> {
     for passed in 0..row.calls {
-        for pick in [0xA7, 0x00, 0xFF] {
-            let (disk, failed) = put_in_force(alloc, row.start, passed, once)?;
-            assert!(rt; failed, "{passed} calls passed");
-            let is_new = pick == 0xA7 && passed >= row.before_gate;
-            let want = if is_new { row.new } else { row.old };
-            assert_eq!(rt; left_by(alloc, disk, pick)?, want, "{passed} calls passed");
-        }
+        let is_new = pick == 0xA7 && passed >= row.before_gate;
+        let want = if is_new { row.new } else { row.old };
+        let told = outcome(alloc, row.start, passed, once, pick)?;
+        assert!(rt; told == (true, want), "{passed} calls passed");
     }
     Ok(())
 }
@@ -483,12 +522,11 @@ fn cut_off(rt: &impl Abort, alloc: Global, row: Row, once: bool) -> Result<(), F
 fn what_is_cut_off_leaves_the_old_body_or_the_new(rt: HostRuntime) -> Result<(), Fail> {
     let alloc = rt.alloc();
     for row in ROWS {
-        cut_off(&rt, alloc, row, true)?;
-        cut_off(&rt, alloc, row, false)?;
         for pick in [0xA7, 0x00, 0xFF] {
-            let (disk, failed) = put_in_force(alloc, row.start, row.calls, false)?;
-            assert!(rt; !failed);
-            assert_eq!(rt; left_by(alloc, disk, pick)?, row.new);
+            cut_off(&rt, alloc, row, true, pick)?;
+            cut_off(&rt, alloc, row, false, pick)?;
+            let told = outcome(alloc, row.start, row.calls, false, pick)?;
+            assert!(rt; told == (false, row.new));
         }
     }
     Ok(())
@@ -508,15 +546,21 @@ fn a_failed_read_writes_nothing(rt: HostRuntime) -> Result<(), Fail> {
 }
 
 // What a lossy disk gives is answered too.
+fn try_lossy(rt: &impl Abort, alloc: Global, next: &Manifest, seed: u64) -> Result<(), Fail>
+    requires { length next.now.entries.items ≤ 64 }
+{
+    let mut disk = LossyDisk::of_bytes(bytes_with(alloc, &[], 0)?, seed);
+    assert!(rt; read_current(alloc, &mut disk).is_err());
+    assert!(rt; install(alloc, &mut disk, next, Half::B) == Ok(()));
+    assert!(rt; gate_open(&mut disk, Half::A).is_ok());
+    Ok(())
+}
+
 #[test]
 fn a_disk_that_is_not_honest_is_answered(rt: HostRuntime) -> Result<(), Fail> {
-    let alloc = rt.alloc();
-    let manifest = three(alloc)?;
+    let manifest = three(rt.alloc())?;
     for seed in 0..200 {
-        let mut disk = LossyDisk::of_bytes(bytes_with(alloc, &[], 0)?, seed);
-        assert!(rt; read_current(alloc, &mut disk).is_err());
-        assert_eq!(rt; install(alloc, &mut disk, &manifest, Half::B), Ok(()));
-        assert!(rt; gate_open(&mut disk, Half::A).is_ok());
+        try_lossy(&rt, rt.alloc(), &manifest, seed)?;
     }
     Ok(())
 }

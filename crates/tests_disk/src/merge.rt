@@ -70,6 +70,34 @@ fn dead(alloc: Global, number: u32) -> Result<Dead, AllocError>
     Ok(dead)
 }
 
+// The two segments as inputs.
+fn inputs<'a>(first: &'a Dead, third: &'a Dead) -> [MergeInput<'a>; 2]
+    ensures kinds { All HasKind result }
+    ensures inside { All (LiesInside 2048) result }
+    ensures apart { (end : ℕ) → All (LiesApart 1536 end) result }
+{
+    [
+        MergeInput {
+            extent: Extent::of_bytes(1, 52),
+            kind: 1,
+            dead: first,
+        },
+        MergeInput {
+            extent: Extent::of_bytes(2, 37),
+            kind: 1,
+            dead: third,
+        },
+    ]
+}
+
+// The list of documents 1 and 2.
+fn both(rt: &impl Abort, alloc: Global) -> Result<Dead, AllocError> {
+    let mut both = dead(alloc, 1)?;
+    assert!(rt; both.len() < 134_217_728);
+    both.add(2)?;
+    Ok(both)
+}
+
 // What is left of the segment in unit 1 by the one list, and of that in unit 2 by the other, in
 // that kind.
 fn merge<D: Disk>(
@@ -83,19 +111,20 @@ fn merge<D: Disk>(
     requires size { length (D.content disk.old) ≡ 2048 }
     ensures { length (D.content disk.new) ≡ length (D.content disk.old) }
 {
-    let inputs = [
-        MergeInput {
-            extent: Extent::of_bytes(1, 52),
-            kind: 1,
-            dead: first,
-        },
-        MergeInput {
-            extent: Extent::of_bytes(2, 37),
-            kind: 1,
-            dead: third,
-        },
-    ];
-    merged(alloc, disk, &inputs, kind)
+    merged(alloc, disk, &inputs(first, third), kind)
+}
+
+// What is left in that kind where document 1 alone is listed.
+fn merge_rest<D: Disk>(
+    alloc: Global,
+    disk: &mut D,
+    kind: u32,
+) -> Result<Option<Vec<u8>>, MergeFault>
+    requires kind { IsKind kind }
+    requires size { length (D.content disk.old) ≡ 2048 }
+    ensures { length (D.content disk.new) ≡ length (D.content disk.old) }
+{
+    merge(alloc, disk, &dead(alloc, 1)?, &Dead::new(alloc), kind)
 }
 
 // Documents 2 and 3.
@@ -110,58 +139,90 @@ fn left(alloc: Global) -> Result<Vec<Document>, AllocError>
     Ok(docs)
 }
 
+// What is left in a kind is these bytes, which are built of the documents that are left.
+fn is_left(
+    rt: &impl Abort,
+    alloc: Global,
+    disk: &mut MemoryDisk,
+    kind: u32,
+    bytes: &[u8],
+) -> Result<(), Fail>
+    requires kind { IsKind kind }
+    requires size { length (⟦<MemoryDisk as Disk>⟧.content disk.old) ≡ 2048 }
+    ensures { length (⟦<MemoryDisk as Disk>⟧.content disk.new)
+        ≡ length (⟦<MemoryDisk as Disk>⟧.content disk.old) }
+{
+    let merged = merge_rest(alloc, disk, kind)?;
+    assert!(rt; merged.as_deref() == Some(bytes));
+    assert!(rt; build(alloc, &left(alloc)?, kind)?.as_slice() == bytes);
+    Ok(())
+}
+
 // Of documents 1, 2 and 3 the first is listed: the segment is that which is built of the others.
 #[test]
 fn what_is_left_is_one_segment(rt: HostRuntime) -> Result<(), Fail> {
     let mut disk = disk(rt.alloc(), 0, 0)?;
-    let first = dead(rt.alloc(), 1)?;
-    let none = Dead::new(rt.alloc());
-    let plain = merge(rt.alloc(), &mut disk, &first, &none, 1)?;
-    assert_eq!(rt; plain.as_deref(), Some(LEFT.as_slice()));
-    let indexed = merge(rt.alloc(), &mut disk, &first, &none, 2)?;
-    assert_eq!(rt; indexed.as_deref(), Some(LEFT_INDEXED.as_slice()));
-    let left = left(rt.alloc())?;
-    assert!(rt; plain == Some(build(rt.alloc(), &left, 1)?));
-    assert!(rt; indexed == Some(build(rt.alloc(), &left, 2)?));
-    Ok(())
+    is_left(&rt, rt.alloc(), &mut disk, 1, &LEFT)?;
+    is_left(&rt, rt.alloc(), &mut disk, 2, &LEFT_INDEXED)
 }
 
 // Of a document that is listed nothing is left, nor of no input.
 #[test]
 fn nothing_is_left(rt: HostRuntime) -> Result<(), Fail> {
-    let mut disk = disk(rt.alloc(), 0, 0)?;
-    let mut both = dead(rt.alloc(), 1)?;
-    assert!(rt; both.len() < 134_217_728);
-    both.add(2)?;
-    let third = dead(rt.alloc(), 3)?;
-    assert_eq!(rt;
-        merge(rt.alloc(), &mut disk, &both, &third, 2)?.as_deref(),
-        None
-    );
-    let none = merged(rt.alloc(), &mut disk, &[], 2)?;
-    assert_eq!(rt; none.as_deref(), None);
+    let alloc = rt.alloc();
+    let mut disk = disk(alloc, 0, 0)?;
+    let none = merge(alloc, &mut disk, &both(&rt, alloc)?, &dead(alloc, 3)?, 2)?;
+    assert!(rt; none.is_none());
+    assert!(rt; merged(alloc, &mut disk, &[], 2)?.is_none());
     Ok(())
 }
 
+// What a merge answers where one byte is another.
+fn fault_by(alloc: Global, at: usize, byte: u8) -> Result<Option<MergeFault>, AllocError>
+    requires { at < 2048 }
+{
+    Ok(merge_rest(alloc, &mut disk(alloc, at, byte)?, 2).err())
+}
+
 // A number that doesn't rise in the directory is damage, and so is one that doesn't rise from the
-// first segment to the second, or a text that is left and not UTF-8. The text of a listed document
-// isn't read.
+// first segment to the second, or a text that is left and not UTF-8.
 #[test]
 fn damage_is_told(rt: HostRuntime) -> Result<(), Fail> {
-    let first = dead(rt.alloc(), 1)?;
-    let none = Dead::new(rt.alloc());
     for (at, byte) in [
         (FIRST_PLACE + 36, 1),
         (THIRD_PLACE + 24, 2),
         (FIRST_PLACE + 51, 0xFF),
     ] {
-        let mut disk = disk(rt.alloc(), at, byte)?;
-        let refused = merge(rt.alloc(), &mut disk, &first, &none, 2).err();
-        assert_eq!(rt; refused, Some(MergeFault::Damaged));
+        let fault = fault_by(rt.alloc(), at, byte)?;
+        assert_eq!(rt; fault, Some(MergeFault::Damaged));
     }
+    Ok(())
+}
+
+// The text of a listed document isn't read.
+#[test]
+fn what_is_listed_is_not_read(rt: HostRuntime) -> Result<(), Fail> {
     let mut disk = disk(rt.alloc(), FIRST_PLACE + 48, 0xFF)?;
-    let bytes = merge(rt.alloc(), &mut disk, &first, &none, 2)?;
-    assert_eq!(rt; bytes.as_deref(), Some(LEFT_INDEXED.as_slice()));
+    let bytes = merge_rest(rt.alloc(), &mut disk, 2)?;
+    assert!(rt; bytes.as_deref() == Some(LEFT_INDEXED.as_slice()));
+    Ok(())
+}
+
+// Two merges, of which the kth read fails: what the first answers, where there is such a read, and
+// the second is the segment.
+fn fail_read(rt: &impl Abort, alloc: Global, k: u64) -> Result<(), Fail>
+    requires { 1 ≤ k }
+{
+    let mut disk = FaultDisk::once(disk(alloc, 0, 0)?, k);
+    if k < 11 {
+        let refused = merge_rest(alloc, &mut disk, 2).err();
+        assert!(rt; refused == Some(MergeFault::Disk), "read {k}");
+    }
+    let bytes = merge_rest(alloc, &mut disk, 2)?;
+    assert!(rt;
+        bytes.as_deref() == Some(LEFT_INDEXED.as_slice()),
+        "read {k}"
+    );
     Ok(())
 }
 
@@ -169,32 +230,24 @@ fn damage_is_told(rt: HostRuntime) -> Result<(), Fail> {
 // the segment. An eleventh read there is not.
 #[test]
 fn each_failing_read_of_a_merge_is_told(rt: HostRuntime) -> Result<(), Fail> {
-    let first = dead(rt.alloc(), 1)?;
-    let none = Dead::new(rt.alloc());
     for k in 1..12u64 {
-        let mut disk = FaultDisk::once(disk(rt.alloc(), 0, 0)?, k);
-        if k < 11 {
-            let refused = merge(rt.alloc(), &mut disk, &first, &none, 2).err();
-            assert_eq!(rt; refused, Some(MergeFault::Disk));
-        }
-        let bytes = merge(rt.alloc(), &mut disk, &first, &none, 2)?;
-        assert_eq!(rt; bytes.as_deref(), Some(LEFT_INDEXED.as_slice()));
+        fail_read(&rt, rt.alloc(), k)?;
     }
     Ok(())
 }
 
 // Whether a merge was made; where memory was refused on the way, it answers so.
 fn is_merged(rt: &impl Abort, alloc: Global) -> bool {
-    let (Ok(mut disk), Ok(first)) = (disk(alloc, 0, 0), dead(alloc, 1)) else {
+    let Ok(mut disk) = disk(alloc, 0, 0) else {
         return false;
     };
-    match merge(alloc, &mut disk, &first, &Dead::new(alloc), 2) {
+    match merge_rest(alloc, &mut disk, 2) {
         Ok(bytes) => {
-            assert_eq!(rt; bytes.as_deref(), Some(LEFT_INDEXED.as_slice()));
+            assert!(rt; bytes.as_deref() == Some(LEFT_INDEXED.as_slice()));
             true
         }
         Err(fault) => {
-            assert_eq!(rt; fault, MergeFault::Memory);
+            assert!(rt; fault == MergeFault::Memory);
             false
         }
     }
@@ -239,26 +292,6 @@ fn the_least_run_is_chosen(rt: HostRuntime) {
     }
 }
 
-// The two segments as inputs.
-fn inputs<'a>(first: &'a Dead, third: &'a Dead) -> [MergeInput<'a>; 2]
-    ensures kinds { All HasKind result }
-    ensures inside { All (LiesInside 2048) result }
-    ensures apart { (end : ℕ) → All (LiesApart 1536 end) result }
-{
-    [
-        MergeInput {
-            extent: Extent::of_bytes(1, 52),
-            kind: 1,
-            dead: first,
-        },
-        MergeInput {
-            extent: Extent::of_bytes(2, 37),
-            kind: 1,
-            dead: third,
-        },
-    ]
-}
-
 // How long the segment of kind 2 is that is prepared of what is left.
 fn prepared_size<D: Disk>(
     alloc: Global,
@@ -297,39 +330,61 @@ fn merge_into<D: Disk>(
     Ok(Some(size))
 }
 
-// What is prepared is as long as what is built, and there is none where nothing is left.
+// What is prepared is as long as what is built.
 #[test]
 fn what_is_prepared_is_as_long(rt: HostRuntime) -> Result<(), Fail> {
-    let mut disk = disk(rt.alloc(), 0, 0)?;
-    let first = dead(rt.alloc(), 1)?;
-    let none = Dead::new(rt.alloc());
-    let built = build(rt.alloc(), &left(rt.alloc())?, 2)?;
-    let size = prepared_size(rt.alloc(), &mut disk, &first, &none)?;
-    assert!(rt; size.is_some_and(|size| size as usize == built.len()));
-    let mut both = dead(rt.alloc(), 1)?;
-    assert!(rt; both.len() < 134_217_728);
-    both.add(2)?;
-    let third = dead(rt.alloc(), 3)?;
-    assert_eq!(rt; prepared_size(rt.alloc(), &mut disk, &both, &third)?, None);
+    let alloc = rt.alloc();
+    let built = build(alloc, &left(alloc)?, 2)?.len();
+    let first = dead(alloc, 1)?;
+    let size = prepared_size(alloc, &mut disk(alloc, 0, 0)?, &first, &Dead::new(alloc))?;
+    assert!(rt; size.is_some_and(|size| size as usize == built));
+    Ok(())
+}
+
+// Where nothing is left there is none.
+#[test]
+fn nothing_is_prepared(rt: HostRuntime) -> Result<(), Fail> {
+    let alloc = rt.alloc();
+    let both = both(&rt, alloc)?;
+    let size = prepared_size(alloc, &mut disk(alloc, 0, 0)?, &both, &dead(alloc, 3)?)?;
+    assert!(rt; size.is_none());
+    Ok(())
+}
+
+// All bytes of a disk.
+fn bytes_of(alloc: Global, disk: &mut MemoryDisk) -> Result<Vec<u8>, Fail>
+    requires { length (⟦<MemoryDisk as Disk>⟧.content disk.old) ≡ 2048 }
+    ensures size { length (⟦<MemoryDisk as Disk>⟧.content disk.new)
+        ≡ length (⟦<MemoryDisk as Disk>⟧.content disk.old) }
+    ensures bytes { IfOk result (λ v. length v.items ≡ 2048) }
+{
+    let mut bytes = vec![in alloc; 0u8; 2048]?;
+    disk.read(0, &mut bytes)?;
+    Ok(bytes)
+}
+
+// The segment is merged in memory, and then into unit 3.
+fn merge_twice(rt: &impl Abort, alloc: Global, disk: &mut MemoryDisk) -> Result<(), Fail>
+    requires { length (⟦<MemoryDisk as Disk>⟧.content disk.old) ≡ 2048 }
+    ensures { length (⟦<MemoryDisk as Disk>⟧.content disk.new)
+        ≡ length (⟦<MemoryDisk as Disk>⟧.content disk.old) }
+{
+    let merged = merge_rest(alloc, disk, 2)?;
+    assert!(rt; merged.as_deref() == Some(LEFT_INDEXED.as_slice()));
+    let size = merge_into(alloc, disk, &dead(alloc, 1)?, &Dead::new(alloc))?;
+    assert!(rt; size == Some(75));
     Ok(())
 }
 
 // What is merged into unit 3 is what is merged in memory, and no other byte is written.
 #[test]
 fn a_merge_is_written_to_its_place(rt: HostRuntime) -> Result<(), Fail> {
-    let mut disk = disk(rt.alloc(), 0, 0)?;
-    let first = dead(rt.alloc(), 1)?;
-    let none = Dead::new(rt.alloc());
-    let mut bytes = vec![in rt.alloc(); 0u8; 2048]?;
-    assert!(rt; disk.read(0, &mut bytes).is_ok());
-    let merged = merge(rt.alloc(), &mut disk, &first, &none, 2)?;
-    assert_eq!(rt; merged.as_deref(), Some(LEFT_INDEXED.as_slice()));
-    let size = merge_into(rt.alloc(), &mut disk, &first, &none)?;
-    assert_eq!(rt; size, Some(75));
+    let alloc = rt.alloc();
+    let mut disk = disk(alloc, 0, 0)?;
+    let mut bytes = bytes_of(alloc, &mut disk)?;
+    merge_twice(&rt, alloc, &mut disk)?;
     bytes[1536..1611].copy_from_slice(&LEFT_INDEXED);
-    let mut now = vec![in rt.alloc(); 0u8; 2048]?;
-    assert!(rt; disk.read(0, &mut now).is_ok());
-    assert_eq!(rt; now, bytes);
+    assert!(rt; bytes_of(alloc, &mut disk)?.as_slice() == bytes.as_slice());
     Ok(())
 }
 

@@ -113,18 +113,24 @@ fn read_around<D: Disk>(play: &mut Play, disk: &mut D) {
     }
 }
 
+// Reads give what the disk below has, through so many slots.
+fn read_through(rt: &impl Abort, alloc: Global, pages: usize) -> Result<(), Fail> {
+    let mut play = Play::new(alloc)?;
+    let mut disk = PageCache::new(alloc, memory(alloc)?, pages);
+    read_around(&mut play, &mut disk);
+    read_around(&mut play, &mut disk);
+    assert!(rt; play.wrong == 0);
+    assert!(rt; play.failed == 0);
+    let left = disk.into_inner().into_bytes();
+    assert!(rt; left.as_slice() == play.bytes.as_slice());
+    Ok(())
+}
+
 // Also where there are more pages than slots, and no slot at all.
 #[test]
 fn reads_give_what_the_disk_below_has(rt: HostRuntime) -> Result<(), Fail> {
     for pages in [0usize, 1, 2, 3, 7] {
-        let mut play = Play::new(rt.alloc())?;
-        let mut disk = PageCache::new(rt.alloc(), memory(rt.alloc())?, pages);
-        read_around(&mut play, &mut disk);
-        read_around(&mut play, &mut disk);
-        assert_eq!(rt; play.wrong, 0);
-        assert_eq!(rt; play.failed, 0);
-        let left = disk.into_inner().into_bytes();
-        assert!(rt; left.as_slice() == play.bytes.as_slice());
+        read_through(&rt, rt.alloc(), pages)?;
     }
     Ok(())
 }
@@ -152,19 +158,28 @@ const READS: [(u64, usize, u64); 15] = [
     (100, 16, 24_096),
 ];
 
+// How many bytes are read below by these reads, of which none is wrong or fails.
+fn read_below(
+    rt: &impl Abort,
+    alloc: Global,
+    reads: &[(u64, usize, u64)],
+) -> Result<u64, AllocError> {
+    let mut play = Play::new(alloc)?;
+    let below = FaultDisk::new(memory(alloc)?, NEVER);
+    let mut disk = PageCache::new(alloc, below, 2);
+    for (at, n, _) in reads {
+        play.read(&mut disk, *at, *n);
+    }
+    assert!(rt; play.wrong == 0);
+    assert!(rt; play.failed == 0);
+    Ok(disk.into_inner().bytes_read())
+}
+
 #[test]
 fn what_is_kept_is_not_read_again(rt: HostRuntime) -> Result<(), Fail> {
     for last in 0..READS.len() {
-        let mut play = Play::new(rt.alloc())?;
-        let below = FaultDisk::new(memory(rt.alloc())?, NEVER);
-        let mut disk = PageCache::new(rt.alloc(), below, 2);
-        for (at, n, _) in &READS[..last + 1] {
-            play.read(&mut disk, *at, *n);
-        }
         let (_, _, read) = READS[last];
-        assert_eq!(rt; disk.into_inner().bytes_read(), read);
-        assert_eq!(rt; play.wrong, 0);
-        assert_eq!(rt; play.failed, 0);
+        assert_eq!(rt; read_below(&rt, rt.alloc(), &READS[..last + 1])?, read);
     }
     Ok(())
 }
@@ -240,8 +255,8 @@ fn reads_are_right(rt: &impl Abort, alloc: Global) -> bool {
     };
     let mut disk = PageCache::new(alloc, below, 3);
     read_around(&mut play, &mut disk);
-    assert_eq!(rt; play.wrong, 0);
-    assert_eq!(rt; play.failed, 0);
+    assert!(rt; play.wrong == 0);
+    assert!(rt; play.failed == 0);
     true
 }
 

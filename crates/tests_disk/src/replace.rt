@@ -329,14 +329,40 @@ fn stores(with: With, over_open: bool) -> [(u64, usize); 2] {
 // Where a replacement runs, the calls that it makes, and which of them are reads: of the gate and,
 // behind a write and a sync that close an open gate, of the copy's two parts. The last two are the
 // write and the sync of the gate.
-fn rows() -> [(With, bool, u64, [u64; 3]); 4] {
-    [
-        (With::Pieces, false, 7, [1, 1, 1]),
-        (With::Pieces, true, 9, [1, 1, 1]),
-        (With::Copy, false, 9, [1, 2, 4]),
-        (With::Copy, true, 11, [1, 4, 6]),
-    ]
+#[derive(Clone, Copy)]
+struct Row {
+    with: With,
+    over_open: bool,
+    calls: u64,
+    reads: [u64; 3],
 }
+
+const ROWS: [Row; 4] = [
+    Row {
+        with: With::Pieces,
+        over_open: false,
+        calls: 7,
+        reads: [1, 1, 1],
+    },
+    Row {
+        with: With::Pieces,
+        over_open: true,
+        calls: 9,
+        reads: [1, 1, 1],
+    },
+    Row {
+        with: With::Copy,
+        over_open: false,
+        calls: 9,
+        reads: [1, 2, 4],
+    },
+    Row {
+        with: With::Copy,
+        over_open: true,
+        calls: 11,
+        reads: [1, 4, 6],
+    },
+];
 
 // What it answers where its kth call fails.
 fn answer_of(k: u64, calls: u64, reads: [u64; 3]) -> Result<(), StreamFault> {
@@ -349,23 +375,56 @@ fn answer_of(k: u64, calls: u64, reads: [u64; 3]) -> Result<(), StreamFault> {
     Err(StreamFault::Write)
 }
 
+// Runs a replacement whose kth call fails, and again after a failed read, if it is to: what it
+// answers, and what is in force after a crash with every pick the same.
+fn outcome(
+    rt: &impl Abort,
+    alloc: Global,
+    row: Row,
+    k: u64,
+    once: bool,
+    again: bool,
+    pick: u8,
+) -> Result<(Result<(), StreamFault>, (u64, usize)), Fail>
+    requires { 1 ≤ k }
+{
+    let (disk, unit) = start(alloc, row.with, row.over_open)?;
+    let (disk, answer) = replace_next(alloc, disk, row.with, unit, k, once, again)?;
+    Ok((answer, left_by(rt, alloc, disk, row.with, pick)?))
+}
+
+// Each call fails, and then a crash with every pick the same.
+fn cut_off(rt: &impl Abort, alloc: Global, row: Row, once: bool, pick: u8) -> Result<(), Fail> {
+    let Row { calls, reads, .. } = row;
+    let [old, new] = stores(row.with, row.over_open);
+    for k in 1..13 {
+        let is_new = k > calls || (k + 2 > calls && pick == 0xA7);
+        let want = (answer_of(k, calls, reads), if is_new { new } else { old });
+        let told = outcome(rt, alloc, row, k, once, false, pick)?;
+        assert!(rt; told == want, "call {k} of {calls}");
+    }
+    Ok(())
+}
+
 #[test]
 fn a_cut_replacement_leaves_the_old_store_or_the_new(rt: HostRuntime) -> Result<(), Fail> {
-    let alloc = rt.alloc();
-    for (with, over_open, calls, reads) in rows() {
-        let [old, new] = stores(with, over_open);
-        for once in [true, false] {
-            for k in 1..13 {
-                for pick in [0xA7, 0x00, 0xFF] {
-                    let (disk, unit) = start(alloc, with, over_open)?;
-                    let (disk, answer) = replace_next(alloc, disk, with, unit, k, once, false)?;
-                    assert_eq!(rt; answer, answer_of(k, calls, reads), "call {k} of {calls}");
-                    let left = left_by(&rt, alloc, disk, with, pick)?;
-                    let is_new = k > calls || (k + 2 > calls && pick == 0xA7);
-                    assert_eq!(rt; left, if is_new { new } else { old }, "call {k} of {calls}");
-                }
-            }
+    for row in ROWS {
+        for pick in [0xA7, 0x00, 0xFF] {
+            cut_off(&rt, rt.alloc(), row, true, pick)?;
+            cut_off(&rt, rt.alloc(), row, false, pick)?;
         }
+    }
+    Ok(())
+}
+
+// Each read fails, and then a crash with every pick the same.
+fn begin_again(rt: &impl Abort, alloc: Global, row: Row, pick: u8) -> Result<(), Fail> {
+    let Row { calls, reads, .. } = row;
+    let [_, new] = stores(row.with, row.over_open);
+    for k in reads {
+        assert!(rt; k > 0);
+        let told = outcome(rt, alloc, row, k, true, true, pick)?;
+        assert!(rt; told == (Ok(()), new), "call {k} of {calls}");
     }
     Ok(())
 }
@@ -373,38 +432,30 @@ fn a_cut_replacement_leaves_the_old_store_or_the_new(rt: HostRuntime) -> Result<
 // Also between two writes of the copy, and behind a gate that the first attempt closed.
 #[test]
 fn after_a_failed_read_it_may_begin_again(rt: HostRuntime) -> Result<(), Fail> {
-    let alloc = rt.alloc();
-    for (with, over_open, calls, reads) in rows() {
-        let [_, new] = stores(with, over_open);
-        for k in reads {
-            assert!(rt; k > 0);
-            for pick in [0xA7, 0x00, 0xFF] {
-                let (disk, unit) = start(alloc, with, over_open)?;
-                let (disk, answer) = replace_next(alloc, disk, with, unit, k, true, true)?;
-                assert_eq!(rt; answer, Ok(()), "call {k} of {calls}");
-                assert_eq!(rt;
-                    left_by(&rt, alloc, disk, with, pick)?,
-                    new,
-                    "call {k} of {calls}"
-                );
-            }
+    for row in ROWS {
+        for pick in [0xA7, 0x00, 0xFF] {
+            begin_again(&rt, rt.alloc(), row, pick)?;
         }
     }
     Ok(())
 }
 
 // No position is open, and the bytes are as they were.
+fn fail_first(rt: &impl Abort, alloc: Global, row: Row) -> Result<(), Fail> {
+    let (before, _) = start(alloc, row.with, row.over_open)?;
+    let (disk, unit) = start(alloc, row.with, row.over_open)?;
+    let (disk, answer) = replace_next(alloc, disk, row.with, unit, 1, false, false)?;
+    assert!(rt; answer == Err(StreamFault::Read));
+    let picks = vec![in alloc; 0xFFu8; SIZE]?;
+    let after = disk.crash(&picks).into_bytes();
+    assert!(rt; after.as_slice() == before.into_bytes().as_slice());
+    Ok(())
+}
+
 #[test]
 fn a_failed_read_of_the_gate_writes_nothing(rt: HostRuntime) -> Result<(), Fail> {
-    let alloc = rt.alloc();
-    for (with, over_open, _, _) in rows() {
-        let (before, _) = start(alloc, with, over_open)?;
-        let (disk, unit) = start(alloc, with, over_open)?;
-        let (disk, answer) = replace_next(alloc, disk, with, unit, 1, false, false)?;
-        assert_eq!(rt; answer, Err(StreamFault::Read));
-        let picks = vec![in alloc; 0xFFu8; SIZE]?;
-        let after = disk.crash(&picks).into_bytes();
-        assert!(rt; after.as_slice() == before.into_bytes().as_slice());
+    for row in ROWS {
+        fail_first(&rt, rt.alloc(), row)?;
     }
     Ok(())
 }
@@ -414,14 +465,8 @@ fn try_lossy(rt: &impl Abort, alloc: Global, seed: u64) -> Result<(), Fail> {
     let mut disk = LossyDisk::of_bytes(vec![in alloc; 0u8; SIZE]?, seed);
     let pieces = two(alloc, 43)?;
     let body = body(alloc, 1, next_entries(alloc, With::Pieces, 43)?)?;
-    assert_eq!(rt;
-        replace_with(&mut disk, Half::B, Pieces(&pieces), &body),
-        Ok(())
-    );
-    assert_eq!(rt;
-        replace_with(&mut disk, Half::B, copy(alloc, 52)?, &body),
-        Ok(())
-    );
+    assert!(rt; replace_with(&mut disk, Half::B, Pieces(&pieces), &body) == Ok(()));
+    assert!(rt; replace_with(&mut disk, Half::B, copy(alloc, 52)?, &body) == Ok(()));
     Ok(())
 }
 

@@ -1,7 +1,6 @@
 -- Unit 3 is behind both inputs, and the segment fits there.
-use Rattle.std.proofs.Common.{◌≡◌, ◌∙◌, ◌+◌, ◌≤◌, ℕ, List, length, sym, subst, arith, Ok, Some}
+use Rattle.std.proofs.Common.{◌≡◌, ◌∙◌, ◌+◌, ℕ, length, sym, subst, arith, Ok, Some}
 use Rattle.std.specs.Prelude.{All, Option}
-use Rattle.pk_join.specs.declared.input.MergeInput.{MergeInput}
 use Rattle.pk_merge.specs.declared.prepared.Prepared.{Prepared}
 use Rattle.pk_join.specs.Inputs.{LiesInside}
 use Rattle.pk_merge.specs.Prepared.{IsReady}
