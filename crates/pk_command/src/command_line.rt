@@ -1,7 +1,7 @@
 //! What the command line may say, and what it asks.
 
 ghost use Rattle.std.specs.Prelude.{◌≡◌, IfOk, IfSome, None, Some, codes, ℕ};
-ghost use Rattle.clap.specs.Words.{Text, app_of, first_value, found_of, one_text, subcommand_rows_of};
+ghost use Rattle.clap.specs.Words.{Text, app_of, found_of, one_text, subcommand_rows_of};
 ghost use Rattle.pk_command.specs.CommandLine.{
   Asks,
   IsArg,

@@ -2,7 +2,7 @@
 
 ghost use Rattle.std.specs.Prelude.{◌≡◌, ◌+◌, ◌*◌, ◌-◌, ◌<◌, ◌≤◌, ◌^◌};
 ghost use Rattle.std.specs.Prelude.{ℕ, List, length, min, slice_index};
-ghost use Rattle.std.specs.Prelude.{IfErr, IfSome, OnOk, Some, None, Err};
+ghost use Rattle.std.specs.Prelude.{IfSome, OnOk, None, Err};
 ghost use Rattle.std.specs.Prelude.{MatchResult, MatchOption};
 ghost use Rattle.pk_posting.specs.Posting.{Spells};
 ghost use Rattle.pk_posting.specs.Parts.{LiesIn, bytes_at};

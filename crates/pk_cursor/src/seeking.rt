@@ -2,7 +2,7 @@
 
 ghost use Rattle.std.specs.Prelude.{◌≡◌, ◌+◌, ◌*◌, ◌-◌, ◌<◌, ◌≤◌, ◌^◌};
 ghost use Rattle.std.specs.Prelude.{ℕ, List, length, slice_index};
-ghost use Rattle.std.specs.Prelude.{IfErr, IfSome, IsOk, OnOk, Some, None, Err, MatchResult};
+ghost use Rattle.std.specs.Prelude.{IfErr, IsOk, OnOk, Some, None, Err, MatchResult};
 ghost use Rattle.pk_posting.specs.Parts.{LiesIn, bytes_at};
 ghost use Rattle.pk_posting.specs.Source.{IsRead};
 

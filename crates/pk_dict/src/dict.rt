@@ -1,6 +1,6 @@
 //! A dictionary in memory.
 
-ghost use Rattle.std.specs.Prelude.{◌≡◌, ℕ, List, length, Ok, IfErr, MatchResult};
+ghost use Rattle.std.specs.Prelude.{◌≡◌, List, length, Ok, IfErr, MatchResult};
 ghost use Rattle.pk_dict.specs.Dict.{
   Answers,
   Lists,

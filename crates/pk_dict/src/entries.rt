@@ -19,7 +19,6 @@ ghost use Rattle.std.specs.Prelude.{
   IfErr,
   IfOk,
   IsOk,
-  IsTrue,
   MatchResult,
 };
 ghost use Rattle.std.specs.List.{AllByRecursion};

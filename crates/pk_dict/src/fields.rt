@@ -1,6 +1,6 @@
 //! The numbers and bytes of a dictionary, one at a time.
 
-ghost use Rattle.std.specs.Prelude.{◌≡◌, ◌≤◌, ◌<◌, ◌+◌, length, take, drop, IfOk, IsOk};
+ghost use Rattle.std.specs.Prelude.{◌≤◌, ◌<◌, ◌+◌, length, take, IfOk};
 ghost use Rattle.pk_dict.specs.Place.{LiesIn, bytes_at};
 ghost use Rattle.pk_dict.specs.Reading.{Gives, byte_at, entry_at, number_at, offset_at};
 ghost use Rattle.pk_posting.specs.Source.{IsRead};

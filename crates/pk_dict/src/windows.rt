@@ -10,8 +10,6 @@ ghost use Rattle.std.specs.Prelude.{
   ◌*◌,
   ◌^◌,
   ◌↔◌,
-  ℕ,
-  List,
   length,
   take,
   drop,

@@ -1,5 +1,5 @@
 //! A disk whose calls fail as planned.
-ghost use Rattle.std.specs.Prelude.{◌≡◌, ◌≤◌, ◌<◌, ◌+◌, ◌-◌, ℕ, List, length, slice_range, true};
+ghost use Rattle.std.specs.Prelude.{◌≡◌, ◌≤◌, ◌<◌, ◌+◌, ◌-◌, length, slice_range, true};
 ghost use Rattle.std.specs.Prelude.{OnOk, OnErr};
 ghost use Rattle.pk_disk.specs.Disk.{IsImage, IsCounted, IsPartWritten, full_count, nowhere};
 ghost use Rattle.pk_disk.specs.Disk.{opened, written};

@@ -1,6 +1,6 @@
 //! Laws of disks and their images, each the contract of a function with nothing to do.
 ghost use Rattle.std.specs.Prelude.{◌≡◌, ◌≤◌, ◌+◌, Bool, ℕ, List, length};
-ghost use Rattle.pk_disk.specs.Disk.{IsImage, IsImageBut, IsPartWritten, nowhere, opened, written};
+ghost use Rattle.pk_disk.specs.Disk.{IsImage, IsImageBut, IsPartWritten, nowhere, opened};
 ghost use Rattle.pk_disk.specs.Crash.{crashed};
 
 use crate::{Disk, MemoryDisk};

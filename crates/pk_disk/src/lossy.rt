@@ -1,5 +1,5 @@
 //! A disk that keeps no promise but its size and its counts.
-ghost use Rattle.std.specs.Prelude.{◌≡◌, ◌≤◌, ◌+◌, ◌<◌, ℕ, List, length, true};
+ghost use Rattle.std.specs.Prelude.{◌≡◌, ◌+◌, ◌<◌, true};
 
 use crate::{Disk, DiskFault};
 

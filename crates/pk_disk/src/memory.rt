@@ -1,5 +1,5 @@
 //! A disk in memory.
-ghost use Rattle.std.specs.Prelude.{◌≡◌, ◌≤◌, ◌+◌, ◌-◌, Bool, ℕ, List, length, reverse, OnOk};
+ghost use Rattle.std.specs.Prelude.{◌≡◌, ◌≤◌, ◌+◌, ◌-◌, length, reverse, OnOk};
 ghost use Rattle.std.specs.Prelude.{OnErr};
 ghost use Rattle.pk_disk.specs.Disk.{IsImage, IsCounted, IsPartWritten, nowhere, opened, written};
 ghost use Rattle.pk_disk.specs.Since.{OnlyNew, StayKnown};

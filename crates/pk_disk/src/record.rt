@@ -1,5 +1,5 @@
 //! The record that a disk in memory keeps of its writes and syncs.
-ghost use Rattle.std.specs.Prelude.{◌≡◌, ◌+◌, ◌≤◌, length, reverse};
+ghost use Rattle.std.specs.Prelude.{◌≡◌, ◌+◌, reverse};
 ghost use Rattle.pk_disk.specs.Crash.{crashed};
 ghost use Rattle.pk_disk.specs.Disk.{in_range};
 ghost use Rattle.pk_disk.specs.Memory.{open_after};

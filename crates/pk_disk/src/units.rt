@@ -1,5 +1,5 @@
 //! Units of 512 bytes, and extents of them.
-ghost use Rattle.std.specs.Prelude.{◌≡◌, ◌≤◌, ◌*◌, ◌+◌, ◌^◌, ◌<◌};
+ghost use Rattle.std.specs.Prelude.{◌≡◌, ◌*◌, ◌+◌, ◌<◌};
 ghost use Rattle.pk_disk.specs.Units.{IsFitted, end_of, lies_within, overlap, start_of, units_in};
 
 /// The bytes of a unit.

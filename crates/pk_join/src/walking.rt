@@ -33,7 +33,6 @@ ghost use Rattle.pk_join.specs.Walking.{
   IsPassed,
   PassesAs,
   Walks,
-  head_at,
   is_word,
   least_of,
   lesser_of,

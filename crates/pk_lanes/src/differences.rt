@@ -1,6 +1,5 @@
 //! Differences of each number to the fourth before it, and the numbers again from them.
 
-ghost use Rattle.std.specs.Prelude.{length};
 ghost use Rattle.pk_lanes.specs.Differences.{Restores};
 
 use crate::vectors::{add, start, subtract, vector};

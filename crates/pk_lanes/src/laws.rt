@@ -1,6 +1,6 @@
 //! Laws of packed blocks. Each is a function without a body: its contract is the law.
 
-ghost use Rattle.std.specs.Prelude.{◌≡◌, ℕ, List, ◌<◌, ◌≤◌, All};
+ghost use Rattle.std.specs.Prelude.{◌≡◌, ℕ, List, ◌<◌, All};
 ghost use Rattle.pk_lanes.specs.Packed.{Packed};
 
 /// Numbers have one packed form at a width.

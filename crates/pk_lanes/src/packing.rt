@@ -1,6 +1,6 @@
 //! Packing: straight-line code, one vector of four numbers after another.
 
-ghost use Rattle.std.specs.Prelude.{◌≡◌, ℕ, ◌+◌, ◌-◌, ◌*◌, ◌%◌, ◌^◌, ◌<◌, ◌≤◌, length, slice_index};
+ghost use Rattle.std.specs.Prelude.{◌≡◌, ℕ, ◌+◌, ◌-◌, ◌*◌, ◌%◌, ◌<◌, ◌≤◌, length, slice_index};
 ghost use Rattle.pk_lanes.specs.Packed.{Packed, FitIn, lane_bit, bit};
 ghost use Rattle.pk_lanes.specs.Progress.{Filling};
 

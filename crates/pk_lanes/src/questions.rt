@@ -4,7 +4,6 @@ ghost use Rattle.std.specs.Prelude.{◌≡◌, ℕ, ◌+◌, ◌*◌, ◌^◌, �
 ghost use Rattle.std.specs.Prelude.{slice_index, IsTrue};
 ghost use Rattle.pk_lanes.specs.Packed.{FitIn};
 ghost use Rattle.pk_lanes.specs.Differences.{IsAscending};
-ghost use Rattle.pk_lanes.specs.Progress.{Covers};
 
 use crate::vectors::{either, vector};
 use std::simd::prelude::*;

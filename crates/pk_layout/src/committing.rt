@@ -1,6 +1,6 @@
 //! What a commit writes: one segment of the new documents, if there are any, and for each segment
 //! with a pending deletion one list of all its deleted numbers.
-ghost use Rattle.std.specs.Prelude.{◌≡◌, ◌≤◌, ◌<◌, ◌++◌, ◌∷◌, [], ℕ, List, length};
+ghost use Rattle.std.specs.Prelude.{◌≡◌, ◌≤◌, ◌<◌, ◌++◌, ◌∷◌, [], ℕ, length};
 ghost use Rattle.std.specs.Prelude.{All, None, OnOk, map};
 ghost use Rattle.std.specs.List.Sorted.{IsStrictlyIncreasing};
 ghost use Rattle.pk_disk.specs.Units.{units_in};
@@ -10,9 +10,8 @@ ghost use Rattle.pk_layout.specs.Plan.{PlansWith, body_with_lists, body_with_seg
 ghost use Rattle.pk_layout.specs.Plan.{fresh_segment, new_lists, settled};
 ghost use Rattle.pk_manifest.specs.Sound.{IsBody, entry_limit};
 ghost use Rattle.pk_manifest.specs.Spelling.{view};
-ghost use Rattle.pk_model.specs.Collection.{Doc, numbers_of};
+ghost use Rattle.pk_model.specs.Collection.{numbers_of};
 ghost use Rattle.pk_model.specs.Limits.{end_of_ids};
-ghost use Rattle.pk_segment.specs.Opened.{IsSegmentOf};
 ghost use Rattle.pk_segment.specs.Spelling.{docs_of};
 
 use crate::following::{next_manifest, put_entries, put_settled, settled_with};

@@ -1,13 +1,13 @@
 //! What holds of the bytes of any disk, each the contract of a function with nothing to do.
-ghost use Rattle.std.specs.Prelude.{◌≡◌, ◌≤◌, ◌<◌, ◌^◌, Bool, false, true, ℕ, List, length, Some};
+ghost use Rattle.std.specs.Prelude.{◌≡◌, ◌≤◌, ◌<◌, ◌^◌, Bool, true, ℕ, List, length, Some};
 ghost use Rattle.std.specs.List.{list_all};
 ghost use Rattle.pk_disk.specs.Units.{apart, lies_within, overlap};
 ghost use Rattle.pk_disk.specs.Disk.{IsChangedOnly, IsImage, also, nowhere};
 ghost use Rattle.pk_manifest.specs.declared.half.Half.{Half};
 ghost use Rattle.pk_manifest.specs.Bodies.{IsCurrent, body_of, body_size, generation_of};
 ghost use Rattle.pk_manifest.specs.Bodies.{half_in_force, has_open_gate, other};
-ghost use Rattle.pk_manifest.specs.Current.{HasBody, units_of_disk};
-ghost use Rattle.pk_manifest.specs.Firm.{IsFar, IsFirm, IsSettled, IsShut};
+ghost use Rattle.pk_manifest.specs.Current.{HasBody};
+ghost use Rattle.pk_manifest.specs.Firm.{IsFar, IsFirm, IsSettled};
 ghost use Rattle.pk_manifest.specs.Sound.{IsBody, entry_limit, named};
 ghost use Rattle.pk_manifest.specs.Spelling.{Body, spelling};
 

@@ -1,5 +1,5 @@
 //! A body put in force: the spare gate shut, the body written and synced, the gate opened.
-ghost use Rattle.std.specs.Prelude.{◌≡◌, ◌⊎◌, ◌≤◌, ◌<◌, List, ℕ, false, length, OnErr, OnOk};
+ghost use Rattle.std.specs.Prelude.{◌≡◌, ◌⊎◌, ◌≤◌, ◌<◌, false, length, OnErr, OnOk};
 ghost use Rattle.pk_disk.specs.Disk.{IsChangedOnly, IsCounted, IsImage, Rose, also};
 ghost use Rattle.pk_disk.specs.Since.{IsOnlyRead, OnlyNew};
 ghost use Rattle.pk_manifest.specs.Bodies.{IsCurrent, bodies_end, body_of, body_size};

@@ -1,16 +1,6 @@
 //! The documents that a merge leaves, as far as it has come.
 
-ghost use Rattle.std.specs.Prelude.{
-  ◌≡◌,
-  ◌≤◌,
-  ◌<◌,
-  ◌++◌,
-  ◌∷◌,
-  [],
-  length,
-  All,
-  OnOk,
-};
+ghost use Rattle.std.specs.Prelude.{◌≡◌, ◌≤◌, ◌<◌, [], All};
 ghost use Rattle.std.specs.List.Sorted.{IsStrictlyIncreasing};
 ghost use Rattle.pk_model.specs.Collection.{numbers_of};
 ghost use Rattle.pk_model.specs.Views.{doc_of};

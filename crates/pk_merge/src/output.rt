@@ -9,8 +9,6 @@ ghost use Rattle.std.specs.Prelude.{
   ◌^◌,
   ◌++◌,
   [],
-  ℕ,
-  List,
   length,
   take,
   drop,

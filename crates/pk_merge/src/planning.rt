@@ -1,6 +1,6 @@
 //! The index of a merge, planned by going through the words of all inputs.
 
-ghost use Rattle.std.specs.Prelude.{◌≡◌, ◌≤◌, [], List, length, All, IfOk};
+ghost use Rattle.std.specs.Prelude.{◌≡◌, [], List, length, All, IfOk};
 ghost use Rattle.pk_disk.specs.Frames.{KeepsDisk};
 ghost use Rattle.pk_join.specs.Inputs.{LiesInside};
 ghost use Rattle.pk_join.specs.Walk.{HasCome, IsWalkOf, walk_room};

@@ -17,7 +17,6 @@ ghost use Rattle.std.specs.Prelude.{
 ghost use Rattle.pk_disk.specs.Frames.{KeepsDisk};
 ghost use Rattle.pk_disk.specs.Units.{extent_bytes, start_of};
 ghost use Rattle.pk_join.specs.Inputs.{HasKind, LiesInside, SpellsInputs};
-ghost use Rattle.pk_join.specs.Reading.{IndexesAs, ListsAs, TextListsAs};
 ghost use Rattle.pk_merge.specs.Gathering.{RiseFrom};
 ghost use Rattle.pk_merge.specs.Inputs.{ReadsAs};
 ghost use Rattle.pk_merge.specs.Keeping.{AreKept, KeepsBetween, StayApart};

@@ -1,6 +1,6 @@
 //! The operands of a chain of `AND`, and the plans of operands.
 
-ghost use Rattle.std.specs.Prelude.{◌≡◌, ◌&&◌, ◌<◌, ◌≤◌, ℕ, Bool, List, length, not, slice_index};
+ghost use Rattle.std.specs.Prelude.{◌≡◌, ◌&&◌, ◌<◌, ◌≤◌, ℕ, List, length, not, slice_index};
 ghost use Rattle.std.specs.Prelude.{IfOk, OnOk, string_bytes, true};
 ghost use Rattle.std.specs.List.{list_any};
 ghost use Rattle.std.specs.Str.{bytes_eq};

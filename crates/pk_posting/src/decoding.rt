@@ -1,6 +1,6 @@
 //! A list taken out of its bytes.
 
-ghost use Rattle.std.specs.Prelude.{◌≡◌, ◌+◌, ◌*◌, ◌/◌, ◌%◌, ◌<◌, ◌≤◌, ◌∷◌, ◌++◌, ◌↔◌};
+ghost use Rattle.std.specs.Prelude.{◌≡◌, ◌+◌, ◌*◌, ◌/◌, ◌%◌, ◌<◌, ◌≤◌, ◌++◌, ◌↔◌};
 ghost use Rattle.std.specs.Prelude.{ℕ, List, [], length, IfOk, IfErr, OnOk, IsTrue, MatchResult};
 ghost use Rattle.std.specs.Prelude.{true, slice_index, MatchOption, vec_capacity, vec_len};
 ghost use Rattle.pk_posting.specs.Posting.{word, differences, IsRightBlock, NeedsBits, Spells};

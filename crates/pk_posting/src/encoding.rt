@@ -1,13 +1,13 @@
 //! A list put into its bytes.
 
 ghost use Rattle.std.specs.Prelude.{◌≡◌, ◌+◌, ◌*◌, ◌/◌, ◌%◌, ◌<◌, ◌≤◌, ◌++◌, ◌∷◌, if◌then◌else◌};
-ghost use Rattle.std.specs.Prelude.{ℕ, List, [], length, take, drop, slice_index, IfOk, nat_eq};
+ghost use Rattle.std.specs.Prelude.{[], length, take, drop, slice_index, IfOk, nat_eq};
 ghost use Rattle.std.specs.Int.{w32, to_le_bytes};
 ghost use Rattle.pk_lanes.specs.Packed.{FitIn};
 ghost use Rattle.pk_posting.specs.Posting.{IsPosting, Spells, tail_bytes, seed, block};
 ghost use Rattle.pk_posting.specs.Spelling.{spelling, widths_of, width_at, differences_of};
 ghost use Rattle.pk_posting.specs.Spelling.{offset_of, packed_bytes, entry, width_byte, width_row};
-ghost use Rattle.pk_posting.specs.Spelling.{block_bytes, joined, body_of};
+ghost use Rattle.pk_posting.specs.Spelling.{joined, body_of};
 ghost use Rattle.pk_posting.specs.Tails.{Climbs};
 
 use crate::fields::last_number;

@@ -1,6 +1,6 @@
 //! The parts of a list that lies in a source, each taken out by a few stretches.
 
-ghost use Rattle.std.specs.Prelude.{◌≡◌, ◌+◌, ◌*◌, ◌/◌, ◌%◌, ◌<◌, ◌≤◌, ◌^◌};
+ghost use Rattle.std.specs.Prelude.{◌≡◌, ◌+◌, ◌*◌, ◌/◌, ◌%◌, ◌<◌, ◌≤◌};
 ghost use Rattle.std.specs.Prelude.{ℕ, List, length, take, drop, slice_index};
 ghost use Rattle.std.specs.Prelude.{IfOk, IfErr, IsOk, MatchResult, true};
 ghost use Rattle.pk_posting.specs.Posting.{Spells, base, block, tail_place, word};

@@ -1,6 +1,6 @@
 //! A segment made of its documents.
 
-ghost use Rattle.std.specs.Prelude.{◌≡◌, ◌≤◌, ◌<◌, ◌+◌, ◌*◌, ◌^◌, ◌++◌, length, All, IfOk, OnOk};
+ghost use Rattle.std.specs.Prelude.{◌≡◌, ◌≤◌, ◌<◌, ◌+◌, ◌*◌, ◌^◌, ◌++◌, length, All, OnOk};
 ghost use Rattle.std.specs.List.Sorted.{IsStrictlyIncreasing};
 ghost use Rattle.pk_model.specs.Collection.{numbers_of};
 ghost use Rattle.pk_model.specs.Views.{doc_of};
@@ -13,7 +13,6 @@ ghost use Rattle.pk_segment.specs.Spelling.{
   docs_of,
   header,
   le32,
-  longest,
   segment_spelling,
   texts,
 };

@@ -12,13 +12,7 @@ ghost use Rattle.std.specs.Prelude.{
   IsErrOf,
 };
 ghost use Rattle.pk_posting.specs.Source.{CountsFaults};
-ghost use Rattle.pk_segment.specs.Fields.{
-  IsHeader,
-  header_field,
-  is_plain,
-  is_sound,
-  number_at,
-};
+ghost use Rattle.pk_segment.specs.Fields.{IsHeader, header_field, is_sound, number_at};
 
 use pk_posting::{ByteSource, SourceFault};
 

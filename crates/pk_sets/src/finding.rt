@@ -1,6 +1,6 @@
 //! Where the numbers of a rising list are no longer below a number.
 
-ghost use Rattle.std.specs.Prelude.{ℕ, ◌+◌, ◌-◌, ◌*◌, ◌<◌, ◌≤◌, ◌↔◌, IsTrue, length, slice_index};
+ghost use Rattle.std.specs.Prelude.{◌+◌, ◌-◌, ◌*◌, ◌<◌, ◌≤◌, ◌↔◌, IsTrue, length, slice_index};
 ghost use Rattle.std.specs.List.Sorted.{IsStrictlyIncreasing};
 
 // The index of the first number that is not below x, by halving.

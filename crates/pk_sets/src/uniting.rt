@@ -1,6 +1,6 @@
 //! The union by a merge of both halves side by side, or by the runs of the longer list.
 
-ghost use Rattle.std.specs.Prelude.{◌≡◌, ℕ, ◌+◌, ◌-◌, ◌<◌, ◌≤◌, length, take, drop, ◌++◌};
+ghost use Rattle.std.specs.Prelude.{◌≡◌, ◌+◌, ◌-◌, ◌<◌, ◌≤◌, length, take, drop, ◌++◌};
 ghost use Rattle.std.specs.List.Sorted.{IsStrictlyIncreasing};
 ghost use Rattle.pk_sets.specs.Cursors.{Reaches};
 ghost use Rattle.pk_sets.specs.Sets.{union};

@@ -1,6 +1,6 @@
 //! Replies to a writer. No call here takes memory.
 
-ghost use Rattle.std.specs.Prelude.{◌≡◌, ◌++◌, true, codes, decimal, map, length};
+ghost use Rattle.std.specs.Prelude.{◌≡◌, ◌++◌, true, codes, decimal, length};
 ghost use Rattle.std.specs.List.{flat_map};
 ghost use Rattle.memchr.specs.Find.{is_byte2};
 ghost use Rattle.pk_model.specs.Views.{reply_of, numbers_in};

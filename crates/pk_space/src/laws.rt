@@ -1,5 +1,5 @@
 //! Laws of places, each the contract of a function with nothing to do.
-ghost use Rattle.std.specs.Prelude.{◌≡◌, ◌⊎◌, ◌<◌, ◌≤◌, Bool, List, true, ℕ};
+ghost use Rattle.std.specs.Prelude.{◌≡◌, ◌⊎◌, ◌<◌, Bool, List, true, ℕ};
 ghost use Rattle.pk_disk.specs.declared.units.Extent.{Extent};
 ghost use Rattle.pk_space.specs.Free.{IsFirstFit, IsFullAt};
 ghost use Rattle.pk_space.specs.Places.{FullAs, PlacedAs};

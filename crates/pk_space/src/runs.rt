@@ -1,5 +1,5 @@
 //! Runs of free units, and the first that fits.
-ghost use Rattle.std.specs.Prelude.{◌≡◌, ◌≤◌, ℕ, true, IfOk};
+ghost use Rattle.std.specs.Prelude.{◌≡◌, ◌≤◌, true, IfOk};
 ghost use Rattle.std.specs.List.{list_all};
 ghost use Rattle.pk_disk.specs.Units.{first_unit, lies_within};
 ghost use Rattle.pk_space.specs.Free.{IsPlace};

@@ -1,6 +1,6 @@
 //! What is committed, on its disk, and what of it is deleted: the body in force with its open
 //! segments, and the one way in which another body takes its place.
-ghost use Rattle.std.specs.Prelude.{◌≡◌, ◌≤◌, ◌<◌, ◌+◌, ◌^◌, ℕ, List, OnErr, false, length};
+ghost use Rattle.std.specs.Prelude.{◌≡◌, ◌≤◌, ◌<◌, ◌+◌, ◌^◌, List, OnErr, false, length};
 ghost use Rattle.std.specs.List.{list_any};
 ghost use Rattle.pk_disk.specs.Frames.{KeepsDisk};
 ghost use Rattle.pk_index.specs.Index.{Keeps};
