@@ -13,7 +13,7 @@ pub struct Entry {
 }
 
 /// Where a dictionary lies in a source, and how many terms it has.
-#[derive(Clone, Copy, Debug, PartialEq, Eq)]
+#[derive(Clone, Copy)]
 pub struct DictPlace {
     /// The place of its first byte.
     pub at: u32,

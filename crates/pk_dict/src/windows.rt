@@ -53,6 +53,13 @@ struct Window {
     held: u32,
 }
 
+// A window that holds nothing.
+const EMPTY: Window = Window {
+    buffer: [0; WINDOW],
+    at: 0,
+    held: 0,
+};
+
 /// A source over the source of a dictionary. It has the same bytes, reads 128 of them at once, and
 /// lends stretches of what it read last: one window is for the offsets of the dictionary and what
 /// lies before them, one for its groups and what follows. So neither drops the other's bytes, and
@@ -93,8 +100,8 @@ impl<'a, S: ByteSource> Windows<'a, S> {
         Windows {
             source,
             split: place.at.saturating_add(4 * groups_of(place.terms)),
-            offsets: empty(),
-            groups: empty(),
+            offsets: EMPTY,
+            groups: EMPTY,
             long: None,
             asked: 0,
         }
@@ -258,17 +265,6 @@ impl<'a, S: ByteSource> ByteSource for Windows<'a, S> {
 
     fn asked(&self) -> u64 {
         self.asked
-    }
-}
-
-// A window that holds nothing.
-fn empty() -> Window
-    ensures { (result.at ≡ 0) × (result.held ≡ 0) }
-{
-    Window {
-        buffer: [0; WINDOW],
-        at: 0,
-        held: 0,
     }
 }
 

@@ -1,5 +1,5 @@
 //! Disks that keep no promise: each call of a store over them returns.
-ghost use Rattle.std.specs.Prelude.{◌≡◌, ◌≤◌, ◌+◌, ℕ, List, length, true};
+ghost use Rattle.std.specs.Prelude.{◌≡◌, true};
 
 use crate::calls::new_store;
 use crate::player::told;
