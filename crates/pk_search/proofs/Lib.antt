@@ -3,6 +3,7 @@ pub mod CacheLemmas
 pub mod EntryLemmas
 pub mod FindingLemmas
 mod JoinLemmas
+mod LeftLemmas
 mod ListLemmas
 mod LiveLemmas
 pub mod LookUpLemmas

@@ -1,6 +1,7 @@
 -- The definitions that the contracts cite.
 pub mod Cached
 pub mod Finding
+pub mod Left
 pub mod Matching
 pub mod Opened
 pub mod Opening

@@ -3,6 +3,7 @@ ghost use Rattle.std.specs.Prelude.{◌≡◌, ℕ, List, length, OnOk, MatchRes
 ghost use Rattle.std.specs.List.Sorted.{IsStrictlyIncreasing};
 ghost use Rattle.pk_model.specs.Collection.{Doc};
 ghost use Rattle.pk_search.specs.Cached.{AddsOnlyOf, AreServed, KeepsBlocksOf, Serves};
+ghost use Rattle.pk_search.specs.Left.{IsLeftByRead};
 ghost use Rattle.pk_search.specs.Matching.{ListLies, PutsAs};
 ghost use Rattle.pk_segment.specs.Indexed.{list_with};
 ghost use Rattle.pk_segment.specs.Listing.{LeadsTo};
@@ -49,9 +50,8 @@ fn copy_out<S: ByteSource>(
 ) -> Result<(), ReadFault>
     ensures numbers { S.honest → (xs : List ℕ) → ListLies (S.content source.old) place xs
         → count ≡ length xs → PutsAs xs out.new.items result }
-    ensures content { S.honest → S.content source.new ≡ S.content source.old }
-    ensures keeps { S.keeps source.old source.new }
-    ensures faults { CountsReads (S.failures source.old) (S.failures source.new) result }
+    ensures left { IsLeftByRead S.honest S.content S.failures S.keeps
+        result source.old source.new }
 {
     out.clear();
     let mut cursor = Cursor::open(source, place);
@@ -86,9 +86,8 @@ fn take_out<S: ByteSource>(
         → KeepsBlocksOf id (S.content source.old) cache.new }
     ensures adds { AddsOnlyOf id cache.old cache.new }
     ensures rising { OnOk result (IsStrictlyIncreasing out.new.items) }
-    ensures content { S.honest → S.content source.new ≡ S.content source.old }
-    ensures keeps { S.keeps source.old source.new }
-    ensures faults { CountsReads (S.failures source.old) (S.failures source.new) result }
+    ensures left { IsLeftByRead S.honest S.content S.failures S.keeps
+        result source.old source.new }
 {
     match cache {
         None => copy_out(source, place, count, out)?,
@@ -110,9 +109,8 @@ fn seek_each<S: ByteSource>(
     requires { IsStrictlyIncreasing numbers.old.items }
     ensures numbers { S.honest → (xs : List ℕ) → ListLies (S.content source.old) place xs
         → PutsAs (intersection numbers.old.items xs) numbers.new.items result }
-    ensures content { S.honest → S.content source.new ≡ S.content source.old }
-    ensures keeps { S.keeps source.old source.new }
-    ensures faults { CountsReads (S.failures source.old) (S.failures source.new) result }
+    ensures left { IsLeftByRead S.honest S.content S.failures S.keeps
+        result source.old source.new }
 {
     let mut cursor = Cursor::open(source, place);
     if let Some(fault) = cursor.fault() {
@@ -141,9 +139,8 @@ fn cut_in<S: ByteSource>(
     ensures numbers { S.honest → (xs : List ℕ) → ListLies (S.content source.old) place xs
         → PutsAs (intersection numbers.old.items xs) numbers.new.items result }
     ensures rising { OnOk result (IsStrictlyIncreasing numbers.new.items) }
-    ensures content { S.honest → S.content source.new ≡ S.content source.old }
-    ensures keeps { S.keeps source.old source.new }
-    ensures faults { CountsReads (S.failures source.old) (S.failures source.new) result }
+    ensures left { IsLeftByRead S.honest S.content S.failures S.keeps
+        result source.old source.new }
 {
     seek_each(source, place, numbers)?;
     if !is_rising(numbers) {
@@ -166,9 +163,8 @@ pub(crate) fn put_word<S: ByteSource>(
     ensures rising { OnOk result (IsStrictlyIncreasing out.new.items) }
     ensures served { Serves S.honest lists.now (S.content source.old) cache.old
         (S.content source.new) cache.new }
-    ensures content { S.honest → S.content source.new ≡ S.content source.old }
-    ensures keeps { S.keeps source.old source.new }
-    ensures faults { CountsReads (S.failures source.old) (S.failures source.new) result }
+    ensures left { IsLeftByRead S.honest S.content S.failures S.keeps
+        result source.old source.new }
 {
     let Some(entry) = entry_for(alloc, source, lists, word)? else {
         out.clear();
@@ -204,9 +200,8 @@ pub(crate) fn cut_word<S: ByteSource>(
     ensures rising { OnOk result (IsStrictlyIncreasing numbers.new.items) }
     ensures served { Serves S.honest lists.now (S.content source.old) cache.old
         (S.content source.new) cache.new }
-    ensures content { S.honest → S.content source.new ≡ S.content source.old }
-    ensures keeps { S.keeps source.old source.new }
-    ensures faults { CountsReads (S.failures source.old) (S.failures source.new) result }
+    ensures left { IsLeftByRead S.honest S.content S.failures S.keeps
+        result source.old source.new }
 {
     if numbers.is_empty() {
         return Ok(());

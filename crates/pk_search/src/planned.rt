@@ -20,10 +20,10 @@ ghost use Rattle.pk_plan.specs.Plans.{
 };
 ghost use Rattle.pk_search.specs.Cached.{AreServed, Serves};
 ghost use Rattle.pk_search.specs.Finding.{FoundAs};
+ghost use Rattle.pk_search.specs.Left.{IsLeftByRead};
 ghost use Rattle.pk_search.specs.Matching.{IsPlanFor, PutsAs};
 ghost use Rattle.pk_search.specs.Opened.{with_deleted};
 ghost use Rattle.pk_segment.specs.Opened.{IsSegmentOf};
-ghost use Rattle.pk_segment.specs.Reading.{CountsReads};
 ghost use Rattle.pk_segment.specs.Spelling.{DirectorySpells};
 ghost use Rattle.pk_state.specs.Committed.{Stored, live_of};
 
@@ -50,9 +50,8 @@ fn put_all<S: ByteSource>(
         → DirectorySpells (S.content source.old) docs 2 → IsSegmentOf segment.now docs
         → PutsAs (numbers_of docs) out.new.items result }
     ensures rising { OnOk result (IsStrictlyIncreasing out.new.items) }
-    ensures content { S.honest → S.content source.new ≡ S.content source.old }
-    ensures keeps { S.keeps source.old source.new }
-    ensures faults { CountsReads (S.failures source.old) (S.failures source.new) result }
+    ensures left { IsLeftByRead S.honest S.content S.failures S.keeps
+        result source.old source.new }
 {
     let numbers = segment.numbers(alloc, source)?;
     if !is_rising(&numbers) {
@@ -81,9 +80,8 @@ fn cut_words<S: ByteSource>(
     ensures rising { OnOk result (IsStrictlyIncreasing numbers.new.items) }
     ensures served { Serves S.honest lists.now (S.content source.old) cache.old
         (S.content source.new) cache.new }
-    ensures content { S.honest → S.content source.new ≡ S.content source.old }
-    ensures keeps { S.keeps source.old source.new }
-    ensures faults { CountsReads (S.failures source.old) (S.failures source.new) result }
+    ensures left { IsLeftByRead S.honest S.content S.failures S.keeps
+        result source.old source.new }
 {
     let mut list = Vec::new(alloc);
     for i in 0..words.len() {
@@ -118,9 +116,8 @@ fn put_words<S: ByteSource>(
     ensures rising { OnOk result (IsStrictlyIncreasing out.new.items) }
     ensures served { Serves S.honest lists.now (S.content source.old) cache.old
         (S.content source.new) cache.new }
-    ensures content { S.honest → S.content source.new ≡ S.content source.old }
-    ensures keeps { S.keeps source.old source.new }
-    ensures faults { CountsReads (S.failures source.old) (S.failures source.new) result }
+    ensures left { IsLeftByRead S.honest S.content S.failures S.keeps
+        result source.old source.new }
 {
     if words.is_empty() {
         return put_all(alloc, source, lists.segment, out);
@@ -146,9 +143,8 @@ fn carry_out<S: ByteSource>(
     ensures rising { OnOk result (IsStrictlyIncreasing out.new.items) }
     ensures served { Serves S.honest lists.now (S.content source.old) cache.old
         (S.content source.new) cache.new }
-    ensures content { S.honest → S.content source.new ≡ S.content source.old }
-    ensures keeps { S.keeps source.old source.new }
-    ensures faults { CountsReads (S.failures source.old) (S.failures source.new) result }
+    ensures left { IsLeftByRead S.honest S.content S.failures S.keeps
+        result source.old source.new }
 {
     match plan {
         Plan::Term(word) => put_word(alloc, source, cache, lists, word.as_str(), out),
@@ -188,9 +184,8 @@ fn cut_part<S: ByteSource>(
     ensures rising { OnOk result (IsStrictlyIncreasing numbers.new.items) }
     ensures served { Serves S.honest lists.now (S.content source.old) cache.old
         (S.content source.new) cache.new }
-    ensures content { S.honest → S.content source.new ≡ S.content source.old }
-    ensures keeps { S.keeps source.old source.new }
-    ensures faults { CountsReads (S.failures source.old) (S.failures source.new) result }
+    ensures left { IsLeftByRead S.honest S.content S.failures S.keeps
+        result source.old source.new }
 {
     if numbers.is_empty() {
         return Ok(());
@@ -221,9 +216,8 @@ fn rule_out<S: ByteSource>(
     ensures rising { OnOk result (IsStrictlyIncreasing numbers.new.items) }
     ensures served { Serves S.honest lists.now (S.content source.old) cache.old
         (S.content source.new) cache.new }
-    ensures content { S.honest → S.content source.new ≡ S.content source.old }
-    ensures keeps { S.keeps source.old source.new }
-    ensures faults { CountsReads (S.failures source.old) (S.failures source.new) result }
+    ensures left { IsLeftByRead S.honest S.content S.failures S.keeps
+        result source.old source.new }
 {
     if numbers.is_empty() {
         return Ok(());
@@ -255,9 +249,8 @@ fn cut_parts<S: ByteSource>(
     ensures rising { OnOk result (IsStrictlyIncreasing numbers.new.items) }
     ensures served { Serves S.honest lists.now (S.content source.old) cache.old
         (S.content source.new) cache.new }
-    ensures content { S.honest → S.content source.new ≡ S.content source.old }
-    ensures keeps { S.keeps source.old source.new }
-    ensures faults { CountsReads (S.failures source.old) (S.failures source.new) result }
+    ensures left { IsLeftByRead S.honest S.content S.failures S.keeps
+        result source.old source.new }
 {
     for i in from..parts.len() {
         cut_part(alloc, source, cache, lists, &parts[i], numbers, spare)?;
@@ -283,9 +276,8 @@ fn unite<S: ByteSource>(
     ensures rising { OnOk result (IsStrictlyIncreasing out.new.items) }
     ensures served { Serves S.honest lists.now (S.content source.old) cache.old
         (S.content source.new) cache.new }
-    ensures content { S.honest → S.content source.new ≡ S.content source.old }
-    ensures keeps { S.keeps source.old source.new }
-    ensures faults { CountsReads (S.failures source.old) (S.failures source.new) result }
+    ensures left { IsLeftByRead S.honest S.content S.failures S.keeps
+        result source.old source.new }
 {
     out.clear();
     let mut list = Vec::new(alloc);
@@ -314,9 +306,8 @@ pub(crate) fn find_planned<S: ByteSource>(
         found.new.items result }
     ensures served { Serves S.honest lists.now (S.content source.old) cache.old
         (S.content source.new) cache.new }
-    ensures content { S.honest → S.content source.new ≡ S.content source.old }
-    ensures keeps { S.keeps source.old source.new }
-    ensures faults { CountsReads (S.failures source.old) (S.failures source.new) result }
+    ensures left { IsLeftByRead S.honest S.content S.failures S.keeps
+        result source.old source.new }
 {
     let mut hits = Vec::new(alloc);
     let mut spare = Vec::new(alloc);

@@ -30,7 +30,7 @@ returns-then-entry-eq-INDEXED-clause-agrees g c = λ honest are agrees docs inde
       are = record { segment = is; entries = are c.if-entry-eq-INDEXED.true docs index is };
       cached = subst (λ (x : List ℕ). KeepsBlocksOf entry.segment x c.args.cache.now) (sym there) (agrees docs index is);
     }) in
-    subst (λ (x : List ℕ). KeepsBlocksOf entry.segment x c.find_planned.new.cache) (c.find_planned.ensures.content honest ∙ there) served.cached
+    subst (λ (x : List ℕ). KeepsBlocksOf entry.segment x c.find_planned.new.cache) (c.find_planned.ensures.left.same honest ∙ there) served.cached
 
 pub returns-clause-found : goal.returns-clause-found
 returns-clause-found g c = λ honest s indexes is are means agrees.

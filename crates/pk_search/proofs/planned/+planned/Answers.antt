@@ -1,5 +1,5 @@
 -- Each plan by its parts.
-use Rattle.std.proofs.Common.{◌++◌, ◌≡◌, ◌∙◌, List, ℕ, String, Global, take, drop, map, refl, sym, ap, ap₂, subst, arith}
+use Rattle.std.proofs.Common.{◌++◌, ◌≡◌, ◌∙◌, List, ℕ, String, Global, take, drop, map, sym, ap, ap₂, subst, arith}
 use Rattle.std.proofs.lemmas.Result.{err_from_is_err_and}
 use Rattle.pk_plan.proofs.OperationLemmas.{of_exclude, of_intersect, of_unite}
 use Rattle.pk_plan.specs.declared.plans.Plan.{Plan}
@@ -9,6 +9,7 @@ use Rattle.pk_search.proofs.ListLemmas.{puts_fault}
 use Rattle.pk_search.proofs.PlanLemmas.{cut_all, cut_none, cut_one, none_yet, one_more, put_one}
 use Rattle.pk_search.specs.Matching.{PutsAs}
 use Rattle.pk_sets.specs.Sets.{union}
+use Rattle.pk_search.proofs.LeftLemmas.{left_fault, left_none, left_refused, left_then}
 use Rattle.pk_search.proofs.planned.+planned.Goals as goal
 
 pub carry_out-returns-in_ok-put_words-in-Intersect-2-clause-numbers : goal.carry_out-returns-in_ok-put_words-in-Intersect-2-clause-numbers
@@ -37,10 +38,8 @@ carry_out-returns-in_ok-carry_out-in-Exclude-clause-numbers g t c = λ h docs se
 
 pub cut_parts-loop-i-init : goal.cut_parts-loop-i-init
 cut_parts-loop-i-init g t c = record {
-  same = λ h. refl;
+  left = left_none (g.met.S.ByteSource.keeps_self _);
   served = serves_none _ _ _ _;
-  kept = g.met.S.ByteSource.keeps_self _;
-  failures = refl;
   rising = c.requires;
   numbers = λ h docs served o e. e ∙ cut_none o docs served.index.front.spelled.are.rising
       ∙ ap (λ (ps : List Plan). found (Both o (both_all (map operation_of ps))) docs) (sym (none_yet c.args.parts.now.items c.args.from));
@@ -61,10 +60,8 @@ cut_parts-loop-i-preserved g t c =
     let i = c.loop-i.i in
     let part = c.index.result.now in
     record {
-      same = λ h. c.cut_part.ensures.content h ∙ before.same h;
+      left = left_then g.met.S.ByteSource.keeps_then before.left c.in_ok-cut_part.ensures.left;
       served = serves_then _ _ _ _ _ _ _ _ before.served c.cut_part.ensures.served;
-      kept = g.met.S.ByteSource.keeps_then _ _ _ before.kept c.cut_part.ensures.keeps;
-      failures = c.in_ok-cut_part.ensures.faults.ok ∙ before.failures;
       rising = c.in_ok-cut_part.ensures.rising;
       numbers = λ h docs served o e. (
           let here = before.served.served h docs served in
@@ -81,10 +78,8 @@ unite-loop-i-preserved g t c =
     let i = c.loop-i.i in
     let part = c.index.result.now in
     record {
-      same = λ h. c.carry_out.ensures.content h ∙ before.same h;
+      left = left_then g.met.S.ByteSource.keeps_then before.left c.in_ok-carry_out.ensures.left;
       served = serves_then _ _ _ _ _ _ _ _ before.served c.carry_out.ensures.served;
-      kept = g.met.S.ByteSource.keeps_then _ _ _ before.kept c.carry_out.ensures.keeps;
-      failures = c.in_ok-carry_out.ensures.faults.ok ∙ before.failures;
       rising = c.in_ok-put_either.ensures.rising;
       numbers = λ h docs served. (
           let here = before.served.served h docs served in
@@ -94,3 +89,60 @@ unite-loop-i-preserved g t c =
           ∙ put_one (operation_of part) so_far docs served.index.front.spelled.are.rising
           ∙ ap (λ (ops : List Operation). found (either_all ops) docs) (sym (one_more operation_of parts 0 i part (omega arith) (omega arith) c.index.ensures)));
     }
+
+pub carry_out-returns-in_err-carry_out-in-Intersect-clause-left : goal.carry_out-returns-in_err-carry_out-in-Intersect-clause-left
+carry_out-returns-in_err-carry_out-in-Intersect-clause-left g t c = left_fault c.in_err-carry_out-in-Intersect.ensures.left c.from_residual.ensures.1
+
+pub carry_out-returns-in_err-put_words-in-Intersect-2-clause-left : goal.carry_out-returns-in_err-put_words-in-Intersect-2-clause-left
+carry_out-returns-in_err-put_words-in-Intersect-2-clause-left g t c = left_fault c.in_err-put_words-in-Intersect-2.ensures.left c.from_residual-in_err-put_words-in-Intersect-2.ensures.1
+
+pub carry_out-returns-in_err-carry_out-in-Exclude-clause-left : goal.carry_out-returns-in_err-carry_out-in-Exclude-clause-left
+carry_out-returns-in_err-carry_out-in-Exclude-clause-left g t c = left_fault c.in_err-carry_out-in-Exclude.ensures.left c.from_residual-in_err-carry_out-in-Exclude.ensures.1
+
+pub carry_out-returns-in_ok-carry_out-in-Intersect-clause-left : goal.carry_out-returns-in_ok-carry_out-in-Intersect-clause-left
+carry_out-returns-in_ok-carry_out-in-Intersect-clause-left g t c = left_then g.met.S.ByteSource.keeps_then c.in_ok-carry_out-in-Intersect.ensures.left c.cut_parts.ensures.left
+
+pub carry_out-returns-in_ok-put_words-in-Intersect-2-clause-left : goal.carry_out-returns-in_ok-put_words-in-Intersect-2-clause-left
+carry_out-returns-in_ok-put_words-in-Intersect-2-clause-left g t c = left_then g.met.S.ByteSource.keeps_then c.in_ok-put_words-in-Intersect-2.ensures.left c.cut_parts-in-Intersect-2.ensures.left
+
+pub carry_out-returns-in_ok-carry_out-in-Exclude-clause-left : goal.carry_out-returns-in_ok-carry_out-in-Exclude-clause-left
+carry_out-returns-in_ok-carry_out-in-Exclude-clause-left g t c = left_then g.met.S.ByteSource.keeps_then c.in_ok-carry_out-in-Exclude.ensures.left c.rule_out.ensures.left
+
+pub cut_part-returns-then-is_empty-clause-left : goal.cut_part-returns-then-is_empty-clause-left
+cut_part-returns-then-is_empty-clause-left g t c = left_none (g.met.S.ByteSource.keeps_self _)
+
+pub cut_part-returns-in_err-carry_out-clause-left : goal.cut_part-returns-in_err-carry_out-clause-left
+cut_part-returns-in_err-carry_out-clause-left g t c = left_fault c.in_err-carry_out.ensures.left c.from_residual.ensures.1
+
+pub cut_part-returns-in_err-keep_both-clause-left : goal.cut_part-returns-in_err-keep_both-clause-left
+cut_part-returns-in_err-keep_both-clause-left g t c = left_refused c.in_ok-carry_out.ensures.left c.from_residual-in_err-keep_both.ensures.1
+
+pub cut_part-returns-clause-left : goal.cut_part-returns-clause-left
+cut_part-returns-clause-left g t c = c.in_ok-carry_out.ensures.left
+
+pub cut_parts-returns-in_err-cut_part-clause-left : goal.cut_parts-returns-in_err-cut_part-clause-left
+cut_parts-returns-in_err-cut_part-clause-left g t c = left_fault (left_then g.met.S.ByteSource.keeps_then c.loop-i.invariant.left c.in_err-cut_part.ensures.left) c.from_residual.ensures.1
+
+pub cut_parts-returns-clause-left : goal.cut_parts-returns-clause-left
+cut_parts-returns-clause-left g t c = c.loop-i.invariant.left
+
+pub rule_out-returns-then-is_empty-clause-left : goal.rule_out-returns-then-is_empty-clause-left
+rule_out-returns-then-is_empty-clause-left g t c = left_none (g.met.S.ByteSource.keeps_self _)
+
+pub rule_out-returns-in_err-carry_out-clause-left : goal.rule_out-returns-in_err-carry_out-clause-left
+rule_out-returns-in_err-carry_out-clause-left g t c = left_fault c.in_err-carry_out.ensures.left c.from_residual.ensures.1
+
+pub rule_out-returns-in_err-keep_without-clause-left : goal.rule_out-returns-in_err-keep_without-clause-left
+rule_out-returns-in_err-keep_without-clause-left g t c = left_refused c.in_ok-carry_out.ensures.left c.from_residual-in_err-keep_without.ensures.1
+
+pub rule_out-returns-clause-left : goal.rule_out-returns-clause-left
+rule_out-returns-clause-left g t c = c.in_ok-carry_out.ensures.left
+
+pub unite-returns-in_err-carry_out-clause-left : goal.unite-returns-in_err-carry_out-clause-left
+unite-returns-in_err-carry_out-clause-left g t c = left_fault (left_then g.met.S.ByteSource.keeps_then c.loop-i.invariant.left c.in_err-carry_out.ensures.left) c.from_residual.ensures.1
+
+pub unite-returns-in_err-put_either-clause-left : goal.unite-returns-in_err-put_either-clause-left
+unite-returns-in_err-put_either-clause-left g t c = left_refused (left_then g.met.S.ByteSource.keeps_then c.loop-i.invariant.left c.in_ok-carry_out.ensures.left) c.from_residual-in_err-put_either.ensures.1
+
+pub unite-returns-clause-left : goal.unite-returns-clause-left
+unite-returns-clause-left g t c = c.loop-i.invariant.left
