@@ -60,7 +60,7 @@ struct Listed {
     list: &'static [u32],
 }
 
-const LISTED: [Listed; 4] = [
+static LISTED: [Listed; 4] = [
     Listed {
         word: "a",
         entry: Some(A),
@@ -148,8 +148,8 @@ fn read_with(rt: &impl Abort, alloc: Global, texts: [u8; 4]) -> Result<(), Fail>
     let segment = Segment::open(&mut source, 78, 2)?;
     has_numbers(rt, alloc, &segment, &mut source)?;
     assert!(rt; segment.postings() == 52);
-    for listed in LISTED {
-        let is = is_listed(alloc, &segment, &mut source, &bytes, listed)?;
+    for listed in &LISTED {
+        let is = is_listed(alloc, &segment, &mut source, &bytes, *listed)?;
         assert!(rt; is, "{}", listed.word);
     }
     has_terms(rt, alloc, &segment, &mut source)

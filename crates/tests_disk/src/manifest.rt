@@ -462,7 +462,7 @@ struct Row {
 
 // On a closed half five calls: the read of its gate, the body, a sync, the gate, a sync. On an open
 // one its gate is closed and synced first. For a first body no gate is read.
-const ROWS: [Row; 4] = [
+static ROWS: [Row; 4] = [
     Row {
         start: Start::Created(0x00),
         calls: 5,
@@ -521,10 +521,10 @@ fn cut_off(rt: &impl Abort, alloc: Global, row: Row, once: bool, pick: u8) -> Re
 #[test]
 fn what_is_cut_off_leaves_the_old_body_or_the_new(rt: HostRuntime) -> Result<(), Fail> {
     let alloc = rt.alloc();
-    for row in ROWS {
+    for row in &ROWS {
         for pick in [0xA7, 0x00, 0xFF] {
-            cut_off(&rt, alloc, row, true, pick)?;
-            cut_off(&rt, alloc, row, false, pick)?;
+            cut_off(&rt, alloc, *row, true, pick)?;
+            cut_off(&rt, alloc, *row, false, pick)?;
             let told = outcome(alloc, row.start, row.calls, false, pick)?;
             assert!(rt; told == (false, row.new));
         }

@@ -263,7 +263,7 @@ fn merge_short_of_memory(rt: HostRuntime) {
 }
 
 // Sizes, and where the eight with the least sum begin.
-const RUNS: [(&[u32], Option<usize>); 5] = [
+static RUNS: [(&[u32], Option<usize>); 5] = [
     (&[1, 1, 1, 1, 1, 1, 1], None),
     (&[9, 1, 1, 1, 1, 1, 1, 1, 1], Some(1)),
     (&[5, 5, 5, 5, 5, 5, 5, 5, 5], Some(0)),
@@ -287,8 +287,8 @@ const RUNS: [(&[u32], Option<usize>); 5] = [
 
 #[test]
 fn the_least_run_is_chosen(rt: HostRuntime) {
-    for (sizes, place) in RUNS {
-        assert_eq!(rt; choose(sizes), place);
+    for (sizes, place) in &RUNS {
+        assert_eq!(rt; choose(sizes), *place);
     }
 }
 

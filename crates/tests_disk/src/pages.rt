@@ -136,7 +136,7 @@ fn reads_give_what_the_disk_below_has(rt: HostRuntime) -> Result<(), Fail> {
 }
 
 // Reads in their order, and how many bytes were read below by then, with two slots.
-const READS: [(u64, usize, u64); 15] = [
+static READS: [(u64, usize, u64); 15] = [
     // The first page, and what is in it.
     (0, 16, 4_096),
     (100, 16, 4_096),
@@ -185,7 +185,7 @@ fn what_is_kept_is_not_read_again(rt: HostRuntime) -> Result<(), Fail> {
 }
 
 // Calls that make 12 calls below, with two slots.
-const CALLS: [Call; 13] = [
+static CALLS: [Call; 13] = [
     Call::Read(0, 16),
     Call::Read(4_090, 16),
     Call::Write(4_090, 8, 252),
@@ -210,8 +210,8 @@ const CALLS_BELOW: u64 = 12;
 fn failed_over(alloc: Global, below: FaultDisk<MemoryDisk>) -> Result<Option<u64>, AllocError> {
     let mut play = Play::new(alloc)?;
     let mut disk = PageCache::new(alloc, below, 2);
-    for call in CALLS {
-        play.call(&mut disk, call);
+    for call in &CALLS {
+        play.call(&mut disk, *call);
     }
     let left = disk.into_inner().into_inner().into_bytes();
     if play.wrong != 0 || left.as_slice() != play.bytes.as_slice() {

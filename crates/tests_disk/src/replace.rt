@@ -337,7 +337,7 @@ struct Row {
     reads: [u64; 3],
 }
 
-const ROWS: [Row; 4] = [
+static ROWS: [Row; 4] = [
     Row {
         with: With::Pieces,
         over_open: false,
@@ -408,10 +408,10 @@ fn cut_off(rt: &impl Abort, alloc: Global, row: Row, once: bool, pick: u8) -> Re
 
 #[test]
 fn a_cut_replacement_leaves_the_old_store_or_the_new(rt: HostRuntime) -> Result<(), Fail> {
-    for row in ROWS {
+    for row in &ROWS {
         for pick in [0xA7, 0x00, 0xFF] {
-            cut_off(&rt, rt.alloc(), row, true, pick)?;
-            cut_off(&rt, rt.alloc(), row, false, pick)?;
+            cut_off(&rt, rt.alloc(), *row, true, pick)?;
+            cut_off(&rt, rt.alloc(), *row, false, pick)?;
         }
     }
     Ok(())
@@ -432,9 +432,9 @@ fn begin_again(rt: &impl Abort, alloc: Global, row: Row, pick: u8) -> Result<(),
 // Also between two writes of the copy, and behind a gate that the first attempt closed.
 #[test]
 fn after_a_failed_read_it_may_begin_again(rt: HostRuntime) -> Result<(), Fail> {
-    for row in ROWS {
+    for row in &ROWS {
         for pick in [0xA7, 0x00, 0xFF] {
-            begin_again(&rt, rt.alloc(), row, pick)?;
+            begin_again(&rt, rt.alloc(), *row, pick)?;
         }
     }
     Ok(())
@@ -454,8 +454,8 @@ fn fail_first(rt: &impl Abort, alloc: Global, row: Row) -> Result<(), Fail> {
 
 #[test]
 fn a_failed_read_of_the_gate_writes_nothing(rt: HostRuntime) -> Result<(), Fail> {
-    for row in ROWS {
-        fail_first(&rt, rt.alloc(), row)?;
+    for row in &ROWS {
+        fail_first(&rt, rt.alloc(), *row)?;
     }
     Ok(())
 }

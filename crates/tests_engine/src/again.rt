@@ -16,7 +16,7 @@ struct Round {
     left: &'static str,
 }
 
-const ROUNDS: [Round; 3] = [
+static ROUNDS: [Round; 3] = [
     // Three segments, of which one has a deletion list, are merged.
     Round {
         before: "

@@ -138,7 +138,7 @@ fn play(rt: &impl Abort, alloc: Global, buffer: &mut Buffer, rows: &[Row]) -> Re
 }
 
 /// Documents that come and leave.
-const ROWS: [Row; 46] = [
+static ROWS: [Row; 46] = [
     (Step::Add, 5, "a b", ""),
     (Step::Add, 6, "c", ""),
     (Step::Find, 0, "NOT a", " 6"),
@@ -231,7 +231,7 @@ fn finds_all(alloc: Global, buffer: &Buffer, text: &str) -> Result<bool, Fail> {
 }
 
 /// What is asked of a full buffer behind that.
-const FULL: [Row; 3] = [
+static FULL: [Row; 3] = [
     (Step::Find, 0, "none", ""),
     (Step::Find, 0, "n4096", " 4096"),
     (Step::Text, 2048, "", "text a n2048"),
@@ -250,7 +250,7 @@ fn four_thousand_and_ninety_six_documents(rt: HostRuntime) -> Result<(), Fail> {
 }
 
 /// Three documents, of which two have the word `a`.
-const THREE: [Row; 3] = [
+static THREE: [Row; 3] = [
     (Step::Add, 1, "a", ""),
     (Step::Add, 2, "b", ""),
     (Step::Add, 3, "b a", ""),

@@ -175,7 +175,7 @@ pub fn is_added(
 }
 
 /// What a full buffer answers, by the length of a text.
-const FULL: [(usize, Result<DocNo, Refusal>); 3] = [
+static FULL: [(usize, Result<DocNo, Refusal>); 3] = [
     (1, Err(Refusal::BufferFull)),
     (0, Ok(DocNo(65))),
     (1_048_577, Err(Refusal::TextTooLong)),
@@ -192,8 +192,8 @@ fn the_buffer_has_its_bytes(rt: HostRuntime) -> Result<(), Fail> {
             "{n}"
         );
     }
-    for (length, answer) in FULL {
-        assert!(rt; is_added(alloc, &mut store, length, answer)?, "{length}");
+    for (length, answer) in &FULL {
+        assert!(rt; is_added(alloc, &mut store, *length, *answer)?, "{length}");
     }
     assert_eq!(rt; store.delete(alloc, DocNo(1)), Ok(()));
     assert!(rt; is_added(alloc, &mut store, 1, Ok(DocNo(66)))?);

@@ -5,7 +5,7 @@ use crate::sessions::SMALL;
 use std::test::Fail;
 
 /// What stores answer.
-pub const SESSIONS: [&str; 10] = [
+pub static SESSIONS: [&str; 10] = [
     // A deletion that no commit has taken is gone with a crash.
     "
     add x => added 1
@@ -282,7 +282,7 @@ pub const SESSIONS: [&str; 10] = [
 ];
 
 /// What is written where. The first segment lies at unit 34, which is byte 17,408.
-pub const PLACES: [&str; 5] = [
+pub static PLACES: [&str; 5] = [
     // A commit with deletions alone writes no segment, and the next segment id stays. Its list goes
     // to unit 35, the first free one; the next list to 36, beside the one in force; the next
     // segment to 35, which is free again.

@@ -596,7 +596,7 @@ const READING: [Sweep; 5] = [
 ];
 
 /// What that store answers where no call fails.
-pub const ANSWERS: [&str; 2] = [
+pub static ANSWERS: [&str; 2] = [
     // Numbers 2 and 4 lie in and between the segments, 6 before the buffer.
     "
     !open => opened
@@ -630,7 +630,7 @@ pub const ANSWERS: [&str; 2] = [
 ];
 
 /// All sweeps, with the line that puts the store on a page cache.
-const SWEEPS: [(&str, &[Sweep]); 8] = [
+static SWEEPS: [(&str, &[Sweep]); 8] = [
     ("", &CREATING),
     ("", &OPENING),
     ("", &COMMITTING),

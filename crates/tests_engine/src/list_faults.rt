@@ -340,7 +340,7 @@ const MERGE_DONE: &str = "
 /// | 27 to 30 | the texts that are left, at once, and the lists once more |
 /// | 31 to 33 | the segment, the body, a sync |
 /// | 34, 35 | the gate, a sync |
-const MERGING: [(u64, u64, &[&str], &str); 7] = [
+static MERGING: [(u64, u64, &[&str], &str); 7] = [
     (18, 24, ONCE, MERGE_AGAIN),
     (18, 24, ON, MERGE_REFUSED),
     (25, 26, EITHER, MERGE_CUT),
@@ -352,11 +352,11 @@ const MERGING: [(u64, u64, &[&str], &str); 7] = [
 
 #[test]
 fn each_call_that_fails_in_a_merge_loses_nothing(rt: HostRuntime) -> Result<(), Fail> {
-    for (first, last, how, session) in MERGING {
+    for (first, last, how, session) in &MERGING {
         let sweep = Sweep {
             before: THREE_SEGMENTS,
-            first,
-            last,
+            first: *first,
+            last: *last,
             how,
             session,
             shut: KEPT,
@@ -368,11 +368,11 @@ fn each_call_that_fails_in_a_merge_loses_nothing(rt: HostRuntime) -> Result<(), 
 }
 
 /// The other sweeps.
-const SWEEPS: [&[Sweep]; 2] = [&COMMITTING, &OPENING];
+static SWEEPS: [&[Sweep]; 2] = [&COMMITTING, &OPENING];
 
 #[test]
 fn each_call_that_fails_loses_nothing(rt: HostRuntime) -> Result<(), Fail> {
-    for sweeps in SWEEPS {
+    for sweeps in &SWEEPS {
         play_sweeps(rt.alloc(), "", sweeps)?;
     }
     Ok(())

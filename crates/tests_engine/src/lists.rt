@@ -25,7 +25,7 @@ const STORE: &str = "
 ";
 
 /// The bytes of a list at unit 40, how many the entry says that it has, and what opening tells.
-pub const LISTS: [(&str, &str, &str); 13] = [
+pub static LISTS: [(&str, &str, &str); 13] = [
     (
         "01 00 00 00 81",
         "05",

@@ -82,7 +82,7 @@ impl Disk for Liar {
 
 /// Lines that meet the disk, and how their replies may begin: bytes alone can bring about damage
 /// and a missing document, and nothing else, since no call fails and memory is ample.
-const ASKED: [(&str, &str, &str); 12] = [
+static ASKED: [(&str, &str, &str); 12] = [
     ("add x", "added ", "added "),
     ("delete 1", "deleted ", "refused damaged"),
     ("commit", "committed", "committed"),

@@ -18,7 +18,7 @@ enum Step {
 
 /// A document is deleted of one of two segments; beside each step how many documents live after it,
 /// and the next number.
-const BEFORE: [(Step, u64, u32); 7] = [
+static BEFORE: [(Step, u64, u32); 7] = [
     (Step::Add("red apple"), 1, 2),
     (Step::Add("red pear"), 2, 3),
     (Step::Commit, 2, 3),
@@ -29,7 +29,7 @@ const BEFORE: [(Step, u64, u32); 7] = [
 ];
 
 /// The store is opened again, with its list; a segment and a list are committed, and all merged.
-const BEHIND: [(Step, u64, u32); 7] = [
+static BEHIND: [(Step, u64, u32); 7] = [
     (Step::Add("red plum"), 3, 5),
     (Step::Delete(3), 2, 5),
     (Step::Commit, 2, 5),
@@ -40,7 +40,7 @@ const BEHIND: [(Step, u64, u32); 7] = [
 ];
 
 /// What is found in the end.
-const FOUND: [(&str, &[DocNo]); 3] = [
+static FOUND: [(&str, &[DocNo]); 3] = [
     ("red", &[DocNo(4)]),
     ("apple", &[]),
     ("NOT apple", &[DocNo(4)]),

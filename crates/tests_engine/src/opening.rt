@@ -25,7 +25,7 @@ pub const STORE: &str = "
 ";
 
 /// What creating and opening tell of that store, byte by byte.
-pub const STORES: [&str; 7] = [
+pub static STORES: [&str; 7] = [
     // It is opened, and no store is made over it.
     "
     !open => opened
@@ -158,7 +158,7 @@ pub const STORES: [&str; 7] = [
 ];
 
 /// What creating and opening tell of disks without a store, and where gate B alone is open.
-pub const DISKS: [&str; 2] = [
+pub static DISKS: [&str; 2] = [
     // The first body and gate A are all that is written on a new disk.
     "
     !disk 32768
@@ -243,7 +243,7 @@ const WITHOUT: &str = "\
 /// What opening tells where both gates are open, by the body of A and that of B. The greater
 /// generation is judged alone, at equal ones that of A: the other body may name units that hold
 /// other bytes by now.
-pub const BOTH: [(&str, &str, &str); 5] = [
+pub static BOTH: [(&str, &str, &str); 5] = [
     (STALE, WITHOUT, "!open => opened\ncount => count 0 next 9\n"),
     (
         STALE,
@@ -280,7 +280,7 @@ fn the_greater_generation_is_opened(rt: HostRuntime) -> Result<(), Fail> {
 
 /// Stores without documents, by generation, next number and next segment id, and what they answer
 /// near the ends of these.
-pub const ENDS: [(&str, &str, &str, &str); 5] = [
+pub static ENDS: [(&str, &str, &str, &str); 5] = [
     // The last number.
     (
         "01 00 00 00 00 00 00 00",

@@ -14,7 +14,7 @@ use std::test::Fail;
 /// Sessions with a failing call below a page cache. A new store is opened in three calls: a sync,
 /// the page of both gates, and the body. One with both gates open needs a page more, for the
 /// generation of half B, and one with a segment the page of that.
-const NUMBERED: [&str; 4] = [
+static NUMBERED: [&str; 4] = [
     // The first sync fails, and the disk is handed back.
     "
     !close
@@ -71,7 +71,7 @@ const NUMBERED: [&str; 4] = [
 
 #[test]
 fn a_numbered_call_below_fails(rt: HostRuntime) -> Result<(), Fail> {
-    for session in NUMBERED {
+    for session in &NUMBERED {
         play_on_pages(rt.alloc(), &[SMALL, session])?;
     }
     Ok(())
@@ -173,38 +173,26 @@ fn play_one(rt: &impl Abort, alloc: Global, script: &str) -> Result<(), Fail> {
     Ok(())
 }
 
-/// What goes before scripts in two parts, and these.
-type Scripts = (&'static str, &'static str, &'static [&'static str]);
-
-/// Sessions on a new store.
-const ON_A_NEW_STORE: [Scripts; 4] = [
-    (SMALL, "", &sessions::SESSIONS),
-    (SMALL, "", &deletions::SESSIONS),
-    (SMALL, "", &deletions::PLACES),
-    (SMALL, KIND_1, &[BY_LISTS]),
-];
-
 #[test]
-fn a_failing_call_below_is_told(rt: HostRuntime) -> Result<(), Fail> {
-    for (first, second, scripts) in ON_A_NEW_STORE {
-        play_each(&rt, rt.alloc(), first, second, scripts)?;
-    }
-    Ok(())
+fn a_failing_call_below_a_new_store_is_told(rt: HostRuntime) -> Result<(), Fail> {
+    let alloc = rt.alloc();
+    play_each(&rt, alloc, SMALL, "", &sessions::SESSIONS)?;
+    play_each(&rt, alloc, SMALL, "", &deletions::SESSIONS)?;
+    play_each(&rt, alloc, SMALL, "", &deletions::PLACES)?;
+    play_each(&rt, alloc, SMALL, KIND_1, &[BY_LISTS])
 }
 
-/// Scripts on disks that are made by hand.
-const BY_HAND: [Scripts; 3] = [
-    (opening::SEGMENTS, opening::STORE, &STORES),
-    ("", "", &DISKS),
-    (faults::READ, "", &faults::ANSWERS),
-];
+#[test]
+fn a_failing_call_below_a_store_by_hand_is_told(rt: HostRuntime) -> Result<(), Fail> {
+    let alloc = rt.alloc();
+    play_each(&rt, alloc, opening::SEGMENTS, opening::STORE, &STORES)?;
+    play_each(&rt, alloc, "", "", &DISKS)?;
+    play_each(&rt, alloc, faults::READ, "", &faults::ANSWERS)
+}
 
 #[test]
 fn a_failing_call_below_a_disk_by_hand_is_told(rt: HostRuntime) -> Result<(), Fail> {
     let alloc = rt.alloc();
-    for (first, second, scripts) in BY_HAND {
-        play_each(&rt, alloc, first, second, scripts)?;
-    }
     for (a, b, end) in &BOTH {
         play_one(&rt, alloc, opening::over_both(alloc, a, b, end)?.as_str())?;
     }

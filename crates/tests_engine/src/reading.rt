@@ -8,7 +8,7 @@ use std::alloc::{AllocError, Global};
 use std::test::Fail;
 
 /// The texts of the documents, by the rest of their number divided by 7.
-const TEXTS: [&str; 7] = ["", "a", "a b", "one two", "three", "four five six", "seven"];
+static TEXTS: [&str; 7] = ["", "a", "a b", "one two", "three", "four five six", "seven"];
 
 /// What opening reads: two gates, two generations of 8 bytes, a body of 8,192, and of each segment
 /// the header of 24 bytes and two entries of 12.

@@ -91,10 +91,10 @@ pub fn play_on(alloc: Global, player: &mut Player, script: &str) -> Result<(), S
 }
 
 /// How many decoded blocks stores keep, which changes no answer.
-pub const BLOCKS: [&str; 4] = ["", "!blocks 1\n", "!blocks 2\n", "!blocks 256\n"];
+pub static BLOCKS: [&str; 4] = ["", "!blocks 1\n", "!blocks 2\n", "!blocks 256\n"];
 
 /// How many pages a page cache below them keeps, which changes no answer either.
-const PAGES: [&str; 2] = ["!pages 1\n", "!blocks 2\n!pages 64\n"];
+static PAGES: [&str; 2] = ["!pages 1\n", "!blocks 2\n!pages 64\n"];
 
 /// Whether a call of the device is to fail in one of the parts. On a page cache it is another call.
 pub fn has_failing_call(parts: &[&str]) -> bool {

@@ -21,7 +21,7 @@ const LAST: u32 = 405;
 
 /// Rare and frequent words, so that numbers are sought; words that no document has; chains, `NOT`
 /// and brackets.
-const QUERIES: [&str; 12] = [
+static QUERIES: [&str; 12] = [
     "r AND f",
     "f AND NOT o AND r",
     "r AND m AND f",

@@ -76,7 +76,7 @@ fn with_room(alloc: Global, room: usize, fails: bool) -> Narrow {
 
 /// Whole inputs, what is written for them, and the end. Nothing behind a `quit` is answered, and a
 /// last line needs no line feed.
-const INPUTS: [(&[u8], &str, Ended); 6] = [
+static INPUTS: [(&[u8], &str, Ended); 6] = [
     (b"add x\nquit\ncount\n", "added 1\nbye\n", Ended::Quit),
     (b"count\nquit", "count 0 next 1\nbye\n", Ended::Quit),
     (b"count", "count 0 next 1\n", Ended::InputEnd),
@@ -152,16 +152,16 @@ fn is_answered_by_pages(
 #[test]
 fn whole_inputs_are_answered(rt: HostRuntime) -> Result<(), Fail> {
     let alloc = rt.alloc();
-    for (bytes, replies, end) in INPUTS {
+    for (bytes, replies, end) in &INPUTS {
         for blocks in BLOCKS {
             assert!(rt;
-                is_answered_by_blocks(alloc, bytes, replies, end, blocks)?,
+                is_answered_by_blocks(alloc, bytes, replies, *end, blocks)?,
                 "{replies}"
             );
         }
         for pages in PAGES {
             assert!(rt;
-                is_answered_by_pages(alloc, bytes, replies, end, pages)?,
+                is_answered_by_pages(alloc, bytes, replies, *end, pages)?,
                 "{replies}"
             );
         }
@@ -169,7 +169,7 @@ fn whole_inputs_are_answered(rt: HostRuntime) -> Result<(), Fail> {
             bytes,
             fails: false,
         };
-        assert!(rt; is_answered(alloc, pieces, replies, Ok(end))?, "{replies}");
+        assert!(rt; is_answered(alloc, pieces, replies, Ok(*end))?, "{replies}");
     }
     Ok(())
 }
@@ -267,7 +267,7 @@ const LINES: &[u8] = b"add new drug\nfind new (drug OR hopes)\nshow 1\nquit\n";
 const WHOLE: &[u8] = b"added 1\nfound 1: 1\ntext new drug\nbye\n";
 
 /// What they are answered without memory for the addition, for the find and for the text.
-const SHORT: [&[u8]; 3] = [
+static SHORT: [&[u8]; 3] = [
     b"refused memory\nfound 0:\nrefused no such document\nbye\n",
     b"added 1\nrefused memory\ntext new drug\nbye\n",
     b"added 1\nfound 1: 1\nrefused memory\nbye\n",
@@ -275,8 +275,8 @@ const SHORT: [&[u8]; 3] = [
 
 /// Whether what was written answers all lines with memory for each of them.
 fn is_whole(rt: &impl Abort, written: &[u8]) -> bool {
-    for short in SHORT {
-        if written == short {
+    for short in &SHORT {
+        if written == *short {
             return false;
         }
     }

@@ -17,7 +17,7 @@ const LARGE: &str = "
 ";
 
 /// What stores answer. Scripts begin with a new store of 64 units.
-pub const SESSIONS: [&str; 17] = [
+pub static SESSIONS: [&str; 17] = [
     // The four documents on schizophrenia of Manning, Raghavan, Schütze 2008, exercise 1.2.
     "
     add breakthrough drug for schizophrenia => added 1
@@ -253,7 +253,7 @@ fn sessions_go_as_written(rt: HostRuntime) -> Result<(), Fail> {
 }
 
 /// The last number, lines for each number from 1 to it, and the lines behind them.
-pub const MANY: [(u32, &str, &str); 3] = [
+pub static MANY: [(u32, &str, &str); 3] = [
     // 64 segments. Without a document a commit isn't refused, and a merge makes room.
     (
         64,
@@ -351,7 +351,7 @@ fn stores_are_filled_up(rt: HostRuntime) -> Result<(), Fail> {
 }
 
 /// A script, the line that is answered otherwise, and that answer.
-const WRONG: [(&str, usize, &str); 10] = [
+static WRONG: [(&str, usize, &str); 10] = [
     (
         "!disk 32768\n!create => created\nadd x => added 2\ncount",
         3,

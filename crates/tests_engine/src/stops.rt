@@ -15,7 +15,7 @@ use std::process::Abort;
 use std::test::Fail;
 
 /// What is asked, as one list of commands.
-const LINES: [&str; 28] = [
+static LINES: [&str; 28] = [
     "add red apple",
     "add red pear",
     "commit",
@@ -47,7 +47,7 @@ const LINES: [&str; 28] = [
 ];
 
 /// What is asked of what is left.
-const QUESTIONS: [&str; 4] = ["find red", "find apple", "find NOT red", "count"];
+static QUESTIONS: [&str; 4] = ["find red", "find apple", "find NOT red", "count"];
 
 /// No more calls of the device are made than these.
 const MOST_CALLS: u64 = 2_000;
@@ -70,7 +70,7 @@ fn command_of(alloc: Global, line: &str) -> Result<Command, Fail> {
 
 fn commands(alloc: Global) -> Result<Vec<Command>, Fail> {
     let mut commands = Vec::new(alloc);
-    for line in LINES {
+    for line in &LINES {
         commands.push(command_of(alloc, line)?)?;
     }
     Ok(commands)
@@ -234,7 +234,7 @@ fn has_all<D: Disk>(
     shelf: &Shelf,
     store: &mut Store<D>,
 ) -> Result<bool, AllocError> {
-    for question in QUESTIONS {
+    for question in &QUESTIONS {
         if !has(alloc, shelf, store, question)? {
             return Ok(false);
         }

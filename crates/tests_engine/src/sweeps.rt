@@ -31,7 +31,7 @@ pub const ON: &[&str] = &[""];
 pub const EITHER: &[&str] = &[" once", ""];
 
 /// What a crash does to open positions, and whether a gate that was being opened is open then.
-const CRASHES: [(&str, bool); 4] = [
+static CRASHES: [(&str, bool); 4] = [
     ("!crash A7\n", true),
     ("!crash 00\n", false),
     ("!crash FF\n", false),
@@ -42,8 +42,8 @@ const CRASHES: [(&str, bool); 4] = [
 fn play_call(alloc: Global, pages: &str, sweep: &Sweep, k: u64) -> Result<(), Fail> {
     for how in sweep.how {
         let plan = format!(in alloc; "{pages}!fail {k}{how}\n")?;
-        for (crash, opens) in CRASHES {
-            let left = if opens { sweep.open } else { sweep.shut };
+        for (crash, opens) in &CRASHES {
+            let left = if *opens { sweep.open } else { sweep.shut };
             let parts = [sweep.before, plan.as_str(), sweep.session, crash, left];
             play_in_each_setting(alloc, &parts)?;
         }

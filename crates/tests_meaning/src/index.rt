@@ -1,5 +1,6 @@
 //! An index that documents come into and leave, asked with the live numbers.
 
+use crate::checks::{equal, equal_of};
 use pk_index::{Index, Row, both_into, fold_into};
 use pk_query::parse;
 use pk_sets::is_rising;
@@ -148,13 +149,26 @@ const STEPS: [(Step, u32, &str, &str); 33] = [
     (Step::List, 0, "Straße", ""),
 ];
 
+/// The step of a row, which a failure names by its number, has the answer that the row wants.
+fn answers(
+    rt: &impl Abort,
+    alloc: Global,
+    index: &mut Index,
+    live: &mut Vec<u32>,
+    row: usize,
+    (step, number, text, wanted): (Step, u32, &str, &str),
+) -> Result<(), Fail> {
+    let answer = taken(alloc, index, live, step, number, text)?;
+    equal_of(rt, (row, number, text), answer.as_str(), wanted);
+    Ok(())
+}
+
 #[test]
 fn documents_come_and_leave(rt: HostRuntime) -> Result<(), Fail> {
     let mut index = Index::new(rt.alloc());
     let mut live = Vec::new(rt.alloc());
-    for (i, (step, number, text, wanted)) in STEPS.iter().enumerate() {
-        let answer = taken(rt.alloc(), &mut index, &mut live, *step, *number, text)?;
-        assert_eq!(rt; answer.as_str(), *wanted, "row {i}: {number} {text:?}");
+    for (i, row) in STEPS.iter().enumerate() {
+        answers(&rt, rt.alloc(), &mut index, &mut live, i, *row)?;
     }
     Ok(())
 }
@@ -173,44 +187,40 @@ fn count(words: &str) -> usize {
     words.split_whitespace().count()
 }
 
-/// What is asked of the documents has this answer.
-fn answers(
+/// A word that each document has, one that one has, and one that none has, have their numbers.
+fn words_have_their_numbers(
     rt: &impl Abort,
     alloc: Global,
     index: &mut Index,
     live: &mut Vec<u32>,
-    step: Step,
-    text: &str,
-    wanted: &str,
 ) -> Result<(), Fail> {
-    let answer = taken(alloc, index, live, step, 0, text)?;
-    assert_eq!(rt; answer.as_str(), wanted, "{text}");
+    let all = shown(alloc, live)?;
+    let rows = [
+        (Step::Find, 0, "NOT none", all.as_str()),
+        (Step::List, 0, "a", all.as_str()),
+        (Step::List, 0, "n4096", " 4096"),
+        (Step::Find, 0, "none", ""),
+    ];
+    for (i, row) in rows.iter().enumerate() {
+        answers(rt, alloc, index, live, i, *row)?;
+    }
     Ok(())
 }
 
 /// The documents 1 to 4,096 have 4,097 words.
 fn has_the_words(rt: &impl Abort, alloc: Global, index: &Index, live: &[u32]) -> Result<(), Fail> {
     let words = terms(alloc, index, live)?;
-    assert_eq!(rt; count(&words), 4097);
+    equal(rt, count(&words), 4097);
     assert!(rt; words.as_bytes().starts_with(b" a n1 n10 n100 n1000 n1001 "));
     Ok(())
 }
 
-/// A word that each document has, one that one has, and one that none has, among 4,097 words.
 #[test]
 fn four_thousand_and_ninety_six_documents(rt: HostRuntime) -> Result<(), Fail> {
     let mut index = Index::new(rt.alloc());
     let mut live = Vec::new(rt.alloc());
     add_many(rt.alloc(), &mut index, &mut live)?;
-    let all = shown(rt.alloc(), &live)?;
-    for (step, text, wanted) in [
-        (Step::Find, "NOT none", all.as_str()),
-        (Step::List, "a", all.as_str()),
-        (Step::List, "n4096", " 4096"),
-        (Step::Find, "none", ""),
-    ] {
-        answers(&rt, rt.alloc(), &mut index, &mut live, step, text, wanted)?;
-    }
+    words_have_their_numbers(&rt, rt.alloc(), &mut index, &mut live)?;
     has_the_words(&rt, rt.alloc(), &index, &live)
 }
 
@@ -229,7 +239,7 @@ fn pieces_are_folded(rt: HostRuntime) -> Result<(), Fail> {
     let mut string = String::new(rt.alloc());
     for (piece, folded) in &FOLDED {
         fold_into(&mut string, piece)?;
-        assert_eq!(rt; string.as_str(), *folded);
+        equal(&rt, string.as_str(), *folded);
     }
     Ok(())
 }

@@ -1,8 +1,10 @@
 //! Plans of queries, worked out by hand.
 
+use crate::checks::{equal, equal_of};
 use pk_plan::{Plan, plan};
 use pk_query::parse;
 use std::alloc::{AllocError, Global};
+use std::process::Abort;
 use std::test::Fail;
 
 // How many documents hold a word. The second entry of `a` doesn't count, and `d` has none.
@@ -58,64 +60,102 @@ fn write_words(out: &mut String, words: &[String]) -> Result<(), AllocError> {
     Ok(())
 }
 
+// Writes the plans with spaces between them, and before the first one unless a bracket was just
+// opened.
+#[cycle(write_plan)]
+fn write_parts(out: &mut String, parts: &[Plan]) -> Result<(), AllocError> {
+    for part in parts {
+        write_space(out)?;
+        write_plan(out, part)?;
+    }
+    Ok(())
+}
+
 // Writes the plan as the rows do.
+#[cycle(write_plan)]
 fn write_plan(out: &mut String, plan: &Plan) -> Result<(), AllocError> {
-    let (words, parts, opening, closing): (&[String], &[Plan], &str, &str) = match plan {
-        Plan::Term(word) => return out.push_str(word.as_str()),
-        Plan::All => return out.push_str("*"),
-        Plan::Intersect(words, parts) => (words.as_slice(), parts, "[", "]"),
-        Plan::Unite(parts) => (&[], parts, "{", "}"),
+    match plan {
+        Plan::Term(word) => out.push_str(word.as_str()),
+        Plan::All => out.push_str("*"),
+        Plan::Intersect(words, parts) => {
+            out.push_str("[")?;
+            write_words(out, words)?;
+            write_parts(out, parts)?;
+            out.push_str("]")
+        }
+        Plan::Unite(parts) => {
+            out.push_str("{")?;
+            write_parts(out, parts)?;
+            out.push_str("}")
+        }
         Plan::Exclude(all, less) => {
             out.push_str("(")?;
             write_plan(out, all)?;
             out.push_str(" - ")?;
             write_plan(out, less)?;
-            return out.push_str(")");
+            out.push_str(")")
         }
-    };
-    out.push_str(opening)?;
-    write_words(out, words)?;
-    for part in parts {
-        write_space(out)?;
-        write_plan(out, part)?;
     }
-    out.push_str(closing)
 }
 
 // The plan of a query text, written down.
 fn planned(alloc: Global, text: &str, table: &[(String, u32)]) -> Result<String, Fail> {
-    let Ok(query) = parse(alloc, text) else {
-        return Err(Fail::from("a text that is no query"));
-    };
+    let query = parse(alloc, text).ok().ok_or("no query")?;
     let mut out = String::new(alloc);
     write_plan(&mut out, &plan(alloc, &query, table)?)?;
     Ok(out)
 }
 
-#[test]
-fn queries_have_their_plans(rt: HostRuntime) -> Result<(), Fail> {
-    let alloc = rt.alloc();
+// How many documents hold a word, as a table.
+fn frequencies(alloc: Global) -> Result<Vec<(String, u32)>, AllocError> {
     let mut table = Vec::new(alloc);
     for (word, frequency) in &FREQUENCIES {
         table.push((String::from_str(alloc, word)?, *frequency))?;
     }
+    Ok(table)
+}
+
+// That a query text has this plan.
+fn has_plan(
+    rt: &impl Abort,
+    alloc: Global,
+    table: &[(String, u32)],
+    text: &str,
+    wanted: &str,
+) -> Result<(), Fail> {
+    equal_of(rt, text, planned(alloc, text, table)?.as_str(), wanted);
+    Ok(())
+}
+
+#[test]
+fn queries_have_their_plans(rt: HostRuntime) -> Result<(), Fail> {
+    let table = frequencies(rt.alloc())?;
     for (text, wanted) in &ROWS {
-        assert_eq!(rt; planned(alloc, text, &table)?.as_str(), *wanted, "{text}");
+        has_plan(&rt, rt.alloc(), &table, text, wanted)?;
     }
     Ok(())
 }
 
-// The longest chain of `AND` that a query may be, and the deepest brackets.
-#[test]
-fn long_and_deep_queries_have_plans(rt: HostRuntime) -> Result<(), Fail> {
-    let alloc = rt.alloc();
+// The longest chain of `AND` that a query may be.
+fn longest(alloc: Global) -> Result<String, AllocError> {
     let mut chain = "a-".repeat(alloc, 2047)?;
     chain.push_str("a")?;
-    assert_eq!(rt; planned(alloc, &chain, &[])?.len(), 4097);
+    Ok(chain)
+}
+
+// The deepest brackets.
+fn deepest(alloc: Global) -> Result<String, AllocError> {
     let mut deep = "NOT (b AND ".repeat(alloc, 64)?;
     deep.push_str("a")?;
     deep.push_str(")".repeat(alloc, 64)?.as_str())?;
-    let written = planned(alloc, &deep, &[])?;
-    assert!(rt; written.as_bytes().starts_with(b"(* - (b - (b - "));
+    Ok(deep)
+}
+
+#[test]
+fn long_and_deep_queries_have_plans(rt: HostRuntime) -> Result<(), Fail> {
+    let long = planned(rt.alloc(), &longest(rt.alloc())?, &[])?;
+    equal(&rt, long.len(), 4097);
+    let deep = planned(rt.alloc(), &deepest(rt.alloc())?, &[])?;
+    assert!(rt; deep.as_bytes().starts_with(b"(* - (b - (b - "));
     Ok(())
 }

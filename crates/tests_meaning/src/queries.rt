@@ -1,22 +1,11 @@
 //! Queries, and faults with their places, worked out by hand from the grammar.
 
+use crate::checks::equal_of;
 use pk_model::Query;
 use pk_query::{QueryFault, fault_of, parse};
 use std::alloc::{AllocError, Global};
 use std::process::Abort;
 use std::test::Fail;
-
-/// What a text is.
-#[derive(Clone, Copy)]
-enum Wanted<'a> {
-    /// It reads as the query that is written so, with a bracket around each operator and what it
-    /// is applied to.
-    Reads(&'a str),
-    /// It reads as a query of so many terms.
-    Terms(u64),
-    /// It has this fault.
-    Fault(QueryFault),
-}
 
 /// A text: so many copies, one behind the other, of what stands before, an opening so many times,
 /// what stands in the middle, and a closing as many times.
@@ -78,25 +67,34 @@ fn terms(query: &Query) -> u64 {
     }
 }
 
-/// The text is what is wanted, by both calls.
-fn check(rt: &impl Abort, alloc: Global, text: &str, wanted: Wanted<'_>) -> Result<(), Fail> {
-    if let Wanted::Fault(fault) = wanted {
-        assert_eq!(rt; fault_of(text), Some(fault), "of {text:?}");
-        assert_eq!(rt; parse(alloc, text).err(), Some(fault), "of {text:?}");
-        return Ok(());
-    }
-    assert_eq!(rt; fault_of(text), None, "of {text:?}");
+/// The query that a text reads as, written so.
+fn written(alloc: Global, text: &str) -> Result<String, Fail> {
     let query = parse(alloc, text).ok().ok_or("no query")?;
-    match wanted {
-        Wanted::Reads(written) => {
-            let mut shown = String::new(alloc);
-            write_query(&mut shown, &query)?;
-            assert_eq!(rt; shown.as_str(), written, "of {text:?}");
-        }
-        Wanted::Terms(n) => assert_eq!(rt; terms(&query), n, "of {text:?}"),
-        Wanted::Fault(_) => {}
-    }
+    let mut out = String::new(alloc);
+    write_query(&mut out, &query)?;
+    Ok(out)
+}
+
+/// The text reads as the query that is written so, with a bracket around each operator and what it
+/// is applied to.
+fn reads(rt: &impl Abort, alloc: Global, text: &str, wanted: &str) -> Result<(), Fail> {
+    equal_of(rt, text, fault_of(text), None);
+    equal_of(rt, text, written(alloc, text)?.as_str(), wanted);
     Ok(())
+}
+
+/// The text reads as a query of so many terms.
+fn has_terms(rt: &impl Abort, alloc: Global, text: &str, wanted: u64) -> Result<(), Fail> {
+    equal_of(rt, text, fault_of(text), None);
+    let query = parse(alloc, text).ok().ok_or("no query")?;
+    equal_of(rt, text, terms(&query), wanted);
+    Ok(())
+}
+
+/// The text has this fault, by both calls.
+fn has_fault(rt: &impl Abort, alloc: Global, text: &str, fault: QueryFault) {
+    equal_of(rt, text, fault_of(text), Some(fault));
+    equal_of(rt, text, parse(alloc, text).err(), Some(fault));
 }
 
 /// Texts with what they read as.
@@ -144,7 +142,7 @@ const READ: [(&str, &str); 35] = [
 #[test]
 fn what_texts_read_as(rt: HostRuntime) -> Result<(), Fail> {
     for (text, written) in &READ {
-        check(&rt, rt.alloc(), text, Wanted::Reads(written))?;
+        reads(&rt, rt.alloc(), text, written)?;
     }
     Ok(())
 }
@@ -225,16 +223,15 @@ const FAULTS: [(&str, QueryFault); 71] = [
 ];
 
 #[test]
-fn the_fault_of_each_text_and_its_place(rt: HostRuntime) -> Result<(), Fail> {
+fn the_fault_of_each_text_and_its_place(rt: HostRuntime) {
     for (text, fault) in &FAULTS {
-        check(&rt, rt.alloc(), text, Wanted::Fault(*fault))?;
+        has_fault(&rt, rt.alloc(), text, *fault);
     }
-    Ok(())
 }
 
 /// Texts at the limits, 64 brackets, 64 `NOT` in a row and 4,096 bytes, with how many terms they
 /// have.
-const WITHIN: [(Repeated<'static>, u64); 9] = [
+static WITHIN: [(Repeated<'static>, u64); 9] = [
     (Repeated(1, "", "(", 64, "a", ")"), 1),
     // Brackets that close make room.
     (Repeated(2, "", "(", 64, "a", ")"), 2),
@@ -250,7 +247,7 @@ const WITHIN: [(Repeated<'static>, u64); 9] = [
 ];
 
 /// Texts at the limits too, and past each, with their faults.
-const PAST: [(Repeated<'static>, QueryFault); 10] = [
+static PAST: [(Repeated<'static>, QueryFault); 10] = [
     (Repeated(1, "", "(", 64, "", ""), QueryFault::Unexpected(64)),
     (Repeated(1, "", "(", 65, "", ""), QueryFault::TooDeep),
     (Repeated(1, "", "(", 65, "a", ")"), QueryFault::TooDeep),
@@ -270,44 +267,65 @@ const PAST: [(Repeated<'static>, QueryFault); 10] = [
     (Repeated(4097, "", "", 1, "a", ""), QueryFault::TooLong),
 ];
 
+/// The text of the row has so many terms.
+fn row_has_terms(
+    rt: &impl Abort,
+    alloc: Global,
+    row: &Repeated<'_>,
+    terms: u64,
+) -> Result<(), Fail> {
+    has_terms(rt, alloc, &row.text(alloc)?, terms)
+}
+
 #[test]
 fn texts_at_the_limits(rt: HostRuntime) -> Result<(), Fail> {
     for (row, terms) in &WITHIN {
-        check(
-            &rt,
-            rt.alloc(),
-            &row.text(rt.alloc())?,
-            Wanted::Terms(*terms),
-        )?;
+        row_has_terms(&rt, rt.alloc(), row, *terms)?;
     }
+    Ok(())
+}
+
+/// The text of the row has this fault.
+fn row_has_fault(
+    rt: &impl Abort,
+    alloc: Global,
+    row: &Repeated<'_>,
+    fault: QueryFault,
+) -> Result<(), Fail> {
+    has_fault(rt, alloc, &row.text(alloc)?, fault);
     Ok(())
 }
 
 #[test]
 fn texts_past_the_limits(rt: HostRuntime) -> Result<(), Fail> {
     for (row, fault) in &PAST {
-        check(
-            &rt,
-            rt.alloc(),
-            &row.text(rt.alloc())?,
-            Wanted::Fault(*fault),
-        )?;
+        row_has_fault(&rt, rt.alloc(), row, *fault)?;
     }
     Ok(())
 }
 
-/// Brackets add nothing to what a text reads as.
+/// Texts with brackets at the limit, which add nothing to what they read as.
+static DEEP: [(Repeated<'static>, &str); 2] = [
+    (Repeated(1, "", "(", 64, "a", ")"), "a"),
+    (Repeated(2, "", "(", 64, "a", ")"), "(a AND a)"),
+];
+
+/// The text of the row reads as the query that is written so.
+fn row_reads(rt: &impl Abort, alloc: Global, row: &Repeated<'_>, wanted: &str) -> Result<(), Fail> {
+    reads(rt, alloc, &row.text(alloc)?, wanted)
+}
+
 #[test]
 fn deep_brackets_read_as_what_is_in_them(rt: HostRuntime) -> Result<(), Fail> {
-    let once = Repeated(1, "", "(", 64, "a", ")").text(rt.alloc())?;
-    check(&rt, rt.alloc(), &once, Wanted::Reads("a"))?;
-    let twice = Repeated(2, "", "(", 64, "a", ")").text(rt.alloc())?;
-    check(&rt, rt.alloc(), &twice, Wanted::Reads("(a AND a)"))
+    for (row, wanted) in &DEEP {
+        row_reads(&rt, rt.alloc(), row, wanted)?;
+    }
+    Ok(())
 }
 
 /// The longest word is kept whole.
 #[test]
 fn a_word_of_4096_letters(rt: HostRuntime) -> Result<(), Fail> {
     let text = "a".repeat(rt.alloc(), 4096)?;
-    check(&rt, rt.alloc(), &text, Wanted::Reads(&text))
+    reads(&rt, rt.alloc(), &text, &text)
 }

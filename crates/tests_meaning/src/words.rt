@@ -2,6 +2,7 @@
 
 ghost use Rattle.std.specs.Prelude.{◌<◌, length};
 
+use crate::checks::{equal, equal_of};
 use pk_words::{WordSet, word_list, words};
 use std::alloc::{AllocError, Global};
 use std::process::Abort;
@@ -25,6 +26,17 @@ fn set_of(alloc: Global, text: &str) -> Result<String, AllocError> {
     Ok(all)
 }
 
+/// The set of the text has each word of its list, and is empty or is not.
+fn check_set(rt: &impl Abort, alloc: Global, text: &str, empty: bool) -> Result<(), AllocError> {
+    let found = words(alloc, text)?;
+    equal_of(rt, text, found.is_empty(), empty);
+    for word in word_list(alloc, text)? {
+        let word = word.as_str();
+        equal_of(rt, (text, word), found.contains(word), true);
+    }
+    Ok(())
+}
+
 /// The text has these words, as a list and as a set.
 fn check_words(
     rt: &impl Abort,
@@ -32,22 +44,17 @@ fn check_words(
     text: &str,
     list: &str,
     set: &str,
-) -> Result<(), Fail> {
-    assert_eq!(rt; list_of(alloc, text)?.as_str(), list);
-    assert_eq!(rt; set_of(alloc, text)?.as_str(), set);
-    let found = words(alloc, text)?;
-    assert_eq!(rt; found.is_empty(), set.is_empty());
-    for word in word_list(alloc, text)? {
-        assert!(rt; found.contains(word.as_str()), "{word} of {text:?}");
-    }
-    Ok(())
+) -> Result<(), AllocError> {
+    equal_of(rt, text, list_of(alloc, text)?.as_str(), list);
+    equal_of(rt, text, set_of(alloc, text)?.as_str(), set);
+    check_set(rt, alloc, text, set.is_empty())
 }
 
 /// The text has none of some that are no words, or not folded, or not in it.
-fn check_absent(rt: &impl Abort, alloc: Global, text: &str) -> Result<(), Fail> {
+fn check_absent(rt: &impl Abort, alloc: Global, text: &str) -> Result<(), AllocError> {
     let found = words(alloc, text)?;
     for word in ["", "e-mail", "Straße", "zz"] {
-        assert!(rt; !found.contains(word), "{word:?} of {text:?}");
+        equal_of(rt, (text, word), found.contains(word), false);
     }
     Ok(())
 }
@@ -94,28 +101,38 @@ fn the_words_of_texts(rt: HostRuntime) -> Result<(), Fail> {
 }
 
 /// The word at a place of the set is the number that many above 10,000.
-fn check_place(rt: &impl Abort, alloc: Global, set: &WordSet, i: usize) -> Result<(), Fail>
+fn check_place(rt: &impl Abort, alloc: Global, set: &WordSet, i: usize) -> Result<(), AllocError>
     requires { i < length set.now }
 {
     let word = format!(in alloc; "{}", 10_000u64.saturating_add(i as u64))?;
-    assert_eq!(rt; set.get(i), word.as_str());
-    assert!(rt; set.contains(word.as_str()));
+    equal(rt, set.get(i), word.as_str());
+    equal(rt, set.contains(word.as_str()), true);
     Ok(())
+}
+
+/// The set has 20,000 numbers from 10,000 on.
+fn check_places(rt: &impl Abort, alloc: Global, set: &WordSet) -> Result<(), AllocError> {
+    equal(rt, set.len(), 20_000);
+    for i in 0..set.len() {
+        check_place(rt, alloc, set, i)?;
+    }
+    Ok(())
+}
+
+/// The numbers from 29,999 down to 10,000.
+fn many_words(alloc: Global) -> Result<String, AllocError> {
+    let mut text = String::new(alloc);
+    for n in 0u32..20_000 {
+        text.push_str(format!(in alloc; "{} ", 29_999 - n)?.as_str())?;
+    }
+    Ok(text)
 }
 
 /// 20,000 numbers of five digits, which rise by bytes as they do by value.
 #[test]
 fn twenty_thousand_words_in_one_text(rt: HostRuntime) -> Result<(), Fail> {
-    let alloc = rt.alloc();
-    let mut text = String::new(alloc);
-    for n in 0u32..20_000 {
-        text.push_str(format!(in alloc; "{} ", 29_999 - n)?.as_str())?;
-    }
-    let set = words(alloc, text.as_str())?;
-    assert_eq!(rt; set.len(), 20_000);
-    for i in 0..set.len() {
-        check_place(&rt, alloc, &set, i)?;
-    }
-    assert_eq!(rt; word_list(alloc, text.as_str())?.len(), 20_000);
+    let text = many_words(rt.alloc())?;
+    check_places(&rt, rt.alloc(), &words(rt.alloc(), &text)?)?;
+    equal(&rt, word_list(rt.alloc(), &text)?.len(), 20_000);
     Ok(())
 }

@@ -140,6 +140,24 @@ fn each_segment_has_its_own_blocks(rt: HostRuntime) -> Result<(), Fail> {
     are_apart(&rt, rt.alloc(), &bytes, &even_bytes)
 }
 
+// That the list has no such block.
+fn has_no_block<S: ByteSource>(
+    rt: &impl Abort,
+    cache: &mut BlockCache,
+    key: BlockKey,
+    place: ListPlace,
+    shape: Shape,
+    source: &mut S,
+)
+    requires at { place.at ≡ key.at }
+    requires lies { LiesIn place (length (S.content source.old)) }
+    requires fits { Fits shape place }
+    ensures lies { LiesIn place (length (S.content source.new)) }
+{
+    let answer = cache.block(key, place, shape, source);
+    equal(rt, answer.err(), Some(SourceFault::Damaged));
+}
+
 // The list has the blocks 0 to 15.
 #[test]
 fn no_block_past_the_end(rt: HostRuntime) -> Result<(), Fail> {
@@ -148,15 +166,13 @@ fn no_block_past_the_end(rt: HostRuntime) -> Result<(), Fail> {
     let mut source = SliceSource::new(&bytes);
     let shape = Shape::read(&mut source, place)?;
     let mut cache = BlockCache::new(rt.alloc(), 1)?;
-    let key = BlockKey { block: 16, ..FIRST };
-    let next = cache.block(key, place, shape, &mut source).err();
-    equal(&rt, next, Some(SourceFault::Damaged));
-    let key = BlockKey {
+    let next = BlockKey { block: 16, ..FIRST };
+    has_no_block(&rt, &mut cache, next, place, shape, &mut source);
+    let last = BlockKey {
         block: 4_294_967_295,
         ..FIRST
     };
-    let last = cache.block(key, place, shape, &mut source).err();
-    equal(&rt, last, Some(SourceFault::Damaged));
+    has_no_block(&rt, &mut cache, last, place, shape, &mut source);
     Ok(())
 }
 

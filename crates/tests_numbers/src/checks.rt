@@ -8,3 +8,13 @@ use std::process::Abort;
 pub fn equal<T: PartialEq + Debug + Copy>(rt: &impl Abort, found: T, wanted: T) {
     assert_eq!(rt; found, wanted);
 }
+
+/// The two are equal, of what a failure names.
+pub fn equal_of<N: Debug + Copy, T: PartialEq + Debug + Copy>(
+    rt: &impl Abort,
+    name: N,
+    found: T,
+    wanted: T,
+) {
+    assert_eq!(rt; found, wanted, "of {name:?}");
+}

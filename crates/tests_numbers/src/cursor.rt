@@ -3,7 +3,7 @@
 
 ghost use Rattle.std.specs.Prelude.{◌<◌, ◌^◌, IfOk, length};
 
-use crate::checks::equal;
+use crate::checks::{equal, equal_of};
 use crate::failing::Failing;
 use crate::made::{amid, apart, uneven};
 use crate::plain::plain_encode;
@@ -100,26 +100,34 @@ fn comes_to<S: ByteSource>(
     equal(rt, cursor.decoded(), decoded);
 }
 
+// Steps, with the number that each comes to and how many blocks are decoded then.
+const WALK: [(Step, Option<u32>, u64); 5] = [
+    (Step::Seek(1500), Some(1500), 2),
+    (Step::Next, Some(1501), 2),
+    (Step::Seek(2), Some(1501), 2),
+    (Step::Seek(2049), None, 2),
+    (Step::Next, None, 2),
+];
+
+// That the row is walked over the bytes of the numbers 1 to 2,048.
+fn is_walked(rt: &impl Abort, bytes: &[u8])
+    requires { length bytes.now < 2 ^ 32 }
+{
+    let mut source = SliceSource::new(bytes);
+    let mut cursor = Cursor::open(&mut source, place_at(0, bytes));
+    equal(rt, cursor.current(), Some(1));
+    equal(rt, cursor.decoded(), 1);
+    for (step, number, decoded) in &WALK {
+        comes_to(rt, &mut cursor, *step, *number, *decoded);
+    }
+    equal(rt, cursor.fault(), None);
+}
+
 #[test]
 fn the_row_is_walked(rt: HostRuntime) -> Result<(), Fail> {
-    let alloc = rt.alloc();
-    let bytes = plain_encode(alloc, &apart(alloc, 1, 1, 2048)?)?;
+    let bytes = plain_encode(rt.alloc(), &apart(rt.alloc(), 1, 1, 2048)?)?;
     assert!(rt; bytes.len() < 1_000_000);
-    let mut source = SliceSource::new(&bytes);
-    let mut cursor = Cursor::open(&mut source, place_at(0, &bytes));
-    equal(&rt, cursor.current(), Some(1));
-    equal(&rt, cursor.decoded(), 1);
-    let steps = [
-        (Step::Seek(1500), Some(1500), 2),
-        (Step::Next, Some(1501), 2),
-        (Step::Seek(2), Some(1501), 2),
-        (Step::Seek(2049), None, 2),
-        (Step::Next, None, 2),
-    ];
-    for (step, number, decoded) in steps {
-        comes_to(&rt, &mut cursor, step, number, decoded);
-    }
-    equal(&rt, cursor.fault(), None);
+    is_walked(&rt, &bytes);
     Ok(())
 }
 
@@ -215,11 +223,16 @@ fn is_found(rt: &impl Abort, alloc: Global, xs: &[u32]) -> Result<(), Fail> {
     Ok(())
 }
 
+// Takes two lists of so many numbers out.
+fn both_are_taken_out(rt: &impl Abort, alloc: Global, count: usize) -> Result<(), Fail> {
+    is_taken_out(rt, alloc, &apart(alloc, 1, 1, count)?)?;
+    is_taken_out(rt, alloc, &uneven(alloc, 100_000, count)?)
+}
+
 #[test]
 fn lists_are_taken_out(rt: HostRuntime) -> Result<(), Fail> {
     for count in LENGTHS {
-        is_taken_out(&rt, rt.alloc(), &apart(rt.alloc(), 1, 1, count)?)?;
-        is_taken_out(&rt, rt.alloc(), &uneven(rt.alloc(), 100_000, count)?)?;
+        both_are_taken_out(&rt, rt.alloc(), count)?;
     }
     Ok(())
 }
@@ -284,12 +297,8 @@ fn ends_damaged(rt: &impl Abort, alloc: Global, prefix: &[u8]) -> Result<(), All
     let mut source = SliceSource::new(prefix);
     let mut cursor = Cursor::open(&mut source, place_at(0, prefix));
     by_next(&mut cursor, &mut Vec::new(alloc))?;
-    assert_eq!(rt;
-        cursor.fault(),
-        Some(SourceFault::Damaged),
-        "{}",
-        prefix.len()
-    );
+    let fault = cursor.fault();
+    equal_of(rt, prefix.len(), fault, Some(SourceFault::Damaged));
     keeps_its_fault(rt, &mut cursor);
     Ok(())
 }
@@ -300,12 +309,8 @@ fn opens_damaged(rt: &impl Abort, prefix: &[u8], place: ListPlace)
 {
     let mut source = SliceSource::new(prefix);
     let mut cursor = Cursor::open(&mut source, place);
-    assert_eq!(rt;
-        cursor.fault(),
-        Some(SourceFault::Damaged),
-        "{}",
-        prefix.len()
-    );
+    let fault = cursor.fault();
+    equal_of(rt, prefix.len(), fault, Some(SourceFault::Damaged));
     keeps_its_fault(rt, &mut cursor);
     equal(rt, source.asked(), 0);
 }

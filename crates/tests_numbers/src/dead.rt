@@ -1,15 +1,15 @@
 //! Deletion lists: worked rows, numbers that come in any order, and lists there and back.
 
-use crate::checks::equal;
+use crate::checks::{equal, equal_of};
 use crate::made::apart;
 use pk_dead::Dead;
 use pk_posting::DecodeFault;
-use std::alloc::Global;
+use std::alloc::{AllocError, Global};
 use std::process::Abort;
 use std::test::Fail;
 
 // Numbers in the order in which they are added, and the bytes of their list.
-const ROWS: [(&[u32], &[u8]); 5] = [
+static ROWS: [(&[u32], &[u8]); 5] = [
     (&[], &[0x00, 0x00, 0x00, 0x00]),
     (&[2], &[0x01, 0x00, 0x00, 0x00, 0x82]),
     (&[5, 5, 5], &[0x01, 0x00, 0x00, 0x00, 0x85]),
@@ -35,7 +35,7 @@ fn added(alloc: Global, numbers: &[u32]) -> Result<Dead, Fail> {
 // That of some numbers the list contains just these.
 fn contains_just(rt: &impl Abort, dead: &Dead, numbers: &[u32]) {
     for n in [1, 2, 5, 829, 4_294_967_295] {
-        assert_eq!(rt; dead.contains(n), numbers.contains(&n), "{n}");
+        equal_of(rt, n, dead.contains(n), numbers.contains(&n));
     }
 }
 
@@ -52,7 +52,7 @@ fn has_bytes(rt: &impl Abort, alloc: Global, numbers: &[u32], bytes: &[u8]) -> R
 
 #[test]
 fn lists_have_their_bytes(rt: HostRuntime) -> Result<(), Fail> {
-    for (numbers, bytes) in ROWS {
+    for (numbers, bytes) in &ROWS {
         has_bytes(&rt, rt.alloc(), numbers, bytes)?;
     }
     Ok(())
@@ -63,19 +63,24 @@ fn comes_back(rt: &impl Abort, alloc: Global, dead: &Dead, rising: &[u32]) -> Re
     let read = Dead::read(alloc, &dead.spell(alloc)?)?;
     equal(rt, read.numbers(), rising);
     equal(rt, read.copy(alloc)?.numbers(), rising);
-    assert!(rt; read.contains(1) && read.contains(300) && !read.contains(301));
+    let has = [read.contains(1), read.contains(300), read.contains(301)];
+    equal(rt, has, [true, true, false]);
     Ok(())
 }
 
-// 127 and 301 have no divisor in common, so their multiples less those of 301 are all numbers
-// below it.
-#[test]
-fn numbers_in_any_order_come_rising(rt: HostRuntime) -> Result<(), Fail> {
-    let mut numbers = apart(rt.alloc(), 127, 127, 300)?;
+// The numbers from 1 to 300 in another order: 127 and 301 have no divisor in common, so the
+// multiples of 127 less those of 301 are all numbers below it.
+fn shuffled(alloc: Global) -> Result<Vec<u32>, AllocError> {
+    let mut numbers = apart(alloc, 127, 127, 300)?;
     for n in numbers.iter_mut() {
         *n %= 301;
     }
-    let dead = added(rt.alloc(), &numbers)?;
+    Ok(numbers)
+}
+
+#[test]
+fn numbers_in_any_order_come_rising(rt: HostRuntime) -> Result<(), Fail> {
+    let dead = added(rt.alloc(), &shuffled(rt.alloc())?)?;
     let rising = apart(rt.alloc(), 1, 1, 300)?;
     equal(&rt, dead.numbers(), rising.as_slice());
     equal(&rt, dead.len(), 300);
@@ -85,7 +90,7 @@ fn numbers_in_any_order_come_rising(rt: HostRuntime) -> Result<(), Fail> {
 // That the bytes spell no list.
 fn is_damaged(rt: &impl Abort, alloc: Global, bytes: &[u8]) {
     let fault = Dead::read(alloc, bytes).err();
-    assert_eq!(rt; fault, Some(DecodeFault::Damaged), "{bytes:?}");
+    equal_of(rt, bytes, fault, Some(DecodeFault::Damaged));
 }
 
 #[test]

@@ -107,7 +107,7 @@ fn written(rt: &impl Abort, alloc: Global, items: &[(Vec<u8>, Entry)]) -> Result
     }
     let size = writer.size();
     let bytes = writer.finish(alloc)?;
-    assert_eq!(rt; bytes.len(), size);
+    equal(rt, bytes.len(), size);
     Ok(bytes)
 }
 
@@ -220,7 +220,7 @@ fn lists(
     items: Option<&[(Vec<u8>, Entry)]>,
 ) -> Result<(), DictFault> {
     let found = dict.entries_with_prefix(alloc, prefix)?;
-    assert_eq!(rt; Some(found.as_slice()), items);
+    equal(rt, Some(found.as_slice()), items);
     Ok(())
 }
 
@@ -245,10 +245,9 @@ fn pair(alloc: Global) -> Result<Items, Fail> {
 
 #[test]
 fn the_row_is_spelled(rt: HostRuntime) -> Result<(), Fail> {
-    let alloc = rt.alloc();
-    let bytes = written(&rt, alloc, &pair(alloc)?)?;
-    assert_eq!(rt; bytes.as_slice(), ROW.as_slice());
-    assert_eq!(rt; written(&rt, alloc, &[])?.len(), 0);
+    let bytes = written(&rt, rt.alloc(), &pair(rt.alloc())?)?;
+    equal(&rt, bytes.as_slice(), ROW.as_slice());
+    equal(&rt, written(&rt, rt.alloc(), &[])?.len(), 0);
     Ok(())
 }
 
@@ -266,7 +265,7 @@ fn terms_that_rise_may_be_added(rt: HostRuntime) -> Result<(), Fail> {
         (b"neW", false),
         (b"", false),
     ] {
-        assert_eq!(rt; writer.may_add(term, 1, place), may);
+        equal(&rt, writer.may_add(term, 1, place), may);
     }
     Ok(())
 }
@@ -305,33 +304,48 @@ fn dictionaries_of_many_shapes_hold_their_terms(rt: HostRuntime) -> Result<(), F
     holds(&rt, alloc, &long_terms(alloc)?)
 }
 
-// Words that start with `ab` are those of the numbers from 1,000 to 1,999: half of them are there.
+// Prefixes, with where the words that begin so are, among those of the even numbers below 10,000:
+// words that start with `ab` are those of the numbers from 1,000 to 1,999, and half of them are
+// there.
+const PREFIXES: [(&str, usize, usize); 9] = [
+    ("", 0, 5_000),
+    ("a", 0, 5_000),
+    ("aa", 0, 500),
+    ("ab", 500, 1_000),
+    ("aj", 4_500, 5_000),
+    ("ajjji", 4_999, 5_000),
+    ("ajjjj", 5_000, 5_000),
+    ("b", 5_000, 5_000),
+    ("A", 0, 0),
+];
+
+// That each prefix lists its terms.
+fn prefixes_list(
+    rt: &impl Abort,
+    alloc: Global,
+    dict: Dict<'_>,
+    terms: &[(Vec<u8>, Entry)],
+) -> Result<(), DictFault> {
+    for (prefix, from, to) in &PREFIXES {
+        let wanted = terms.get(*from..*to);
+        lists(rt, alloc, dict, prefix.as_bytes(), wanted)?;
+    }
+    Ok(())
+}
+
 #[test]
 fn a_prefix_lists_its_terms(rt: HostRuntime) -> Result<(), Fail> {
-    let alloc = rt.alloc();
-    let terms = words(alloc, 5_000)?;
-    let bytes = written(&rt, alloc, &terms)?;
-    let dict = Dict::open(&bytes, 5_000);
-    for (prefix, from, to) in [
-        ("", 0usize, 5_000usize),
-        ("a", 0, 5_000),
-        ("aa", 0, 500),
-        ("ab", 500, 1_000),
-        ("aj", 4_500, 5_000),
-        ("ajjji", 4_999, 5_000),
-        ("ajjjj", 5_000, 5_000),
-        ("b", 5_000, 5_000),
-        ("A", 0, 0),
-    ] {
-        lists(&rt, alloc, dict, prefix.as_bytes(), terms.get(from..to))?;
-    }
+    let terms = words(rt.alloc(), 5_000)?;
+    let bytes = written(&rt, rt.alloc(), &terms)?;
+    prefixes_list(&rt, rt.alloc(), Dict::open(&bytes, 5_000), &terms)?;
     Ok(())
 }
 
 // That a look-up answers over any bytes, and refuses none for want of memory.
 fn looks_up_anyhow(rt: &impl Abort, dict: Dict<'_>) {
-    for term in [b"".as_slice(), b"ne", b"new", b"newt", b"newts", b"o"] {
-        assert!(rt; !matches!(dict.look_up(term), Err(DictFault::Memory)));
+    for term in ["", "ne", "new", "newt", "newts", "o"] {
+        let answer = dict.look_up(term.as_bytes());
+        assert!(rt; !matches!(answer, Err(DictFault::Memory)));
     }
 }
 
@@ -386,21 +400,34 @@ fn a_dictionary_past_the_end_is_damaged(rt: HostRuntime) {
     equal(&rt, source.asked(), 0);
 }
 
+// The dictionary of so many words, which are few.
+fn of_few(rt: &impl Abort, alloc: Global, count: u32) -> Result<Vec<u8>, Fail>
+    ensures { IfOk result (λ v. length v.items < 4096) }
+{
+    let bytes = written(rt, alloc, &words(alloc, count)?)?;
+    assert!(rt; bytes.len() < 4096);
+    Ok(bytes)
+}
+
 // Of 17 terms the second group is read: the windows are asked for its offset and for its term,
 // which one piece has; the offsets are asked for once, and each group.
+fn are_asked_once(rt: &impl Abort, bytes: &[u8])
+    requires { length bytes.now < 4096 }
+{
+    let place = whole(bytes, 17);
+    let mut source = SliceSource::new(bytes);
+    let mut windows = Windows::on(&mut source, place);
+    equal(rt, windows.len() as usize, bytes.len());
+    let found = look_up_in(&mut windows, place, b"aaadc");
+    equal(rt, found, Ok(Some(entry_at(16))));
+    equal(rt, windows.asked(), 2);
+    equal(rt, source.asked(), 2);
+}
+
 #[test]
 fn windows_ask_once(rt: HostRuntime) -> Result<(), Fail> {
-    let alloc = rt.alloc();
-    let bytes = written(&rt, alloc, &words(alloc, 17)?)?;
-    assert!(rt; bytes.len() < 4096);
-    let place = whole(&bytes, 17);
-    let mut source = SliceSource::new(&bytes);
-    let mut windows = Windows::on(&mut source, place);
-    equal(&rt, windows.len() as usize, bytes.len());
-    let found = look_up_in(&mut windows, place, b"aaadc");
-    equal(&rt, found, Ok(Some(entry_at(16))));
-    equal(&rt, windows.asked(), 2);
-    equal(&rt, source.asked(), 2);
+    let bytes = of_few(&rt, rt.alloc(), 17)?;
+    are_asked_once(&rt, &bytes);
     Ok(())
 }
 
@@ -437,21 +464,29 @@ const STRETCHES: [(u32, u32, u64); 12] = [
     (0, 4, 6),
 ];
 
+// That a stretch is lent.
+fn lends(
+    rt: &impl Abort,
+    windows: &mut Windows<'_, SliceSource<'_>>,
+    bytes: &[u8; 1_000],
+    at: u32,
+    n: u32,
+) {
+    let start = at.min(1_000) as usize;
+    let n = n.min(4096);
+    let wanted = bytes.get(start..start + n as usize);
+    equal(rt, windows.lend(at, n).ok(), wanted);
+}
+
 // That a stretch is lent after so many others.
 fn is_lent_after(rt: &impl Abort, bytes: &[u8; 1_000], count: usize, stretch: (u32, u32, u64)) {
     let mut source = SliceSource::new(bytes);
     let mut windows = Windows::on(&mut source, OF_32);
     for (at, n, _) in STRETCHES.iter().take(count) {
-        assert!(rt; windows.lend(*at, (*n).min(4096)).is_ok());
+        lends(rt, &mut windows, bytes, *at, *n);
     }
     let (at, n, asked) = stretch;
-    let start = at.min(1_000) as usize;
-    let n = n.min(4096);
-    equal(
-        rt,
-        windows.lend(at, n).ok(),
-        bytes.get(start..start + n as usize),
-    );
+    lends(rt, &mut windows, bytes, at, n);
     equal(rt, source.asked(), asked);
 }
 
@@ -490,22 +525,28 @@ fn no_window_goes_past_the_end(rt: HostRuntime) {
 // - the fifth of group 0: one piece: 4 + 1;
 // - the tenth of the last group, behind which there is none: the numbers take 2 + 3 + 1 bytes, so ten
 //   terms take 8 * 9 + 2 * 10 = 92, and one piece has them: 2 + 1.
+fn are_spared(rt: &impl Abort, bytes: &[u8], words: &[(Vec<u8>, Entry)]) -> Result<(), Fail>
+    requires { length bytes.now < 2 ^ 32 }
+{
+    let place = whole(bytes, 4096);
+    let mut pivots = [0; 512];
+    for (word, entry) in words {
+        let _asks = asks_near(rt, bytes, place, &mut pivots, word, Some(*entry));
+    }
+    for (at, wanted) in [(1605usize, 5u64), (1615, 6), (5, 5), (4090, 3)] {
+        let (word, entry) = words.get(at).ok_or("a word that is not there")?;
+        let asks = asks_near(rt, bytes, place, &mut pivots, word, Some(*entry));
+        equal(rt, asks, wanted);
+    }
+    Ok(())
+}
+
 #[test]
 fn pivots_spare_asks(rt: HostRuntime) -> Result<(), Fail> {
     let words = words(rt.alloc(), 4096)?;
     let bytes = written(&rt, rt.alloc(), &words)?;
     assert!(rt; bytes.len() < 1_000_000);
-    let place = whole(&bytes, 4096);
-    let mut pivots = [0; 512];
-    for (word, entry) in words.iter() {
-        let _asks = asks_near(&rt, &bytes, place, &mut pivots, word, Some(*entry));
-    }
-    for (at, wanted) in [(1605usize, 5u64), (1615, 6), (5, 5), (4090, 3)] {
-        let (word, entry) = words.get(at).ok_or("a word that is not there")?;
-        let asks = asks_near(&rt, &bytes, place, &mut pivots, word, Some(*entry));
-        equal(&rt, asks, wanted);
-    }
-    Ok(())
+    are_spared(&rt, &bytes, &words)
 }
 
 // The term that is sought over failing sources, the eighteenth of 33.
@@ -516,15 +557,6 @@ const FOUND: Option<Entry> = Some(Entry {
     frequency: 18,
     place: ListPlace { at: 85, bytes: 5 },
 });
-
-// The dictionary of the first 33 words.
-fn of_33(rt: &impl Abort, alloc: Global) -> Result<Vec<u8>, Fail>
-    ensures { IfOk result (λ v. length v.items < 4096) }
-{
-    let bytes = written(rt, alloc, &words(alloc, 33)?)?;
-    assert!(rt; bytes.len() < 4096);
-    Ok(bytes)
-}
 
 // That a look-up whose call after so many others fails answers Disk, and the next one finds the
 // term.
@@ -542,7 +574,7 @@ fn fails_once(rt: &impl Abort, bytes: &[u8], passes: u64)
 // Each call below fails in turn.
 #[test]
 fn each_failed_read_of_a_look_up_is_answered(rt: HostRuntime) -> Result<(), Fail> {
-    let bytes = of_33(&rt, rt.alloc())?;
+    let bytes = of_few(&rt, rt.alloc(), 33)?;
     let asks = asks_in(&rt, &bytes, whole(&bytes, 33), SOUGHT, FOUND);
     for passes in 0..asks {
         fails_once(&rt, &bytes, passes);
@@ -569,7 +601,7 @@ fn fails_once_near(rt: &impl Abort, bytes: &[u8], pivots: &mut [u64; 16], passes
 // The same by a table of pivots, once it has its keys.
 #[test]
 fn each_failed_read_by_pivots_is_answered(rt: HostRuntime) -> Result<(), Fail> {
-    let bytes = of_33(&rt, rt.alloc())?;
+    let bytes = of_few(&rt, rt.alloc(), 33)?;
     let place = whole(&bytes, 33);
     let mut pivots = [0; 16];
     let _first = asks_near(&rt, &bytes, place, &mut pivots, SOUGHT, FOUND);
@@ -593,7 +625,7 @@ fn listed(alloc: Global, bytes: &[u8], passes: u64) -> (Result<usize, EntriesFau
 // A list of entries ends with Disk.
 #[test]
 fn each_failed_read_of_a_list_is_answered(rt: HostRuntime) -> Result<(), Fail> {
-    let bytes = of_33(&rt, rt.alloc())?;
+    let bytes = of_few(&rt, rt.alloc(), 33)?;
     let (entries, asks) = listed(rt.alloc(), &bytes, u64::MAX);
     equal(&rt, entries, Ok(5));
     for passes in 0..asks {
@@ -604,14 +636,20 @@ fn each_failed_read_of_a_list_is_answered(rt: HostRuntime) -> Result<(), Fail> {
 }
 
 // What a failed call leaves in a window is not lent.
-#[test]
-fn a_failed_read_of_a_window_is_answered(rt: HostRuntime) -> Result<(), Fail> {
-    let bytes = of_33(&rt, rt.alloc())?;
-    let place = whole(&bytes, 33);
-    let mut below = Failing::after(&bytes, 0);
+fn fails_once_in_windows(rt: &impl Abort, bytes: &[u8])
+    requires { length bytes.now < 4096 }
+{
+    let place = whole(bytes, 33);
+    let mut below = Failing::after(bytes, 0);
     let mut windows = Windows::on(&mut below, place);
     let failed = look_up_in(&mut windows, place, SOUGHT);
-    equal(&rt, failed, Err(SourceFault::Disk));
-    equal(&rt, look_up_in(&mut windows, place, SOUGHT), Ok(FOUND));
+    equal(rt, failed, Err(SourceFault::Disk));
+    equal(rt, look_up_in(&mut windows, place, SOUGHT), Ok(FOUND));
+}
+
+#[test]
+fn a_failed_read_of_a_window_is_answered(rt: HostRuntime) -> Result<(), Fail> {
+    let bytes = of_few(&rt, rt.alloc(), 33)?;
+    fails_once_in_windows(&rt, &bytes);
     Ok(())
 }

@@ -2,7 +2,7 @@
 
 ghost use Rattle.std.specs.Prelude.{◌≡◌, ◌<◌, ◌≤◌, ◌*◌, length};
 
-use crate::checks::equal;
+use crate::checks::{equal, equal_of};
 use crate::made::mixed;
 use crate::plain::packed_number;
 use pk_lanes::{ascending, differ, pack, restore, unpack, unpack_sums, width};
@@ -22,11 +22,8 @@ const RISING_BY_ONE: [u8; 48] = [
 // That packed bytes have these numbers, bit by bit.
 fn has_numbers(rt: &impl Abort, bytes: &[u8], bits: u32, xs: &[u32; 128]) {
     for (i, x) in xs.iter().enumerate() {
-        assert_eq!(rt;
-            packed_number(bytes, 0, bits, i as u32),
-            *x,
-            "number {i} at width {bits}"
-        );
+        let found = packed_number(bytes, 0, bits, i as u32);
+        equal_of(rt, (i, bits), found, *x);
     }
 }
 
@@ -101,10 +98,10 @@ fn each_width_and_back(rt: HostRuntime) {
 fn has_width(rt: &impl Abort, x: u32, want: u32) {
     let mut last = [0; 128];
     last[127] = x;
-    assert_eq!(rt; width(&last), want, "{x} at the last place");
+    equal_of(rt, (x, "last"), width(&last), want);
     let mut first = [x / 2; 128];
     first[0] = x;
-    assert_eq!(rt; width(&first), want, "{x} at the first place");
+    equal_of(rt, (x, "first"), width(&first), want);
 }
 
 #[test]
@@ -183,7 +180,7 @@ fn ascending_sees_the_seed(rt: HostRuntime) {
         ([0, 0, 0, 2_147_483_500], false),
         ([4_294_967_295, 4_294_967_295, 4_294_967_295, 0], true),
     ] {
-        assert_eq!(rt; ascending(&seed, &xs), wanted, "{seed:?}");
+        equal_of(&rt, seed, ascending(&seed, &xs), wanted);
     }
 }
 

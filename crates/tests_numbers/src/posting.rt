@@ -1,6 +1,6 @@
 //! Posting lists: worked rows, lists of many kinds there and back, damaged bytes, and sources.
 
-use crate::checks::equal;
+use crate::checks::{equal, equal_of};
 use crate::made::{apart, uneven};
 use crate::plain::{is_posting, plain_decode, plain_encode};
 use pk_posting::{
@@ -12,7 +12,7 @@ use std::process::Abort;
 use std::test::Fail;
 
 // Short lists with their bytes.
-const SHORT: [(&[u32], &[u8]); 4] = [
+static SHORT: [(&[u32], &[u8]); 4] = [
     (&[], &[0x00, 0x00, 0x00, 0x00]),
     (&[1], &[0x01, 0x00, 0x00, 0x00, 0x81]),
     (&[5, 829], &[0x02, 0x00, 0x00, 0x00, 0x85, 0x06, 0xB8]),
@@ -42,7 +42,7 @@ const TO_128: [u8; 88] = [
 ];
 
 // Bytes that spell no list.
-const NO_LIST: [&[u8]; 7] = [
+static NO_LIST: [&[u8]; 7] = [
     &[0x01, 0x00, 0x00],
     &[0x01, 0x00, 0x00, 0x00],
     &[0x01, 0x00, 0x00, 0x00, 0x80],
@@ -128,11 +128,11 @@ fn each_change_agrees(alloc: Global, bytes: &[u8]) -> Result<bool, AllocError> {
 
 #[test]
 fn lists_have_their_bytes(rt: HostRuntime) -> Result<(), Fail> {
-    for (xs, bytes) in SHORT {
-        assert!(rt; is_spelled(rt.alloc(), xs, bytes)?, "{xs:?}");
+    for (xs, bytes) in &SHORT {
+        equal_of(&rt, *xs, is_spelled(rt.alloc(), xs, bytes)?, true);
     }
     let to_128 = apart(rt.alloc(), 1, 1, 128)?;
-    assert!(rt; is_spelled(rt.alloc(), &to_128, &TO_128)?);
+    equal(&rt, is_spelled(rt.alloc(), &to_128, &TO_128)?, true);
     Ok(())
 }
 
@@ -150,7 +150,7 @@ fn has_byte(
     let plain = plain_encode(alloc, &xs)?;
     let spelled = is_spelled(alloc, &xs, &plain)?;
     let found = (spelled, plain.len(), plain.get(at).copied());
-    assert_eq!(rt; found, (true, length, Some(byte)), "{count} from {first}");
+    equal_of(rt, (count, first), found, (true, length, Some(byte)));
     Ok(())
 }
 
@@ -177,12 +177,12 @@ fn overwrite(bytes: &mut [u8], at: usize, new: &[u8]) {
 // That the bytes spell no list.
 fn is_damaged(rt: &impl Abort, alloc: Global, bytes: &[u8]) {
     let fault = decode(alloc, bytes).err();
-    assert_eq!(rt; fault, Some(DecodeFault::Damaged), "{bytes:?}");
+    equal_of(rt, bytes, fault, Some(DecodeFault::Damaged));
 }
 
 #[test]
 fn what_spells_no_list_is_damaged(rt: HostRuntime) {
-    for bytes in NO_LIST {
+    for bytes in &NO_LIST {
         is_damaged(&rt, rt.alloc(), bytes);
     }
 }
@@ -202,7 +202,7 @@ fn too_wide(alloc: Global) -> Result<Vec<u8>, AllocError> {
 fn wrapping(rt: &impl Abort, alloc: Global) -> Result<Vec<u8>, AllocError> {
     let mut bytes = plain_encode(alloc, &apart(alloc, TOP, 1, 128)?)?;
     let fifth = bytes.get(56..60);
-    assert_eq!(rt; fifth, Some([0x04u8, 0x00, 0x00, 0x00].as_slice()));
+    equal(rt, fifth, Some([0x04u8, 0x00, 0x00, 0x00].as_slice()));
     overwrite(&mut bytes, 56, &[0xFC, 0xFF, 0xFF, 0xFF]);
     Ok(bytes)
 }
@@ -236,7 +236,7 @@ fn apart_come_back(
     count: usize,
 ) -> Result<(), AllocError> {
     let back = comes_back(alloc, &apart(alloc, first, gap, count)?)?;
-    assert!(rt; back, "{count} numbers from {first} on, {gap} apart");
+    equal_of(rt, (first, gap, count), back, true);
     Ok(())
 }
 
@@ -271,7 +271,7 @@ fn each_gap_comes_back(rt: HostRuntime) -> Result<(), Fail> {
 fn uneven_numbers_come_back(rt: HostRuntime) -> Result<(), Fail> {
     for count in [200usize, 1000, 4097] {
         let xs = uneven(rt.alloc(), u32::MAX, count)?;
-        assert!(rt; comes_back(rt.alloc(), &xs)?, "{count} numbers");
+        equal_of(&rt, count, comes_back(rt.alloc(), &xs)?, true);
     }
     Ok(())
 }
@@ -293,14 +293,14 @@ fn changes_agree(
 ) -> Result<(), AllocError> {
     let bytes = plain_encode(alloc, &apart(alloc, first, 1, count)?)?;
     let agree = each_change_agrees(alloc, &bytes)?;
-    assert!(rt; agree, "{count} numbers from {first}");
+    equal_of(rt, (count, first), agree, true);
     Ok(())
 }
 
 #[test]
 fn each_changed_byte_of_a_block_is_answered_right(rt: HostRuntime) -> Result<(), Fail> {
-    for (_, bytes) in SHORT {
-        assert!(rt; each_change_agrees(rt.alloc(), bytes)?, "{bytes:?}");
+    for (_, bytes) in &SHORT {
+        equal_of(&rt, *bytes, each_change_agrees(rt.alloc(), bytes)?, true);
     }
     for first in [1, TOP] {
         changes_agree(&rt, rt.alloc(), first, 128)?;
@@ -339,7 +339,7 @@ fn shapes_are_read(rt: HostRuntime) {
         (&TO_128, Some(OF_128)),
     ];
     for (bytes, want) in rows {
-        assert_eq!(rt; Shape::of(bytes), want, "{bytes:?}");
+        equal_of(&rt, bytes, Shape::of(bytes), want);
     }
 }
 

@@ -3,6 +3,7 @@
 ghost use Rattle.std.specs.Prelude.{◌<◌, ◌≤◌, length};
 ghost use Rattle.std.specs.List.Sorted.{IsStrictlyIncreasing};
 
+use crate::checks::equal_of;
 use crate::made::{apart, thinned};
 use pk_sets::{both, both_gallop, both_merge, either, is_rising, without};
 use std::alloc::{AllocError, Global};
@@ -19,7 +20,7 @@ struct Wanted<'a> {
 
 // That an operation gives these numbers.
 fn gives(rt: &impl Abort, operation: &str, found: &[u32], wanted: &[u32]) {
-    assert_eq!(rt; found, wanted, "{operation}");
+    equal_of(rt, operation, found, wanted);
 }
 
 // Each way to intersect gives these numbers, in just the room that it asks for and some to spare.
@@ -69,23 +70,33 @@ fn answers(rt: &impl Abort, a: &[u32], b: &[u32], wanted: &Wanted)
     }
 }
 
+// The numbers of the first list that the other one has, or those that it has not.
+fn shared(alloc: Global, a: &[u32], b: &[u32], has: bool) -> Result<Vec<u32>, AllocError> {
+    let mut kept = Vec::new(alloc);
+    for x in a {
+        if b.contains(x) == has {
+            kept.push(*x)?;
+        }
+    }
+    Ok(kept)
+}
+
+// The numbers of both lists, rising.
+fn joined(alloc: Global, a: &[u32], b: &[u32]) -> Result<Vec<u32>, AllocError> {
+    let mut all = Vec::from_slice(alloc, a)?;
+    all.extend_from_slice(b)?;
+    all.sort()?;
+    Ok(all)
+}
+
 // Each operation gives what its definition says of these two lists.
 fn agree(rt: &impl Abort, alloc: Global, a: &[u32], b: &[u32]) -> Result<(), AllocError>
     requires short_a { length a.now ≤ 70 }
     requires short_b { length b.now ≤ 70 }
 {
-    let mut met = Vec::new(alloc);
-    let mut left = Vec::new(alloc);
-    for x in a {
-        if b.contains(x) {
-            met.push(*x)?;
-        } else {
-            left.push(*x)?;
-        }
-    }
-    let mut all = Vec::from_slice(alloc, left.as_slice())?;
-    all.extend_from_slice(b)?;
-    all.sort()?;
+    let met = shared(alloc, a, b, true)?;
+    let left = shared(alloc, a, b, false)?;
+    let all = joined(alloc, &left, b)?;
     let wanted = Wanted {
         both: &met,
         either: &all,
@@ -144,7 +155,7 @@ fn is_found_if_even(rt: &impl Abort, even: &[u32], x: u32)
 {
     let found = both_gallop(&[x], even, &mut [0]);
     let wanted = x % 2 == 0 && 0 < x && x <= 4000;
-    assert_eq!(rt; found == 1, wanted, "{x}");
+    equal_of(rt, x, found == 1, wanted);
 }
 
 #[test]

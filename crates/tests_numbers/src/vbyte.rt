@@ -1,6 +1,6 @@
 //! Variable bytes: worked rows, what is refused, and the numbers about each power of two.
 
-use crate::checks::equal;
+use crate::checks::{equal, equal_of};
 use crate::plain::{put_variable, variable_at};
 use pk_vbyte::{VFault, put, take};
 use std::alloc::{AllocError, Global};
@@ -8,7 +8,7 @@ use std::process::Abort;
 use std::test::Fail;
 
 // Each number with its bytes, worked out by hand.
-const ROWS: [(u32, &[u8]); 5] = [
+static ROWS: [(u32, &[u8]); 5] = [
     (824, &[0x06, 0xB8]),
     (5, &[0x85]),
     (214_577, &[0x0D, 0x0C, 0xB1]),
@@ -16,7 +16,7 @@ const ROWS: [(u32, &[u8]); 5] = [
     (4_294_967_295, &[0x0F, 0x7F, 0x7F, 0x7F, 0xFF]),
 ];
 
-const REFUSED: [(&[u8], VFault); 7] = [
+static REFUSED: [(&[u8], VFault); 7] = [
     (&[], VFault::Short),
     (&[0x06], VFault::Short),
     (&[0x00, 0x85], VFault::Padded),
@@ -47,17 +47,17 @@ fn is_taken(rt: &impl Abort, alloc: Global, n: u32, bytes: &[u8]) -> Result<(), 
 
 #[test]
 fn numbers_have_their_bytes(rt: HostRuntime) -> Result<(), Fail> {
-    for (n, bytes) in ROWS {
-        is_put(&rt, n, bytes);
-        is_taken(&rt, rt.alloc(), n, bytes)?;
+    for (n, bytes) in &ROWS {
+        is_put(&rt, *n, bytes);
+        is_taken(&rt, rt.alloc(), *n, bytes)?;
     }
     Ok(())
 }
 
 #[test]
 fn what_is_no_number_has_its_fault(rt: HostRuntime) {
-    for (bytes, fault) in REFUSED {
-        assert_eq!(rt; take(bytes), Err(fault), "{bytes:?}");
+    for (bytes, fault) in &REFUSED {
+        equal_of(&rt, *bytes, take(bytes), Err(*fault));
     }
 }
 
@@ -69,7 +69,7 @@ fn comes_back(rt: &impl Abort, alloc: Global, n: u32) -> Result<(), AllocError> 
     let used = put(n, &mut out);
     let found = (&out[..used], take(&plain), variable_at(&plain, 0));
     let wanted = (plain.as_slice(), Ok((n, plain.len())), (n, plain.len()));
-    assert_eq!(rt; found, wanted, "{n}");
+    equal_of(rt, n, found, wanted);
     Ok(())
 }
 
