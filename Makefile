@@ -1,6 +1,7 @@
 # Each target is one command, and can be typed by hand in its place.
 # demo and try run a session of the program; test is the merge gate, memory what comes after it;
-# check proves what has changed; install puts the program, its client and their manuals in place.
+# check proves what has changed; mutants tries wrong bodies where a contract has changed; install puts
+# the program, its client and their manuals in place.
 
 SESSION = examples/mail.lines
 PROGRAM = crates/pk_find/out/pk_find
@@ -12,7 +13,7 @@ BIN = $(DESTDIR)$(PREFIX)/bin
 LIB = $(DESTDIR)$(PREFIX)/lib/rubewola
 MAN = $(DESTDIR)$(PREFIX)/share/man/man1
 
-.PHONY: demo try test client memory check fmt bench install uninstall
+.PHONY: demo try test seals mutants client memory check fmt bench install uninstall
 
 # Proves and builds the program, makes a store in a file, and answers a session over a small mail
 # archive.
@@ -27,10 +28,19 @@ try:
 	cd crates/pk_find && rt try -- create $(STORE) --units $(UNITS)
 	cd crates/pk_find && rt try -- run $(STORE) < ../../$(SESSION)
 
-# The gate: every proof from nothing, each must-fail edit, each test, each program twice; then
-# sessions that are killed, and the client's tests.
+# The seals of the mutants; the gate: every proof from nothing, each must-fail edit, each test, each
+# program twice; then sessions that are killed, and the tests of the client and of tools/.
 test:
 	tools/test.sh
+
+# Whether the contracts are those at which all mutants were last refused; proves nothing.
+seals:
+	python3 tools/seals.py
+
+# make mutants CRATES="pk_sets pk_dict": the mutants of these crates, or of all. The prover must
+# refuse each; then the crate's seal is written.
+mutants:
+	python3 tools/mutants.py $(CRATES)
 
 # The tests of the Python client, over the built program.
 client:

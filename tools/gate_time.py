@@ -24,7 +24,7 @@ import subprocess
 import sys
 import time
 
-BUDGET_MINUTES = 260
+BUDGET_MINUTES = 150
 LOOK_EACH = 0.25
 TICKS = os.sysconf("SC_CLK_TCK")
 
