@@ -1,7 +1,8 @@
 //! What is committed, on its disk, and what of it is deleted: the body in force with its open
 //! segments, and the one way in which another body takes its place.
-ghost use Rattle.std.specs.Prelude.{◌≡◌, ◌≤◌, ◌<◌, ◌+◌, ◌^◌, List, OnErr, false, length};
+ghost use Rattle.std.specs.Prelude.{◌≡◌, ◌≤◌, ◌<◌, ◌+◌, ◌^◌, List, IfOk, OnErr, false, length};
 ghost use Rattle.std.specs.List.{list_any};
+ghost use Rattle.pk_check.specs.Holding.{ChecksBodyAs, IsOfBody};
 ghost use Rattle.pk_disk.specs.Frames.{KeepsDisk};
 ghost use Rattle.pk_index.specs.Index.{Keeps};
 ghost use Rattle.pk_manifest.specs.Spelling.{view};
@@ -24,6 +25,7 @@ ghost use Rattle.pk_store.specs.View.{IsCached, IsReady, KeepsVolume, StandFor, 
 ghost use Rattle.pk_store.specs.View.{volume_of};
 
 use pk_cache::BlockCache;
+use pk_check::{Checked, check_body};
 use pk_disk::Disk;
 use pk_index::Index;
 use pk_layout::{
@@ -184,6 +186,18 @@ impl<D: Disk> Volume<D> {
             &self.opened,
             number,
         )
+    }
+
+    /// What the disk holds, by the body that is kept: each segment and each deletion list is read.
+    pub(crate) fn check(&mut self, alloc: Global) -> Result<Checked, ReadFault>
+        ensures checked { D.honest → self.old.reopen ≡ false
+            → ChecksBodyAs (D.content self.old.disk) result }
+        ensures body { IfOk result (IsOfBody self.old.body) }
+        ensures keeps { KeepsVolume D.Disk self.old self.new }
+        ensures reads { CountsReads (D.failed_reads self.old.disk) (D.failed_reads self.new.disk)
+            result }
+    {
+        check_body(alloc, &mut self.disk, &self.manifest)
     }
 
     /// How many documents are committed and not deleted.
