@@ -4,13 +4,10 @@ ghost use Rattle.pk_command.specs.Endings.{CreationOutcome, FileCreationOutcome,
 
 use super::reporting::{DONE, OUTPUT, creating_reason, fail, file_reason};
 use pk_disk::Disk;
-use pk_filedisk::{FileDisk, LockFile};
+use pk_filedisk::{FileDisk, FileSystem, RawFile};
 use pk_store::Store;
 use std::alloc::Global;
-use std::fs::OpenFile;
 use std::io::Write;
-use std::os::unix::fs::FileExt;
-use std::rt::Files;
 
 /// Makes an empty store on a disk of so many units, and tells that.
 fn create_on<D: Disk + Drop, W: Write, E: Write>(
@@ -35,7 +32,7 @@ fn create_on<D: Disk + Drop, W: Write, E: Write>(
 
 /// Makes a file of so many units with an empty store, tells that, and answers the status: 0, or 1
 /// where there is none or it could not be told.
-pub fn create<F: FileExt + OpenFile + LockFile + Drop, S: Files<File = F>, W: Write, E: Write>(
+pub fn create<F: RawFile + Drop, S: FileSystem<File = F>, W: Write, E: Write>(
     rt: &S,
     alloc: Global,
     path: &str,

@@ -40,26 +40,24 @@ ghost use Rattle.pk_command.specs.Endings.{CommandOutcome};
 use command_line::{Asked, asked_by, program};
 use creating::create;
 use pk_disk::Disk;
-use pk_filedisk::{FileDisk, LockFile};
+use pk_filedisk::{FileDisk, FileSystem, RawFile};
 use pk_pages::PageCache;
 use reporting::{MEMORY, fail, refuse};
 use running::run;
 use std::alloc::Global;
-use std::fs::OpenFile;
 use std::io::{Read, Write};
-use std::os::unix::fs::FileExt;
-use std::rt::Files;
 
 /// Runs one command line and answers its status: 0 where all was done, 1 where it failed, with a
 /// line on `faults`, 2 where the command line was refused. `words` begin with the program's name,
 /// and decide which; what came of it then is `CommandOutcome`, in specs/.
-pub fn command<
-    F: FileExt + OpenFile + LockFile + Drop,
-    S: Files<File = F>,
-    R: Read,
-    W: Write,
-    E: Write,
->(rt: &S, alloc: Global, words: &[String], input: &mut R, output: &mut W, faults: &mut E) -> u8
+pub fn command<F: RawFile + Drop, S: FileSystem<File = F>, R: Read, W: Write, E: Write>(
+    rt: &S,
+    alloc: Global,
+    words: &[String],
+    input: &mut R,
+    output: &mut W,
+    faults: &mut E,
+) -> u8
     ensures { CommandOutcome ⟦<FileDisk<F> as Disk>⟧ ⟦<PageCache<FileDisk<F>> as Disk>⟧
         (map string_bytes words.now)
         (R.remaining input.old) (R.remaining input.new)

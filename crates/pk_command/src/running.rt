@@ -4,15 +4,12 @@ ghost use Rattle.pk_command.specs.Endings.{FileSessionOutcome, SessionOutcome};
 
 use super::reporting::{DONE, fail, file_reason, opening_reason, session_reason};
 use pk_disk::Disk;
-use pk_filedisk::{FileDisk, LockFile};
+use pk_filedisk::{FileDisk, FileSystem, RawFile};
 use pk_pages::PageCache;
 use pk_shell::serve;
 use pk_store::Store;
 use std::alloc::Global;
-use std::fs::OpenFile;
 use std::io::{Read, Write};
-use std::os::unix::fs::FileExt;
-use std::rt::Files;
 
 /// The most decoded blocks that the store of a session keeps. The other commands keep none.
 const CACHE_BLOCKS: u32 = 256;
@@ -44,13 +41,14 @@ fn run_on<D: Disk + Drop, R: Read, W: Write, E: Write>(
 
 /// Answers the lines of the input, from the store in a file, and then the status: 0 where they were
 /// answered to their end or a `quit`, and else 1. Pages of the file that were read are kept.
-pub fn run<
-    F: FileExt + OpenFile + LockFile + Drop,
-    S: Files<File = F>,
-    R: Read,
-    W: Write,
-    E: Write,
->(rt: &S, alloc: Global, path: &str, input: &mut R, output: &mut W, faults: &mut E) -> u8
+pub fn run<F: RawFile + Drop, S: FileSystem<File = F>, R: Read, W: Write, E: Write>(
+    rt: &S,
+    alloc: Global,
+    path: &str,
+    input: &mut R,
+    output: &mut W,
+    faults: &mut E,
+) -> u8
     ensures { FileSessionOutcome ⟦<PageCache<FileDisk<F>> as Disk>⟧
         (R.remaining input.old) (R.remaining input.new)
         (W.contents output.old) (W.contents output.new)

@@ -1,38 +1,39 @@
 //! The disk in a file.
 
-ghost use Rattle.std.specs.Prelude.{◌≡◌, ◌≤◌, ◌*◌, ◌^◌, length, IfErr, IfOk};
+ghost use Rattle.std.specs.Prelude.{◌≡◌, ◌≤◌, ◌*◌, ◌^◌, length, replicate, IfErr, IfOk, IsTrue};
 ghost use Rattle.pk_disk.specs.Disk.{nowhere};
-ghost use Rattle.pk_filedisk.specs.File.{IsDiskLength, IsOfMake, IsOfOpening, some_bytes};
+ghost use Rattle.pk_filedisk.specs.File.{IsDiskLength, IsOfMake, IsOfOpening};
 
 use crate::fault::FileFault;
-use crate::lock::LockFile;
+use crate::raw::RawFile;
+use crate::system::FileSystem;
+use crate::whole::{read_whole, write_whole};
 use pk_disk::{Disk, DiskFault, MAX_UNITS, UNIT};
-use std::fs::{File, OpenFile};
-use std::io;
-use std::os::unix::fs::FileExt;
-use std::path::Path;
-use std::rt::Files;
 
 /// The fewest units of a disk in a file.
 const LEAST_UNITS: u64 = 64;
 
-/// A file as a disk. Its length is read once, as it is made or opened. The file is locked until the
-/// disk is dropped.
+/// A file as a disk. Over an honest file it is honest. Its length is read once, as it is made or
+/// opened. The file is locked until the disk is dropped.
 #[derive(Drop)]
-pub struct FileDisk<F: FileExt + OpenFile + LockFile + Drop> {
+pub struct FileDisk<F: RawFile> {
     file: F,
     len: u64,
     failed_reads: u64,
     failed_writes: u64,
+    ghost locked: { IsTrue (F.is_locked file) },
+    ghost settled: { IsTrue (F.is_settled file) },
+    ghost fits: { F.honest → length (F.content file) ≡ len },
 }
 
-impl<F: FileExt + OpenFile + LockFile + Drop> FileDisk<F> {
+impl<F: RawFile + Drop> FileDisk<F> {
     /// Makes a file of `units` units of zero bytes, locks it, and syncs its length and its folder's
     /// entry.
     ///
     /// `Exists` where there is something at the path, or `Disk`.
-    pub fn make<R: Files<File = F>>(
-        rt: &R,
+    #[tactic(auto, using(crate::proofs::ResizedLemmas::length_resized, crate::proofs::ResizedLemmas::resized_zeros))]
+    pub fn make<S: FileSystem<File = F>>(
+        system: &S,
         path: &str,
         units: u64,
     ) -> Result<FileDisk<F>, FileFault>
@@ -40,51 +41,46 @@ impl<F: FileExt + OpenFile + LockFile + Drop> FileDisk<F> {
         requires most { units ≤ 2 ^ 31 }
         ensures size { IfOk result
             (λ d. length (⟦<FileDisk<F> as Disk>⟧.content d) ≡ units * 512) }
+        ensures zeros { F.honest → IfOk result
+            (λ d. ⟦<FileDisk<F> as Disk>⟧.content d ≡ replicate (units * 512) 0) }
+        ensures closed { F.honest → IfOk result
+            (λ d. ⟦<FileDisk<F> as Disk>⟧.is_open d ≡ nowhere) }
+        ensures named { IfOk result (λ d. IsTrue (F.is_named d.file)) }
         ensures reads { IfOk result (λ d. ⟦<FileDisk<F> as Disk>⟧.failed_reads d ≡ 0) }
         ensures writes { IfOk result (λ d. ⟦<FileDisk<F> as Disk>⟧.failed_writes d ≡ 0) }
         ensures fault { IfErr result IsOfMake }
     {
-        let file = match File::create_new(rt, path) {
-            Ok(file) => file,
-            Err(error) if error.kind() == io::ErrorKind::AlreadyExists => {
-                return Err(FileFault::Exists);
-            }
-            Err(_) => return Err(FileFault::Disk),
-        };
-        if file.try_lock().is_err() {
-            return Err(FileFault::Disk);
-        }
+        let mut file = locked(system.create(path)?)?;
         let len = units * UNIT;
-        if file.set_len(len).is_err() || file.sync_all().is_err() || !folder_is_synced(rt, path) {
+        if file.set_len(len).is_err()
+            || file.sync_all().is_err()
+            || system.sync_folder(path, &mut file).is_err()
+        {
             return Err(FileFault::Disk);
         }
         Ok(FileDisk::of_file(file, len))
     }
 
-    /// Opens a file and locks it.
+    /// Opens a file, locks it and syncs its length.
     ///
     /// `Missing` where there is nothing at the path, `BadLength` where the file is not 64 to 2^31
     /// whole units long, or `Disk`, also where another opening of the file holds a lock.
-    pub fn on<R: Files<File = F>>(rt: &R, path: &str) -> Result<FileDisk<F>, FileFault>
+    #[tactic(auto, using(crate::proofs::ResizedLemmas::length_resized))]
+    pub fn on<S: FileSystem<File = F>>(system: &S, path: &str) -> Result<FileDisk<F>, FileFault>
         ensures size { IfOk result
             (λ d. IsDiskLength (length (⟦<FileDisk<F> as Disk>⟧.content d))) }
+        ensures closed { F.honest → IfOk result
+            (λ d. ⟦<FileDisk<F> as Disk>⟧.is_open d ≡ nowhere) }
         ensures reads { IfOk result (λ d. ⟦<FileDisk<F> as Disk>⟧.failed_reads d ≡ 0) }
         ensures writes { IfOk result (λ d. ⟦<FileDisk<F> as Disk>⟧.failed_writes d ≡ 0) }
         ensures fault { IfErr result IsOfOpening }
     {
-        let file = match File::options().read(true).write(true).open(rt, path) {
-            Ok(file) => file,
-            Err(error) if error.kind() == io::ErrorKind::NotFound => {
-                return Err(FileFault::Missing);
-            }
-            Err(_) => return Err(FileFault::Disk),
-        };
-        if file.try_lock().is_err() {
+        let mut file = locked(system.open(path)?)?;
+        let Ok(()) = file.sync_all() else {
             return Err(FileFault::Disk);
-        }
-        let len = match file.metadata() {
-            Ok(metadata) => metadata.len(),
-            Err(_) => return Err(FileFault::Disk),
+        };
+        let Ok(len) = file.len() else {
+            return Err(FileFault::Disk);
         };
         if len % UNIT != 0 || len / UNIT < LEAST_UNITS || len / UNIT > MAX_UNITS {
             return Err(FileFault::BadLength);
@@ -94,6 +90,10 @@ impl<F: FileExt + OpenFile + LockFile + Drop> FileDisk<F> {
 
     // The disk in a file of that length, with nothing failed so far.
     fn of_file(file: F, len: u64) -> FileDisk<F>
+        requires locked { IsTrue (F.is_locked file) }
+        requires settled { IsTrue (F.is_settled file) }
+        requires fits { F.honest → length (F.content file) ≡ len }
+        ensures file { result.file ≡ file }
         ensures len { result.len ≡ len }
         ensures reads { result.failed_reads ≡ 0 }
         ensures writes { result.failed_writes ≡ 0 }
@@ -107,32 +107,35 @@ impl<F: FileExt + OpenFile + LockFile + Drop> FileDisk<F> {
     }
 }
 
-// Whether the system synced the folder of a path, and with it the entry of the path.
-fn folder_is_synced<R: Files>(rt: &R, path: &str) -> bool {
-    let folder = match Path::new(path).parent() {
-        Some(folder) if !folder.as_str().is_empty() => folder,
-        _ => Path::new("."),
-    };
-    match File::open(rt, folder) {
-        Ok(folder) => folder.sync_all().is_ok(),
-        Err(_) => false,
+// The file, once it is locked.
+fn locked<F: RawFile + Drop>(mut file: F) -> Result<F, FileFault>
+    ensures locked { IfOk result (λ f. IsTrue (F.is_locked f)) }
+    ensures bytes { F.honest → IfOk result (λ f. F.content f ≡ F.content file) }
+    ensures fault { IfErr result (λ fault. fault ≡ FileFault.Disk) }
+{
+    match file.try_lock() {
+        Ok(()) => Ok(file),
+        Err(_) => Err(FileFault::Disk),
     }
 }
 
-impl<F: FileExt + OpenFile + LockFile + Drop> Disk for FileDisk<F> {
-    ghost content = { λ d. some_bytes d.len };
+#[tactic(auto, using(crate::proofs::ResizedLemmas::length_resized, crate::specs::Resized::resized_same))]
+impl<F: RawFile> Disk for FileDisk<F> {
+    ghost use Rattle.pk_filedisk.specs.Resized.{resized, image_of_resized, image_resized};
 
-    ghost is_open = { λ _. nowhere };
+    ghost content = { λ d. resized d.len (F.content d.file) };
 
-    ghost moment = { λ _. 0 };
+    ghost is_open = { λ d. F.is_open d.file };
 
-    ghost images_since = { λ _ _ _. Unit {0} };
+    ghost moment = { λ d. F.moment d.file };
+
+    ghost images_since = { λ d. F.images_since d.file };
 
     ghost failed_reads = { λ d. d.failed_reads };
 
     ghost failed_writes = { λ d. d.failed_writes };
 
-    ghost honest = { ⊥ };
+    ghost honest = { F.honest };
 
     fn len(&self) -> u64 {
         self.len
@@ -142,36 +145,38 @@ impl<F: FileExt + OpenFile + LockFile + Drop> Disk for FileDisk<F> {
         if self.failed_reads == u64::MAX {
             return Err(DiskFault);
         }
-        if self.file.read_exact_at(out, at).is_ok() {
-            return Ok(());
-        }
-        self.failed_reads += 1;
-        Err(DiskFault)
+        let Ok(()) = read_whole(&mut self.file, at, out) else {
+            self.failed_reads += 1;
+            return Err(DiskFault);
+        };
+        Ok(())
     }
 
     fn write(&mut self, at: u64, bytes: &[u8]) -> Result<(), DiskFault> {
         if self.failed_writes == u64::MAX {
             return Err(DiskFault);
         }
-        if self.file.write_all_at(bytes, at).is_ok() {
-            return Ok(());
-        }
-        self.failed_writes += 1;
-        Err(DiskFault)
+        let Ok(()) = write_whole(&mut self.file, at, bytes) else {
+            self.failed_writes += 1;
+            return Err(DiskFault);
+        };
+        Ok(())
     }
 
     fn sync(&mut self) -> Result<(), DiskFault> {
         if self.failed_writes == u64::MAX {
             return Err(DiskFault);
         }
-        if self.file.sync_data().is_ok() {
-            return Ok(());
-        }
-        self.failed_writes += 1;
-        Err(DiskFault)
+        let Ok(()) = self.file.sync_data() else {
+            self.failed_writes += 1;
+            return Err(DiskFault);
+        };
+        Ok(())
     }
 
-    ghost counts_now = { λ disk t image honest. absurd honest };
+    ghost counts_now = { λ disk t image honest le now. F.counts_now disk.file t image honest disk.settled le
+        (image_of_resized disk.len (F.content disk.file) (F.is_open disk.file) image (disk.fits honest) now) };
 
-    ghost only_now = { λ disk image honest. absurd honest };
+    ghost only_now = { λ disk image honest since. image_resized disk.len (F.content disk.file) (F.is_open disk.file) image
+        (disk.fits honest) (F.only_now disk.file image honest disk.settled since) };
 }

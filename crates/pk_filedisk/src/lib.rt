@@ -1,17 +1,32 @@
-//! A disk in a real file.
+//! A disk in a file of the system.
 //!
 //! A caller sees a file of whole units of 512 bytes, 64 to 2^31 of them, as a `Disk`: its length
 //! never changes, each call reads, writes or syncs at a position of the file, and a call answers
-//! a fault exactly where it raises its count. What bytes a real file holds, and what a
-//! crash leaves of them, no clause says: the disk is not honest by contract. That each call reaches
-//! the system, and that its failure comes back, is tested over a system that notes its calls.
+//! a fault exactly where it raises its count. Over an honest file the disk is honest (`laws`): from
+//! calls that may be short, interrupted or refused it makes whole reads and whole writes.
 //!
-//! | call | what the system is asked |
+//! # What a file promises
+//!
+//! `RawFile` is an open file, with what its calls keep if it is *honest*: a read gives what was
+//! last written; a write changes and opens its own range and nothing else, whatever it answers; a
+//! sync that succeeds closes all positions. Lock, length and name are three facts, which its calls
+//! ask for and give on every file, honest or not:
+//!
+//! | fact | given by | asked for by |
+//! |---|---|---|
+//! | `is_locked`: no one else has the file | `try_lock` | each other call |
+//! | `is_settled`: a crash leaves its length | `sync_all` | a disk in it |
+//! | `is_named`: a crash leaves its name | `sync_folder` of a `FileSystem` | a disk that is made |
+//!
+//! `std::fs::File` is the system's file, and promises nothing: what it does, no clause says. Each of
+//! its calls is one of the system.
+//!
+//! | call | what the file is asked |
 //! |---|---|
-//! | `make` | to make a new file, to lock it, to set its length, to sync it and its folder |
-//! | `on` | to open a file for reading and writing, to lock it, and for its length |
-//! | `read`, `write` | to read or write at a position, until all bytes are done |
-//! | `sync` | to sync the data of the file |
+//! | `make` | the system is asked for a new file; to be locked, to take its length, to be synced with it; and its folder to be synced |
+//! | `on` | the system is asked for the file; to be locked, to be synced, and for its length |
+//! | `read`, `write` | to be read or written at a position, until all bytes are done |
+//! | `sync` | to sync its data |
 //!
 //! The folder of a path is opened as a file and synced, which Linux allows; where the system
 //! refuses that, `make` answers `Disk`. The length is read once: a file that another program
@@ -27,8 +42,13 @@
 
 mod fault;
 mod file;
-mod lock;
+mod host;
+pub mod laws;
+mod raw;
+mod system;
+mod whole;
 
 pub use fault::FileFault;
 pub use file::FileDisk;
-pub use lock::LockFile;
+pub use raw::{CallFault, RawFile};
+pub use system::FileSystem;

@@ -5,8 +5,6 @@
 #[cfg(test)]
 mod disk;
 #[cfg(test)]
-mod filedisk;
-#[cfg(test)]
 mod indexed;
 #[cfg(test)]
 mod manifest;

@@ -2,12 +2,9 @@
 //! Each test removes its files.
 
 use pk_command::command;
-use pk_filedisk::LockFile;
+use pk_filedisk::{FileSystem, RawFile};
 use std::alloc::{AllocError, Global};
-use std::fs::OpenFile;
 use std::io::{ErrorKind, Read, Write};
-use std::os::unix::fs::FileExt;
-use std::rt::Files;
 use std::test::Fail;
 use std::{fs, io};
 
@@ -38,7 +35,7 @@ fn words_of(alloc: Global, line: &str) -> Result<Vec<String>, AllocError> {
 }
 
 /// Runs the words of a line on the input.
-fn run_line<F: FileExt + OpenFile + LockFile + Drop, S: Files<File = F>>(
+fn run_line<F: RawFile + Drop, S: FileSystem<File = F>>(
     rt: &S,
     alloc: Global,
     line: &str,
@@ -202,7 +199,7 @@ impl Read for Broken {
 }
 
 /// Runs the words of a line on an input that fails, or with an output that takes nothing.
-fn run_broken<F: FileExt + OpenFile + LockFile + Drop, S: Files<File = F>>(
+fn run_broken<F: RawFile + Drop, S: FileSystem<File = F>>(
     rt: &S,
     alloc: Global,
     line: &str,

@@ -1,51 +1,49 @@
-//! Disks in files: over a system that notes its calls and fails one of them, and in a real file.
+//! Disks in files: over a system that notes its calls and fails one of them, over files whose calls
+//! are short, and in a real file.
 
-ghost use Rattle.std.specs.Prelude.{◌≤◌, IfOk};
+ghost use Rattle.std.specs.Prelude.{◌≡◌, [], IfOk};
 
 use pk_disk::{Disk, DiskFault};
-use pk_filedisk::{FileDisk, FileFault, LockFile};
-use std::alloc::{AllocError, Allocator, Global};
+use pk_filedisk::{CallFault, FileDisk, FileFault, FileSystem, RawFile};
+use pk_memoryfile::{Ending, MemoryFile, Step};
+use std::alloc::{AllocError, Global};
 use std::cell::{Cell, RefCell};
-use std::fs::{Metadata, OpenFile, OpenOptions};
-use std::io::{ErrorKind, Read, Seek, SeekFrom, Write};
-use std::os::unix::fs::FileExt;
+use std::fs;
 use std::process::Abort;
 use std::rt::Files;
 use std::test::Fail;
-use std::{fs, io};
 
 // The bytes of a disk of 64 units.
 const LEN: u64 = 32_768;
 
 // The calls that make it at `s`.
-const MADE: &str = "make s, lock file, set_len file, sync_all file, look ., sync_all folder";
+const MADE: &str = "make s, lock file, set_len file, sync_all file, sync folder of s";
 
 // A system of one file and of folders. It notes each call, and fails one of them.
 #[derive(Drop)]
 struct FakeSystem {
+    alloc: Global,
     // The calls so far, in words.
     calls: RefCell<String>,
     // How many calls there were.
     count: Cell<u64>,
-    // The call that fails, the first being 1, and how it fails.
+    // The call that fails, the first being 1, and what it answers where it makes or opens a file.
     failing: u64,
-    kind: ErrorKind,
-    // Whether a transfer moves 3 bytes at most, and every other one is interrupted.
-    slow: bool,
-    // The bytes of the file.
-    bytes: RefCell<Vec<u8>>,
+    fault: FileFault,
+    // The steps of each transfer of the file, the last one first.
+    steps: Vec<Step>,
 }
 
 impl FakeSystem {
     // A system without a file, whose call of that number fails.
-    fn new(alloc: Global, failing: u64, kind: ErrorKind) -> FakeSystem {
+    fn new(alloc: Global, failing: u64, fault: FileFault) -> FakeSystem {
         FakeSystem {
+            alloc,
             calls: RefCell::new(String::new(alloc)),
             count: Cell::new(0),
             failing,
-            kind,
-            slow: false,
-            bytes: RefCell::new(Vec::new(alloc)),
+            fault,
+            steps: Vec::new(alloc),
         }
     }
 
@@ -55,14 +53,11 @@ impl FakeSystem {
     }
 
     // Notes a call, and fails it if it is the one.
-    fn note(&self, call: &str, on: &str) -> io::Result<()> {
+    fn note(&self, call: &str, on: &str) -> Result<(), CallFault> {
         let count = self.count.get().wrapping_add(1);
         self.count.set(count);
-        if self.add_note(call, on).is_err() {
-            return Err(io::Error::from(ErrorKind::OutOfMemory));
-        }
-        if count == self.failing {
-            return Err(io::Error::from(self.kind));
+        if self.add_note(call, on).is_err() || count == self.failing {
+            return Err(CallFault::Failed);
         }
         Ok(())
     }
@@ -77,114 +72,70 @@ impl FakeSystem {
         }
         Ok(())
     }
-
-    // How many of n bytes a transfer moves.
-    fn moved(&self, call: &str, on: &str, n: usize) -> io::Result<usize>
-        ensures { IfOk result (λ moved. moved ≤ n) }
-    {
-        self.note(call, on)?;
-        if !self.slow {
-            return Ok(n);
-        }
-        if self.count.get() % 2 == 0 {
-            return Err(io::Error::from(ErrorKind::Interrupted));
-        }
-        Ok(n.min(3))
-    }
 }
 
-// An open file or folder of that system, by its name in the notes.
+// An open file of that system, which notes its calls. Over an honest file it is honest.
 #[derive(Drop)]
-struct FakeFile<'a> {
+struct NotedFile<'a, F: RawFile> {
     system: &'a FakeSystem,
-    name: &'static str,
+    file: F,
 }
 
-impl<'a> OpenFile for FakeFile<'a> {
-    fn metadata(&self) -> io::Result<Metadata> {
-        self.system.note("metadata", self.name)?;
-        match self.system.bytes.try_borrow() {
-            Ok(bytes) => Ok(Metadata::of_file(bytes.len() as u64)),
-            Err(_) => Err(io::Error::from(ErrorKind::Other)),
-        }
+impl<'a, F: RawFile> RawFile for NotedFile<'a, F> {
+    ghost content = { λ f. F.content f.file };
+
+    ghost is_open = { λ f. F.is_open f.file };
+
+    ghost moment = { λ f. F.moment f.file };
+
+    ghost images_since = { λ f. F.images_since f.file };
+
+    ghost is_locked = { λ f. F.is_locked f.file };
+
+    ghost is_settled = { λ f. F.is_settled f.file };
+
+    ghost is_named = { λ f. F.is_named f.file };
+
+    ghost honest = { F.honest };
+
+    fn try_lock(&mut self) -> Result<(), CallFault> {
+        self.system.note("lock", "file")?;
+        self.file.try_lock()
     }
 
-    fn set_len(&self, size: u64) -> io::Result<()> {
-        self.system.note("set_len", self.name)?;
-        match self.system.bytes.try_borrow_mut() {
-            Ok(mut bytes) => {
-                bytes.resize(size as usize, 0)?;
-                Ok(())
-            }
-            Err(_) => Err(io::Error::from(ErrorKind::Other)),
-        }
+    fn len(&self) -> Result<u64, CallFault> {
+        self.system.note("len", "file")?;
+        self.file.len()
     }
 
-    fn sync_all(&self) -> io::Result<()> {
-        self.system.note("sync_all", self.name)
+    fn set_len(&mut self, len: u64) -> Result<(), CallFault> {
+        self.system.note("set_len", "file")?;
+        self.file.set_len(len)
     }
 
-    fn sync_data(&self) -> io::Result<()> {
-        self.system.note("sync_data", self.name)
-    }
-}
-
-impl<'a> LockFile for FakeFile<'a> {
-    fn try_lock(&self) -> io::Result<()> {
-        self.system.note("lock", self.name)
-    }
-}
-
-// Copies n bytes, or as many as both sides have, and tells how many.
-fn copy_some(from: &[u8], to: &mut [u8], n: usize) -> usize
-    ensures { result ≤ n }
-{
-    let n = n.min(from.len()).min(to.len());
-    to[..n].copy_from_slice(&from[..n]);
-    n
-}
-
-impl<'a> FileExt for FakeFile<'a> {
-    fn read_at(&self, buf: &mut [u8], offset: u64) -> io::Result<usize> {
-        let n = self.system.moved("read_at", self.name, buf.len())?;
-        let Ok(bytes) = self.system.bytes.try_borrow() else {
-            return Err(io::Error::from(ErrorKind::Other));
-        };
-        let start = bytes.len().min(offset as usize);
-        Ok(copy_some(&bytes[start..], buf, n))
+    fn read_at(&mut self, at: u64, out: &mut [u8]) -> Result<usize, CallFault> {
+        self.system.note("read_at", "file")?;
+        self.file.read_at(at, out)
     }
 
-    fn write_at(&self, buf: &[u8], offset: u64) -> io::Result<usize> {
-        let n = self.system.moved("write_at", self.name, buf.len())?;
-        let Ok(mut bytes) = self.system.bytes.try_borrow_mut() else {
-            return Err(io::Error::from(ErrorKind::Other));
-        };
-        let start = bytes.len().min(offset as usize);
-        Ok(copy_some(buf, &mut bytes[start..], n))
-    }
-}
-
-// A disk asks for bytes at positions alone: what follows is never called.
-impl<'a> Read for FakeFile<'a> {
-    fn read(&mut self, _buf: &mut [u8]) -> io::Result<usize> {
-        Err(io::Error::from(ErrorKind::Unsupported))
-    }
-}
-
-impl<'a> Write for FakeFile<'a> {
-    fn write(&mut self, _buf: &[u8]) -> io::Result<usize> {
-        Err(io::Error::from(ErrorKind::Unsupported))
+    fn write_at(&mut self, at: u64, bytes: &[u8]) -> Result<usize, CallFault> {
+        self.system.note("write_at", "file")?;
+        self.file.write_at(at, bytes)
     }
 
-    fn flush(&mut self) -> io::Result<()> {
-        Err(io::Error::from(ErrorKind::Unsupported))
+    fn sync_data(&mut self) -> Result<(), CallFault> {
+        self.system.note("sync_data", "file")?;
+        self.file.sync_data()
     }
-}
 
-impl<'a> Seek for FakeFile<'a> {
-    fn seek(&mut self, _to: SeekFrom) -> io::Result<u64> {
-        Err(io::Error::from(ErrorKind::Unsupported))
+    fn sync_all(&mut self) -> Result<(), CallFault> {
+        self.system.note("sync_all", "file")?;
+        self.file.sync_all()
     }
+
+    ghost counts_now = { λ f. F.counts_now f.file };
+
+    ghost only_now = { λ f. F.only_now f.file };
 }
 
 // That system, as one opens files in it.
@@ -193,60 +144,55 @@ struct FakeFiles<'a> {
     system: &'a FakeSystem,
 }
 
-impl<'a> Files for FakeFiles<'a> {
-    type File = FakeFile<'a>;
+impl<'a> FakeFiles<'a> {
+    // The file, empty.
+    fn file(&self) -> Result<NotedFile<'a, MemoryFile>, AllocError>
+        ensures { IfOk result (λ f. ⟦<NotedFile<'static, MemoryFile> as RawFile>⟧.content f ≡ []) }
+    {
+        let system = self.system;
+        let steps = system.steps.clone()?;
+        let file = MemoryFile::of_bytes(system.alloc, Vec::new(system.alloc), steps);
+        Ok(NotedFile { system, file })
+    }
+}
 
-    type Dir = FakeFile<'a>;
+impl<'a> FileSystem for FakeFiles<'a> {
+    type File = NotedFile<'a, MemoryFile>;
 
-    fn open_file(&self, how: &OpenOptions, path: &str) -> io::Result<FakeFile<'a>> {
-        let (call, name) = if how.asks_create_new() {
-            ("make", "file")
-        } else if how.asks_write() {
-            ("open", "file")
-        } else {
-            ("look", "folder")
-        };
-        self.system.note(call, path)?;
-        Ok(FakeFile {
-            system: self.system,
-            name,
-        })
+    fn create(&self, path: &str) -> Result<NotedFile<'a, MemoryFile>, FileFault> {
+        if self.system.note("make", path).is_err() {
+            return match self.system.fault {
+                FileFault::Exists => Err(FileFault::Exists),
+                _ => Err(FileFault::Disk),
+            };
+        }
+        match self.file() {
+            Ok(file) => Ok(file),
+            Err(_) => Err(FileFault::Disk),
+        }
     }
 
-    fn open_dir(&self, _path: &str) -> io::Result<FakeFile<'a>> {
-        Err(io::Error::from(ErrorKind::Unsupported))
+    fn open(&self, path: &str) -> Result<NotedFile<'a, MemoryFile>, FileFault> {
+        if self.system.note("open", path).is_err() {
+            return match self.system.fault {
+                FileFault::Missing => Err(FileFault::Missing),
+                _ => Err(FileFault::Disk),
+            };
+        }
+        match self.file() {
+            Ok(file) => Ok(file),
+            Err(_) => Err(FileFault::Disk),
+        }
     }
 
-    fn metadata(&self, _path: &str) -> io::Result<Metadata> {
-        Err(io::Error::from(ErrorKind::Unsupported))
-    }
-
-    fn symlink_metadata(&self, _path: &str) -> io::Result<Metadata> {
-        Err(io::Error::from(ErrorKind::Unsupported))
-    }
-
-    fn copy(&self, _from: &str, _to: &str) -> io::Result<u64> {
-        Err(io::Error::from(ErrorKind::Unsupported))
-    }
-
-    fn rename(&self, _from: &str, _to: &str) -> io::Result<()> {
-        Err(io::Error::from(ErrorKind::Unsupported))
-    }
-
-    fn remove_file(&self, _path: &str) -> io::Result<()> {
-        Err(io::Error::from(ErrorKind::Unsupported))
-    }
-
-    fn create_dir(&self, _path: &str) -> io::Result<()> {
-        Err(io::Error::from(ErrorKind::Unsupported))
-    }
-
-    fn remove_dir(&self, _path: &str) -> io::Result<()> {
-        Err(io::Error::from(ErrorKind::Unsupported))
-    }
-
-    fn remove_dir_all<B: Allocator>(&self, _alloc: B, _path: &str) -> io::Result<()> {
-        Err(io::Error::from(ErrorKind::Unsupported))
+    fn sync_folder(
+        &self,
+        path: &str,
+        file: &mut NotedFile<'a, MemoryFile>,
+    ) -> Result<(), CallFault> {
+        self.system.note("sync folder of", path)?;
+        file.file.name();
+        Ok(())
     }
 }
 
@@ -260,7 +206,7 @@ fn has_noted(system: &FakeSystem, want: &str) -> bool {
 
 // Makes a disk at a path, by these calls.
 fn make_at(rt: &impl Abort, alloc: Global, path: &str, noted: &str) -> Result<(), Fail> {
-    let system = FakeSystem::new(alloc, 0, ErrorKind::Other);
+    let system = FakeSystem::new(alloc, 0, FileFault::Disk);
     let disk = FileDisk::make(&system.files(), path, 64)?;
     assert!(rt; has_noted(&system, noted));
     assert!(rt; disk.len() == LEN);
@@ -272,13 +218,13 @@ fn make_at(rt: &impl Abort, alloc: Global, path: &str, noted: &str) -> Result<()
 fn a_disk_is_made_and_synced(rt: HostRuntime) -> Result<(), Fail> {
     let alloc = rt.alloc();
     make_at(&rt, alloc, "s", MADE)?;
-    let made = "make a/b/s, lock file, set_len file, sync_all file, look a/b, sync_all folder";
+    let made = "make a/b/s, lock file, set_len file, sync_all file, sync folder of a/b/s";
     make_at(&rt, alloc, "a/b/s", made)
 }
 
 // What a making answers whose kth call fails, and how many calls it makes.
-fn failed_making(alloc: Global, k: u64, kind: ErrorKind) -> (Option<FileFault>, u64) {
-    let system = FakeSystem::new(alloc, k, kind);
+fn failed_making(alloc: Global, k: u64, fault: FileFault) -> (Option<FileFault>, u64) {
+    let system = FakeSystem::new(alloc, k, fault);
     let made = FileDisk::make(&system.files(), "s", 64);
     (made.err(), system.count.get())
 }
@@ -286,16 +232,15 @@ fn failed_making(alloc: Global, k: u64, kind: ErrorKind) -> (Option<FileFault>, 
 // Whichever call of a making fails, the fault comes back, and no other call follows.
 #[test]
 fn each_failing_call_of_a_making_is_told(rt: HostRuntime) {
-    for (k, kind, want) in [
-        (1, ErrorKind::AlreadyExists, FileFault::Exists),
-        (1, ErrorKind::PermissionDenied, FileFault::Disk),
-        (2, ErrorKind::WouldBlock, FileFault::Disk),
-        (3, ErrorKind::StorageFull, FileFault::Disk),
-        (4, ErrorKind::Other, FileFault::Disk),
-        (5, ErrorKind::NotFound, FileFault::Disk),
-        (6, ErrorKind::Other, FileFault::Disk),
+    for (k, fault, want) in [
+        (1, FileFault::Exists, FileFault::Exists),
+        (1, FileFault::Disk, FileFault::Disk),
+        (2, FileFault::Disk, FileFault::Disk),
+        (3, FileFault::Disk, FileFault::Disk),
+        (4, FileFault::Disk, FileFault::Disk),
+        (5, FileFault::Disk, FileFault::Disk),
     ] {
-        assert_eq!(rt; failed_making(rt.alloc(), k, kind), (Some(want), k));
+        assert_eq!(rt; failed_making(rt.alloc(), k, fault), (Some(want), k));
     }
 }
 
@@ -303,27 +248,29 @@ fn each_failing_call_of_a_making_is_told(rt: HostRuntime) {
 fn failed_opening(
     alloc: Global,
     k: u64,
-    kind: ErrorKind,
+    fault: FileFault,
     noted: &str,
 ) -> (Option<FileFault>, bool) {
-    let system = FakeSystem::new(alloc, k, kind);
+    let system = FakeSystem::new(alloc, k, fault);
     let opened = FileDisk::on(&system.files(), "s");
     (opened.err(), has_noted(&system, noted))
 }
 
-// Opening looks for the file and its length, which here is 0.
+// Opening syncs the file and looks for its length, which here is 0.
 #[test]
 fn each_failing_call_of_an_opening_is_told(rt: HostRuntime) {
     let locked = "open s, lock file";
-    let measured = "open s, lock file, metadata file";
-    for (k, kind, want, noted) in [
-        (1, ErrorKind::NotFound, FileFault::Missing, "open s"),
-        (1, ErrorKind::PermissionDenied, FileFault::Disk, "open s"),
-        (2, ErrorKind::WouldBlock, FileFault::Disk, locked),
-        (3, ErrorKind::Other, FileFault::Disk, measured),
-        (4, ErrorKind::Other, FileFault::BadLength, measured),
+    let synced = "open s, lock file, sync_all file";
+    let measured = "open s, lock file, sync_all file, len file";
+    for (k, fault, want, noted) in [
+        (1, FileFault::Missing, FileFault::Missing, "open s"),
+        (1, FileFault::Disk, FileFault::Disk, "open s"),
+        (2, FileFault::Disk, FileFault::Disk, locked),
+        (3, FileFault::Disk, FileFault::Disk, synced),
+        (4, FileFault::Disk, FileFault::Disk, measured),
+        (5, FileFault::Disk, FileFault::BadLength, measured),
     ] {
-        let told = failed_opening(rt.alloc(), k, kind, noted);
+        let told = failed_opening(rt.alloc(), k, fault, noted);
         assert!(rt; told == (Some(want), true), "call {k}");
     }
 }
@@ -354,12 +301,12 @@ fn has_noted_next(system: &FakeSystem, noted: &str) -> bool {
 
 // The call fails, is noted, and is made again.
 fn reach_the_file(rt: &impl Abort, alloc: Global, asked: Call, noted: &str) -> Result<(), Fail> {
-    let system = FakeSystem::new(alloc, 7, ErrorKind::Other);
+    let system = FakeSystem::new(alloc, 6, FileFault::Disk);
     let mut disk = FileDisk::make(&system.files(), "s", 64)?;
     assert!(rt; make_call(&mut disk, asked).is_err());
     assert!(rt; has_noted_next(&system, noted), "{noted}");
     assert!(rt; make_call(&mut disk, asked).is_ok());
-    assert!(rt; system.count.get() == 8);
+    assert!(rt; system.count.get() == 7);
     Ok(())
 }
 
@@ -385,22 +332,42 @@ fn finish<D: Disk>(rt: &impl Abort, disk: &mut D) {
     assert!(rt; out == [0, 1, 2, 3, 4, 5, 6, 7, 8, 9, 10]);
 }
 
-// The same calls of a disk whose file has no bytes any more.
+// The same calls of a disk whose file moves no byte any more.
 fn finish_none<D: Disk>(rt: &impl Abort, disk: &mut D) {
     assert!(rt; disk.len() == LEN);
     let answers = [disk.read(32_757, &mut [77; 11]), disk.write(32_758, &[1])];
     assert_eq!(rt; answers, [Err(DiskFault), Err(DiskFault)]);
 }
 
+// A call that moves at most so many bytes.
+fn step(most: usize, ending: Ending) -> Step {
+    Step { most, ending }
+}
+
+// Ten bytes are written and eleven read by transfers that move 3 bytes at once and are interrupted;
+// one that moves none is a fault.
+fn add_slow_steps(steps: &mut Vec<Step>) -> Result<(), AllocError> {
+    steps.push(step(0, Ending::Told))?;
+    steps.push(step(0, Ending::Told))?;
+    for _ in 0..8u8 {
+        steps.push(step(3, Ending::Told))?;
+        steps.push(step(2, Ending::Interrupted))?;
+    }
+    // The lock, the length and its sync.
+    for _ in 0..3u8 {
+        steps.push(step(0, Ending::Told))?;
+    }
+    Ok(())
+}
+
 // Transfers that move 3 bytes at once and are interrupted are finished; one that moves none is a
 // fault.
 #[test]
 fn short_transfers_are_finished(rt: HostRuntime) -> Result<(), Fail> {
-    let mut system = FakeSystem::new(rt.alloc(), 0, ErrorKind::Other);
-    system.slow = true;
+    let mut system = FakeSystem::new(rt.alloc(), 0, FileFault::Disk);
+    add_slow_steps(&mut system.steps)?;
     let mut disk = FileDisk::make(&system.files(), "s", 64)?;
     finish(&rt, &mut disk);
-    system.bytes.try_replace(Vec::new(rt.alloc())).is_ok();
     finish_none(&rt, &mut disk);
     Ok(())
 }
@@ -431,8 +398,8 @@ fn read_first<D: Disk>(rt: &impl Abort, disk: &mut D) {
 }
 
 // A file is made, is there, and is written and read. It is not opened while the first disk has it.
-fn make_and_write<F: FileExt + OpenFile + LockFile + Drop>(
-    rt: &(impl Abort + Files<File = F>),
+fn make_and_write<F: RawFile + Drop>(
+    rt: &(impl Abort + FileSystem<File = F>),
     path: &str,
 ) -> Result<(), Fail> {
     let mut disk = FileDisk::make(rt, path, 64)?;
@@ -445,7 +412,7 @@ fn make_and_write<F: FileExt + OpenFile + LockFile + Drop>(
 // A file that was made is what it was when it is opened again.
 #[test]
 fn a_file_keeps_what_was_written(rt: HostRuntime) -> Result<(), Fail> {
-    let path = "tests_disk_kept";
+    let path = "tests_file_kept";
     let _ = fs::remove_file(&rt, path);
     make_and_write(&rt, path)?;
     let mut again = FileDisk::on(&rt, path)?;
@@ -458,18 +425,18 @@ fn a_file_keeps_what_was_written(rt: HostRuntime) -> Result<(), Fail> {
 // Nothing at the path, and nothing is made there; no folder for it.
 #[test]
 fn a_missing_file_is_told(rt: HostRuntime) {
-    let path = "tests_disk_missing";
+    let path = "tests_file_missing";
     let _ = fs::remove_file(&rt, path);
     for _ in 0..2u8 {
         assert!(rt; FileDisk::on(&rt, path).err() == Some(FileFault::Missing));
     }
-    let made = FileDisk::make(&rt, "tests_disk_no_folder/a", 64);
+    let made = FileDisk::make(&rt, "tests_file_no_folder/a", 64);
     assert!(rt; made.err() == Some(FileFault::Disk));
 }
 
 // How long a disk is in a file of so many zeros.
-fn length_in_file<F: FileExt + OpenFile + LockFile + Drop>(
-    files: &impl Files<File = F>,
+fn length_in_file<F: RawFile + Drop>(
+    files: &(impl Files + FileSystem<File = F>),
     alloc: Global,
     path: &str,
     n: usize,
@@ -484,7 +451,7 @@ fn length_in_file<F: FileExt + OpenFile + LockFile + Drop>(
 // A file of 100 bytes, of 63 units and of 64 units and a byte is no disk; one of 64 units is.
 #[test]
 fn a_bad_length_is_told(rt: HostRuntime) -> Result<(), Fail> {
-    let path = "tests_disk_length";
+    let path = "tests_file_length";
     for n in [0usize, 100, 63 * 512, 64 * 512 + 1] {
         let told = length_in_file(&rt, rt.alloc(), path, n)?;
         assert!(rt; told == Err(FileFault::BadLength), "{n} bytes");

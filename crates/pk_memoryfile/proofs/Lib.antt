@@ -1,0 +1,2 @@
+-- The lemma page.
+pub mod Front
