@@ -1,15 +1,16 @@
 -- The body that follows another one, and the claims of entries.
 use Rattle.std.proofs.Common.{◌≡◌, ℕ, ◌+◌, ◌<◌, ◌≤◌, ◌^◌, true, false, ◌&&◌, eqb, leb, ltb, List, [], ◌∷◌, ◌++◌, length, Option, Some, None, refl, sym, ◌∙◌, ap, subst, arith, append-nil, append_assoc}
 use Rattle.std.specs.List.{flat_map, list_all, list_any}
-use Rattle.std.proofs.lemmas.Bool.{and_from, and_parts, eqb-true, leb-true, le-leb, ltb-true, lt-ltb}
+use Rattle.std.proofs.lemmas.Bool.{and_from, and_parts, le-leb, ltb-true, lt-ltb}
 use Rattle.std.proofs.lemmas.Bool.Decides.{nat_tests}
 use Rattle.std.proofs.lemmas.List.Concat.{flat_map-cons}
 use Rattle.pk_disk.proofs.Ranges.{or_both}
 use Rattle.pk_disk.specs.Units.{IsFitted, apart, lies_within, overlap, start_of}
 use Rattle.pk_disk.specs.declared.units.Extent.{Extent}
 use Rattle.pk_manifest.specs.declared.manifest.Part.{Part as Entry}
-use Rattle.pk_manifest.specs.Sound.{IsBody, dead_extents, extents_of, is_dead, is_extent, is_part, is_sound, named, same_segment}
+use Rattle.pk_manifest.specs.Sound.{IsBody, dead_extents, entry_limit, extents_of, is_dead, is_extent, is_part, same_segment}
 use Rattle.pk_manifest.specs.Spelling.{Body}
+use Rattle.pk_manifest.proofs.Sound.{eqb_same, is_sound_by, says_sound}
 use Rattle.pk_model.specs.Limits.{end_of_ids, end_of_numbers}
 use Rattle.pk_posting.specs.Spelling.{spelling}
 use Rattle.pk_posting.proofs.SpellingLemmas.{length_spelling}
@@ -66,42 +67,13 @@ ids_apart units n ps all h =
     let same : ps ++ [] ≡ ps = append-nil ps in
     in_by same_segment segments_turned ps [] n (ap (list_any (same_segment n)) same ∙ new_id units n ps all) (ap (apart same_segment) same ∙ h)
 
--- what a sound body says, part by part
-pub record SaysSound (units : ℕ) (b : Body) : Type 0 where
-  pub generation : 1 ≤ b.generation
-  pub of_disk : b.units ≡ units
-  pub next_number : 1 ≤ b.next_number
-  pub next_segment : 1 ≤ b.next_segment
-  pub few : length b.entries ≤ 64
-  pub parts : list_all (is_part units b.next_segment) b.entries ≡ true
-  pub ids : apart same_segment b.entries ≡ true
-  pub places : apart overlap (named b) ≡ true
-
-pub says_sound : (units : ℕ) (b : Body) → is_sound units b ≡ true → SaysSound units b
-says_sound units b h =
-    let a = and_parts (leb 1 b.generation && eqb b.units units && leb 1 b.next_number && leb 1 b.next_segment && leb (length b.entries) 64 && list_all (is_part units b.next_segment) b.entries && apart same_segment b.entries) (apart overlap (named b)) h in
-    let c = and_parts (leb 1 b.generation && eqb b.units units && leb 1 b.next_number && leb 1 b.next_segment && leb (length b.entries) 64 && list_all (is_part units b.next_segment) b.entries) (apart same_segment b.entries) a.0 in
-    let d = and_parts (leb 1 b.generation && eqb b.units units && leb 1 b.next_number && leb 1 b.next_segment && leb (length b.entries) 64) (list_all (is_part units b.next_segment) b.entries) c.0 in
-    let e = and_parts (leb 1 b.generation && eqb b.units units && leb 1 b.next_number && leb 1 b.next_segment) (leb (length b.entries) 64) d.0 in
-    let f = and_parts (leb 1 b.generation && eqb b.units units && leb 1 b.next_number) (leb 1 b.next_segment) e.0 in
-    let g = and_parts (leb 1 b.generation && eqb b.units units) (leb 1 b.next_number) f.0 in
-    let k = and_parts (leb 1 b.generation) (eqb b.units units) g.0 in
-    record { generation = leb-true _ _ k.0; of_disk = eqb-true _ _ k.1; next_number = leb-true _ _ g.1; next_segment = leb-true _ _ f.1; few = leb-true _ _ e.1; parts = d.1; ids = c.1; places = a.1 }
-
-pub eqb_same : (a b : ℕ) → a ≡ b → eqb a b ≡ true
-eqb_same a b h = grind (arith, nat_tests, h)
-
-pub is_sound_by : (units : ℕ) (b : Body) → SaysSound units b → is_sound units b ≡ true
-is_sound_by units b s =
-    and_from _ _ (and_from _ _ (and_from _ _ (and_from _ _ (and_from _ _ (and_from _ _ (and_from _ _ (le-leb _ _ s.generation) (eqb_same _ _ s.of_disk)) (le-leb _ _ s.next_number)) (le-leb _ _ s.next_segment)) (le-leb _ _ s.few)) s.parts) s.ids) s.places
-
 -- ---- a body that follows is sound
 
 pub no_more : (n : ℕ) → n + 0 ≡ n
 no_more n = omega arith
 
 -- with these entries, a generation later
-pub next_sound : (units : ℕ) (b : Body) (next given : ℕ) (entries : List Entry) → IsBody units b → b.generation < end_of_ids → b.next_segment + given < 2 ^ 64 → 1 ≤ next → next ≤ end_of_numbers → length entries ≤ 64
+pub next_sound : (units : ℕ) (b : Body) (next given : ℕ) (entries : List Entry) → IsBody units b → b.generation < end_of_ids → b.next_segment + given < 2 ^ 64 → 1 ≤ next → next ≤ end_of_numbers → length entries ≤ entry_limit
     → list_all (is_part units (b.next_segment + given)) entries ≡ true → apart same_segment entries ≡ true → apart overlap (flat_map extents_of entries) ≡ true → IsBody units (next_body b next given entries)
 next_sound units b next given entries is left ids some most few parts own places =
     let s = says_sound units b is.sound in

@@ -12,8 +12,9 @@ use Rattle.std.proofs.lemmas.List.Elements.{All-cons, All-nil, All-same}
 use Rattle.pk_disk.specs.Units.{IsFitted, apart, lies_within, overlap, start_of, units_in}
 use Rattle.pk_disk.specs.declared.units.Extent.{Extent}
 use Rattle.pk_manifest.specs.declared.manifest.Part.{Part as Entry}
-use Rattle.pk_manifest.specs.Sound.{IsBody, extents_of, is_part, named, same_segment}
+use Rattle.pk_manifest.specs.Sound.{IsBody, SaysSound, extents_of, is_part, named, same_segment}
 use Rattle.pk_manifest.specs.Spelling.{Body}
+use Rattle.pk_manifest.proofs.Sound.{says_sound}
 use Rattle.pk_merge.specs.declared.fault.MergeFault.{MergeFault}
 use Rattle.pk_merge.specs.declared.fault.MergeFault.TheVariants as merging
 use Rattle.pk_merge.specs.Merging.{MergeFails}
@@ -44,7 +45,7 @@ use Rattle.pk_layout.specs.Plan.{GoesTo, GoesOn, IsPlan, entry_in, laid_in, new_
 use Rattle.pk_layout.specs.Refusing.{merge_refusal}
 use Rattle.pk_layout.specs.Plan.{IsGrown}
 use Rattle.pk_layout.proofs.ApartLemmas.{apart_in, apart_out, in_by, without_by}
-use Rattle.pk_layout.proofs.BodyLemmas.{SaysSound, new_id, new_part, next_sound, no_more, parts_later, says_sound, segments_turned}
+use Rattle.pk_layout.proofs.BodyLemmas.{new_id, new_part, next_sound, no_more, parts_later, segments_turned}
 use Rattle.pk_layout.proofs.ExtentLemmas.{overlap_sym}
 use Rattle.pk_layout.proofs.LeftLemmas.{none_now, not_too_many, one_now, pending_names}
 use Rattle.pk_layout.proofs.PlanLemmas.{goes_on_from, goes_to, lengths_here, plan_is}

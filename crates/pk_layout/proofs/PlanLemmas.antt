@@ -5,7 +5,7 @@ use Rattle.std.specs.List.{AllByRecursion, flat_map, list_all}
 use Rattle.std.proofs.lemmas.Bool.{and_from, and_parts, le-ltb, lt-ltb, or_from, or_left}
 use Rattle.std.proofs.lemmas.List.{get_or-map, length-map}
 use Rattle.std.proofs.lemmas.List.Elements.{All-append, All-cons, All-head, All-map, All-nil, recursion_from_All}
-use Rattle.pk_manifest.specs.Sound.{IsBody, named, segment_limit}
+use Rattle.pk_manifest.specs.Sound.{IsBody, SaysSound, entry_limit, named, segment_limit}
 use Rattle.pk_model.specs.Collection.{Doc}
 use Rattle.pk_model.specs.declared.documents.Document.{Document}
 use Rattle.pk_model.specs.Views.{doc_of}
@@ -30,6 +30,7 @@ use Rattle.pk_state.specs.Writing.{is_too_large, new_entry, new_stored, written_
 use Rattle.pk_layout.proofs.PlacingLemmas.{some_bytes as some_bytes_of, spelled_length}
 use Rattle.pk_disk.specs.Units.{apart, lies_within, overlap, units_in}
 use Rattle.pk_manifest.proofs.Fields.{extents_of_disk}
+use Rattle.pk_manifest.proofs.Sound.{says_sound}
 use Rattle.pk_manifest.specs.Sound.{is_part}
 use Rattle.pk_model.specs.Limits.{end_of_ids, end_of_numbers}
 use Rattle.pk_replace.specs.Claims.{AreApart, Each, IsAmong, IsBehind, IsInside, places}
@@ -49,7 +50,7 @@ use Rattle.pk_manifest.specs.Spelling.{Body}
 use Rattle.pk_search.specs.declared.opened.OpenSegment.{OpenSegment}
 use Rattle.pk_state.specs.Writing.{next_body}
 use Rattle.pk_layout.proofs.ApartLemmas.{apart_back, apart_in, apart_out, laid_all, laid_apart, placed_all, placed_long}
-use Rattle.pk_layout.proofs.BodyLemmas.{SaysSound, claims_append, entries_append, entries_laid, ids_apart, list_extent, new_part, next_sound, parts_later, says_sound}
+use Rattle.pk_layout.proofs.BodyLemmas.{claims_append, entries_append, entries_laid, ids_apart, list_extent, new_part, next_sound, parts_later}
 use Rattle.pk_layout.proofs.RelistLemmas.{AreFree, IsListExtent, claims_relisted, entries_relisted, ids_relisted, map_settled, parts_relisted, relisted_free, relisted_long, settled_open}
 use Rattle.pk_space.specs.Places.{PlacedAs}
 use Rattle.pk_layout.proofs.TakenLemmas.{taken_append, taken_relisted}
@@ -73,12 +74,12 @@ no_documents [] none = refl
 no_documents (d ∷ documents) none = absurd (omega (arith, none))
 
 -- entries with new lists are no more than there were, and one of a new segment
-pub few_entries : (units : ℕ) (b m : Body) (next given : ℕ) (es more : List Entry) (os : List OpenSegment) (xs : List Extent) → IsBody units b → m ≡ next_body b next given (es ++ more) → es ≡ relisted b.entries os xs → length b.entries + length more ≤ 64 → length m.entries ≤ 64
+pub few_entries : (units : ℕ) (b m : Body) (next given : ℕ) (es more : List Entry) (os : List OpenSegment) (xs : List Extent) → IsBody units b → m ≡ next_body b next given (es ++ more) → es ≡ relisted b.entries os xs → length b.entries + length more ≤ entry_limit → length m.entries ≤ entry_limit
 few_entries units b m next given es more os xs is same entries room =
     let long : length m.entries ≡ length es + length more = ap (λ (x : Body). length x.entries) same ∙ length-append es more in
     omega (arith, long, ap length entries, relisted_long b.entries os xs, room)
 
-pub sound_few : (units : ℕ) (b : Body) → IsBody units b → length b.entries + 0 ≤ 64
+pub sound_few : (units : ℕ) (b : Body) → IsBody units b → length b.entries + 0 ≤ entry_limit
 sound_few units b is = let few = (says_sound units b is.sound).few in omega (arith, few)
 
 -- as many extents as there are writes
@@ -107,7 +108,7 @@ placed_here size b is writes some es placed = lengths_here size b is (map length
 module _ (size : ℕ) (b b' : Body) (is : IsBody (units_in size) b) (left : b.generation < end_of_ids) (next_is : IsBody (units_in size) b') (later : b'.generation ≡ b.generation + 1)
     (writes : List (List ℕ)) (some : AllByRecursion (λ (n : ℕ). 1 ≤ n) (map length writes)) (extents : List Extent) (placed : PlacedAs b.units (named b) (map length writes) extents)
     (opened : List OpenSegment) (count : length opened ≡ length b'.entries) (grown : All IsGrown opened) (p : Plan) (plan : IsPlanOf b' opened p) where
-  disk_extents : (length b.entries ≤ 64) × (list_all (lies_within (units_in size)) (named b) ≡ true) × (apart overlap (named b) ≡ true)
+  disk_extents : (length b.entries ≤ entry_limit) × (list_all (lies_within (units_in size)) (named b) ≡ true) × (apart overlap (named b) ≡ true)
   disk_extents = extents_of_disk (units_in size) b is
 
   pub on_disk : PlacedAs (units_in size) (named b) (map length writes) extents
@@ -266,7 +267,7 @@ each_and : (P : Claim → Type 0) (cs ds : List Claim) → Each P cs → Each P 
 each_and P [] ds first second = second
 each_and P (c ∷ cs) ds first second = (first.0, each_and P cs ds first.1 second)
 
-module _ (size : ℕ) (b : Body) (is : IsBody (units_in size) b) (os : List OpenSegment) (count : length os ≡ length b.entries) (left : b.generation < end_of_ids) (ids : b.next_segment < end_of_ids) (room : length b.entries < 64) (next : ℕ) (some : 1 ≤ next) (most : next ≤ end_of_numbers)
+module _ (size : ℕ) (b : Body) (is : IsBody (units_in size) b) (os : List OpenSegment) (count : length os ≡ length b.entries) (left : b.generation < end_of_ids) (ids : b.next_segment < end_of_ids) (room : length b.entries < entry_limit) (next : ℕ) (some : 1 ≤ next) (most : next ≤ end_of_numbers)
     (can : CanBeWritten (new_lists os)) (docs : List Doc) (bytes : List ℕ) (spells : SegmentSpells bytes docs written_kind) (o : Segment) (opened_is : IsSegmentOf o docs) (e : Extent) (xs : List Extent) (placed : PlacedAs b.units (named b) (map length (bytes ∷ new_lists os)) (e ∷ xs))
     (p : CommitPlan) (plan : IsPlanOf (body_with_segment b os next (e ∷ xs)) (map settled os ++ fresh_segment o ∷ []) p.plan) (pieces : pieces_of p ≡ laid_in (e ∷ xs) (bytes ∷ new_lists os)) where
   abbrev entries' : List Entry

@@ -1,8 +1,9 @@
 -- Entries with new deletion lists: they are sound, stand for what is present, and each claim of theirs is an old one or that of a new list.
-use Rattle.std.proofs.Common.{◌≡◌, ◌⊎◌, inl, inr, ⊎_elim, ℕ, suc, ◌<◌, ◌++◌, ◌==◌, ◌&&◌, ◌||◌, leb, ltb, Bool, true, false, not, List, [], ◌∷◌, length, map, refl, sym, ◌∙◌, ap, subst, arith, append_assoc, Option, Some, None}
+use Rattle.std.proofs.Common.{◌≡◌, ◌⊎◌, inl, inr, ⊎_elim, ℕ, suc, ◌+◌, ◌<◌, ◌≤◌, ◌++◌, ◌==◌, ◌&&◌, ◌||◌, leb, ltb, Bool, true, false, not, List, [], ◌∷◌, length, map, drop, get_or, refl, sym, ◌∙◌, ap, subst, arith, append_assoc, Option, Some, None}
 use Rattle.std.specs.Prelude.{if◌then◌else◌}
 use Rattle.std.specs.List.{AllByRecursion, flat_map, list_all, list_any}
 use Rattle.std.proofs.lemmas.Bool.{and_from, and_parts, eqb-true, not-false}
+use Rattle.std.proofs.lemmas.List.{at_drop_all, at_drop_more}
 use Rattle.std.proofs.lemmas.List.Concat.{flat_map-cons}
 use Rattle.std.proofs.lemmas.List.Folds.{list_any-append}
 use Rattle.pk_dead.specs.Sets.{with_number}
@@ -29,6 +30,57 @@ use Rattle.pk_layout.proofs.ExtentLemmas.{apart_parts, overlap_sym}
 pub by_test : {P : Type 0} (b : Bool) → (b ≡ true → P) → (b ≡ false → P) → P
 by_test true h k = h refl
 by_test false h k = k refl
+
+-- ---- one entry after another
+no_segment_left : (es : List Entry) (xs : List Extent) → relisted es [] xs ≡ es
+no_segment_left [] xs = refl
+no_segment_left (e ∷ es) xs = refl
+
+no_extent_left : (es : List Entry) (os : List OpenSegment) → relisted es os [] ≡ es
+no_extent_left [] os = refl
+no_extent_left (e ∷ es) [] = refl
+no_extent_left (e ∷ es) (o ∷ os) = refl
+
+settled_by : (e : Entry) (es : List Entry) (o : OpenSegment) (os : List OpenSegment) (xs : List Extent) → pends o ≡ false → relisted (e ∷ es) (o ∷ os) xs ≡ e ∷ relisted es os xs
+settled_by e es o os [] is = ap (λ rest. e ∷ rest) (sym (no_extent_left es os))
+settled_by e es o os (x ∷ xs) is = ap (λ b. if b then with_list e x ∷ relisted es os xs else e ∷ relisted es os (x ∷ xs)) is
+
+-- the entry is put, and the others are put behind it
+pub put_one : (out more : List Entry) (e : Entry) (left rest total : List Entry) → more ≡ out ++ e ∷ [] → left ≡ e ∷ rest → out ++ left ≡ total → more ++ rest ≡ total
+put_one out more e left rest total is first so_far = ap (λ es. es ++ rest) is ∙ append_assoc out (e ∷ []) rest ∙ ap (λ es. out ++ es) (sym first) ∙ so_far
+
+pub first_extent : (xs rest : List Extent) (x : Extent) → 0 < length xs → x ≡ get_or xs 0 x → rest ≡ drop 1 xs → xs ≡ x ∷ rest
+first_extent xs rest x some at is = at_drop_more (λ (ys : List Extent). ys) xs 0 x some ∙ ap (λ y. y ∷ drop 1 xs) (sym at) ∙ ap (λ ys. x ∷ ys) (sym is)
+
+module _ (es : List Entry) (os : List OpenSegment) (i : ℕ) (e : Entry) (lt : i < length es) (at : e ≡ get_or es i e) where
+  cut : drop i es ≡ e ∷ drop (i + 1) es
+  cut = at_drop_more (λ (xs : List Entry). xs) es i e lt ∙ ap (λ (x : Entry). x ∷ drop (i + 1) es) (sym at)
+
+  module _ (o : OpenSegment) (inside : i < length os) (there : o ≡ get_or os i o) where
+    cut_segments : drop i os ≡ o ∷ drop (i + 1) os
+    cut_segments = at_drop_more (λ (xs : List OpenSegment). xs) os i o inside ∙ ap (λ (x : OpenSegment). x ∷ drop (i + 1) os) (sym there)
+
+    -- with the first extent as its list
+    pub one_relisted : (xs rest : List Extent) (x : Extent) → xs ≡ x ∷ rest → pends o ≡ true → relisted (drop i es) (drop i os) xs ≡ with_list e x ∷ relisted (drop (i + 1) es) (drop (i + 1) os) rest
+    one_relisted xs rest x first is =
+        (λ k. relisted (cut k) (cut_segments k) (first k))
+        ∙ ap (λ b. if b then with_list e x ∷ relisted (drop (i + 1) es) (drop (i + 1) os) rest else e ∷ relisted (drop (i + 1) es) (drop (i + 1) os) (x ∷ rest)) is
+
+    -- as it is
+    pub one_settled : (xs : List Extent) → pends o ≡ false → relisted (drop i es) (drop i os) xs ≡ e ∷ relisted (drop (i + 1) es) (drop (i + 1) os) xs
+    one_settled xs is = (λ k. relisted (cut k) (cut_segments k) xs) ∙ settled_by e (drop (i + 1) es) o (drop (i + 1) os) xs is
+
+  -- without a segment, or without an extent, too
+  pub one_behind : (xs : List Extent) → length os ≤ i → relisted (drop i es) (drop i os) xs ≡ e ∷ relisted (drop (i + 1) es) (drop (i + 1) os) xs
+  one_behind xs past =
+      let none : drop i os ≡ [] = at_drop_all (λ (ys : List OpenSegment). ys) os i past in
+      let no_more : drop (i + 1) os ≡ [] = at_drop_all (λ (ys : List OpenSegment). ys) os (i + 1) (omega (arith, past)) in
+      (λ k. relisted (cut k) (none k) xs) ∙ ap (λ rest. e ∷ rest) (sym (no_segment_left (drop (i + 1) es) xs)) ∙ ap (λ ys. e ∷ relisted (drop (i + 1) es) ys xs) (sym no_more)
+
+  pub one_without : (xs : List Extent) → xs ≡ [] → relisted (drop i es) (drop i os) xs ≡ e ∷ relisted (drop (i + 1) es) (drop (i + 1) os) xs
+  one_without xs none =
+      (λ k. relisted (cut k) (drop i os) (none k)) ∙ no_extent_left (e ∷ drop (i + 1) es) (drop i os)
+      ∙ ap (λ rest. e ∷ rest) (sym (no_extent_left (drop (i + 1) es) (drop (i + 1) os))) ∙ ap (λ ys. e ∷ relisted (drop (i + 1) es) (drop (i + 1) os) ys) (sym none)
 
 -- ---- a segment without a pending deletion
 

@@ -35,22 +35,17 @@ pub(crate) fn put_entries(
     ensures { OnOk result (out.new.items
         ≡ out.old.items ++ relisted entries.now opened.now extents.now) }
 {
-    let Some((entry, more)) = entries.split_first() else {
-        return Ok(());
-    };
-    let Some((segment, others)) = opened.split_first() else {
-        return out.extend_from_slice(entries);
-    };
-    let Some((extent, rest)) = extents.split_first() else {
-        return out.extend_from_slice(entries);
-    };
-    if segment.is_pending() {
-        out.push(with_list(*entry, *extent))?;
-        put_entries(out, more, others, rest)
-    } else {
-        out.push(*entry)?;
-        put_entries(out, more, others, extents)
+    let mut lists = extents;
+    for i in 0..entries.len() {
+        if i < opened.len() && !lists.is_empty() && opened[i].is_pending() {
+            out.push(with_list(entries[i], lists[0]))?;
+            let (_, others) = lists.split_at(1);
+            lists = others;
+        } else {
+            out.push(entries[i])?;
+        }
     }
+    Ok(())
 }
 
 /// Puts the open segments behind the others, each with all its deletions in its list.
@@ -61,15 +56,14 @@ pub(crate) fn put_settled(
 ) -> Result<(), AllocError>
     ensures { OnOk result (out.new.items ≡ out.old.items ++ map settled opened.now) }
 {
-    let Some((segment, others)) = opened.split_first() else {
-        return Ok(());
-    };
-    out.push(OpenSegment {
-        segment: segment.segment,
-        dead: segment.deleted.copy(alloc)?,
-        deleted: segment.deleted.copy(alloc)?,
-    })?;
-    put_settled(alloc, out, others)
+    for segment in opened {
+        out.push(OpenSegment {
+            segment: segment.segment,
+            dead: segment.deleted.copy(alloc)?,
+            deleted: segment.deleted.copy(alloc)?,
+        })?;
+    }
+    Ok(())
 }
 
 /// Puts the open segments behind the others, as they are.
@@ -80,15 +74,14 @@ pub(crate) fn put_copies(
 ) -> Result<(), AllocError>
     ensures { OnOk result (out.new.items ≡ out.old.items ++ opened.now) }
 {
-    let Some((segment, others)) = opened.split_first() else {
-        return Ok(());
-    };
-    out.push(OpenSegment {
-        segment: segment.segment,
-        dead: segment.dead.copy(alloc)?,
-        deleted: segment.deleted.copy(alloc)?,
-    })?;
-    put_copies(alloc, out, others)
+    for segment in opened {
+        out.push(OpenSegment {
+            segment: segment.segment,
+            dead: segment.dead.copy(alloc)?,
+            deleted: segment.deleted.copy(alloc)?,
+        })?;
+    }
+    Ok(())
 }
 
 /// Copies of the open segments.

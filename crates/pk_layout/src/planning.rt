@@ -63,14 +63,13 @@ pub(crate) fn put_lists(
         ≡ map (λ w. w.items) writes.old.items ++ new_lists opened.now) }
     ensures sizes { OnOk result (CanBeWritten (new_lists opened.now)) }
 {
-    let Some((segment, others)) = opened.split_first() else {
-        return Ok(());
-    };
-    if segment.is_pending() {
-        let bytes = segment.deleted.spell(alloc)?;
-        writes.push(bytes)?;
+    for segment in opened {
+        if segment.is_pending() {
+            let bytes = segment.deleted.spell(alloc)?;
+            writes.push(bytes)?;
+        }
     }
-    put_lists(alloc, others, writes)
+    Ok(())
 }
 
 /// The lengths of what is to be written.
@@ -85,30 +84,6 @@ pub(crate) fn lengths_of(alloc: Global, writes: &[Vec<u8>]) -> Result<Vec<u32>, 
     Ok(lengths)
 }
 
-// Puts the bytes behind the other pieces, each at the start of its extent.
-fn put_pieces(
-    pieces: &mut Vec<Piece>,
-    mut writes: Vec<Vec<u8>>,
-    extents: &[Extent],
-) -> Result<(), AllocError>
-    requires { length writes.items ≡ length extents.now }
-    ensures { OnOk result (map claim_of pieces.new.items ≡ map claim_of pieces.old.items
-        ++ laid_in extents.now (map (λ w. w.items) writes.items)) }
-{
-    let Some((extent, others)) = extents.split_last() else {
-        return Ok(());
-    };
-    let Some(bytes) = writes.pop() else {
-        return Ok(());
-    };
-    put_pieces(pieces, writes, others)?;
-    pieces.push(Piece {
-        at: extent.start(),
-        bytes,
-    })?;
-    Ok(())
-}
-
 /// These bytes, each at the start of the extent at its place.
 pub(crate) fn pieces_for(
     alloc: Global,
@@ -120,7 +95,10 @@ pub(crate) fn pieces_for(
         ≡ laid_in extents.now (map (λ w. w.items) writes.items)) }
 {
     let mut pieces = Vec::with_capacity(alloc, extents.len())?;
-    put_pieces(&mut pieces, writes, extents)?;
+    for bytes in writes {
+        let at = extents[pieces.len()].start();
+        pieces.push(Piece { at, bytes })?;
+    }
     Ok(pieces)
 }
 

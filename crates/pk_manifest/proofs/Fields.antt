@@ -15,8 +15,9 @@ use Rattle.pk_disk.specs.Units.{apart, lies_within, overlap}
 use Rattle.pk_manifest.specs.declared.half.Half.{Half}
 use Rattle.pk_manifest.specs.Bodies.{body_size, body_of, generation_of}
 use Rattle.pk_manifest.specs.Current.{HasBody, units_of_disk}
-use Rattle.pk_manifest.specs.Sound.{same_segment, named, extents_of, dead_extents, is_extent, is_dead, is_part, is_sound, IsBody}
+use Rattle.pk_manifest.specs.Sound.{named, extents_of, dead_extents, entry_limit, is_extent, is_dead, is_part, is_sound, IsBody}
 use Rattle.pk_manifest.specs.Fields.{number_at, extent_at, dead_at, part_at, parts_at, body_at}
+use Rattle.pk_manifest.proofs.Sound.{says_sound}
 
 pub record ExtentFits (e : Extent) : Type 0 where
   pub first : e.first < 2 ^ 32
@@ -121,13 +122,6 @@ parts_again units next (p ∷ ps) rest small low h =
     let regrouped : flat_map entry (p ∷ ps) ++ rest ≡ entry p ++ (flat_map entry ps ++ rest) = ap (λ (x : List ℕ). x ++ rest) (flat_map-cons entry p ps) ∙ append_assoc (entry p) (flat_map entry ps) rest in
     ap (parts_at (suc (length ps))) regrouped ∙ rw (part_again p (flat_map entry ps ++ rest) (part_fits units next p small low both.0), entry_rest p (flat_map entry ps ++ rest), parts_again units next ps rest small low both.1) refl
 
--- what a sound body says of its numbers
-pub record SoundParts (units : ℕ) (b : Body) : Type 0 where
-  pub few : length b.entries ≤ 64
-  pub parts : list_all (is_part units b.next_segment) b.entries ≡ true
-  pub of_disk : b.units ≡ units
-  pub named_apart : apart overlap (named b) ≡ true
-
 count_again : (b : Body) (rest : List ℕ) → length b.entries < 2 ^ 32 → number_at w32 32 (front b ++ rest) ≡ length b.entries
 unfolding front numbers le32 le64
 count_again b rest h = from_le_bytes-to_le_bytes_4 (length b.entries) h
@@ -143,24 +137,10 @@ unfolding body_at front numbers le32 le64
 fields_again b rest ps g u n s h =
     rw (h, from_le_bytes-to_le_bytes_8 b.generation g, from_le_bytes-to_le_bytes_4 b.units u, from_le_bytes-to_le_bytes_4 b.next_number n, from_le_bytes-to_le_bytes_8 b.next_segment s) refl
 
-sound_parts : (units : ℕ) (b : Body) → is_sound units b ≡ true → SoundParts units b
-sound_parts units b h =
-    let a = and_parts (leb 1 b.generation && eqb b.units units && leb 1 b.next_number && leb 1 b.next_segment && leb (length b.entries) 64 && list_all (is_part units b.next_segment) b.entries && apart same_segment b.entries) (apart overlap (named b)) h in
-    let c = and_parts (leb 1 b.generation && eqb b.units units && leb 1 b.next_number && leb 1 b.next_segment && leb (length b.entries) 64 && list_all (is_part units b.next_segment) b.entries) (apart same_segment b.entries) a.0 in
-    let d = and_parts (leb 1 b.generation && eqb b.units units && leb 1 b.next_number && leb 1 b.next_segment && leb (length b.entries) 64) (list_all (is_part units b.next_segment) b.entries) c.0 in
-    let e = and_parts (leb 1 b.generation && eqb b.units units && leb 1 b.next_number && leb 1 b.next_segment) (leb (length b.entries) 64) d.0 in
-    let f = and_parts (leb 1 b.generation && eqb b.units units && leb 1 b.next_number) (leb 1 b.next_segment) e.0 in
-    let g = and_parts (leb 1 b.generation && eqb b.units units) (leb 1 b.next_number) f.0 in
-    let k = and_parts (leb 1 b.generation) (eqb b.units units) g.0 in
-    record { few = leb-true _ _ e.1; parts = d.1; of_disk = eqb-true _ _ k.1; named_apart = a.1 }
-
-pub sound_says : (units : ℕ) (b : Body) → IsBody units b → SoundParts units b
-sound_says units b is = sound_parts units b is.sound
-
 -- where the text of a body is followed by any bytes, its fields are read again
 pub body_again : (units : ℕ) (b : Body) (rest : List ℕ) → IsBody units b → body_at (text b ++ rest) ≡ b
 body_again units b rest is =
-    let says = sound_says units b is in
+    let says = says_sound units b is.sound in
     let small : units < 2 ^ 32 = omega (arith, is.units, says.of_disk) in
     let few : length b.entries < 2 ^ 32 = omega (arith, says.few) in
     let regrouped : text b ++ rest ≡ front b ++ (flat_map entry b.entries ++ rest) = append_assoc (front b) (flat_map entry b.entries) rest in
@@ -179,7 +159,7 @@ one_body units a b is_a is_b same = sym (body_of_spelling units a is_a) ∙ ap b
 pub count_of_spelling : (units : ℕ) (b : Body) → IsBody units b → number_at w32 32 (spelling b) ≡ length b.entries
 unfolding spelling
 count_of_spelling units b is =
-    let says = sound_says units b is in
+    let says = says_sound units b is.sound in
     let few : length b.entries < 2 ^ 32 = omega (arith, says.few) in
     let rest = replicate (body_size - length (text b)) 0 in
     ap (number_at w32 32) (append_assoc (front b) (flat_map entry b.entries) rest) ∙ count_again b (flat_map entry b.entries ++ rest) few
@@ -199,7 +179,7 @@ length_front b = refl
 pub length_text : (b : Body) → length (text b) ≡ 36 + 40 * length b.entries
 length_text b = omega (arith, length-append (front b) (flat_map entry b.entries), length_front b, length_entries b.entries)
 
-pub length_spelling : (b : Body) → length b.entries ≤ 64 → length (spelling b) ≡ body_size
+pub length_spelling : (b : Body) → length b.entries ≤ entry_limit → length (spelling b) ≡ body_size
 unfolding spelling
 length_spelling b h = omega (arith, length-append (text b) (replicate (body_size - length (text b)) 0), length-replicate {A = ℕ} (body_size - length (text b)) 0, length_text b)
 
@@ -221,7 +201,7 @@ parts_done count i parts rest total le so_far =
     let one : parts ++ parts_at (count - i) rest ≡ parts = rw k (append-nil parts) in
     sym one ∙ so_far
 
-pub text_room : (b : Body) (before after : List ℕ) → length b.entries ≤ 64 → before ≡ [] → after ≡ before ++ text b → length after ≤ 8192
+pub text_room : (b : Body) (before after : List ℕ) → length b.entries ≤ entry_limit → before ≡ [] → after ≡ before ++ text b → length after ≤ body_size
 text_room b before after few nothing is = omega (arith, ap length is, length-append before (text b), ap length nothing, length_text b)
 
 -- the generation, as opening reads it
@@ -239,7 +219,7 @@ one_body_in_force bytes first second a b is_a is_b =
     (same, one_body (units_of_disk bytes) a b is_a.sound is_b.sound (sym is_a.spelled ∙ ap (λ (h : Half). body_of bytes h) same ∙ is_b.spelled))
 
 -- what a sound body says of the extents that it names
-pub extents_of_disk : (units : ℕ) (b : Body) → IsBody units b → (length b.entries ≤ 64) × (list_all (lies_within units) (named b) ≡ true) × (apart overlap (named b) ≡ true)
+pub extents_of_disk : (units : ℕ) (b : Body) → IsBody units b → (length b.entries ≤ entry_limit) × (list_all (lies_within units) (named b) ≡ true) × (apart overlap (named b) ≡ true)
 extents_of_disk units b is =
-    let says = sound_says units b is in
-    (says.few, parts_within units b.next_segment b.entries says.parts, says.named_apart)
+    let says = says_sound units b is.sound in
+    (says.few, parts_within units b.next_segment b.entries says.parts, says.places)

@@ -4,4 +4,5 @@ mod Establishing
 pub mod Far
 pub mod Fields
 pub mod Firm
+pub mod Sound
 mod Windows

@@ -1,5 +1,5 @@
 -- What a body may say.
-use Rattle.std.specs.Prelude.{◌≡◌, ℕ, ◌<◌, ◌^◌, Bool, true, ◌&&◌, nat_le, nat_lt, ◌==◌, List, []}
+use Rattle.std.specs.Prelude.{◌≡◌, ℕ, ◌<◌, ◌≤◌, ◌^◌, Bool, true, ◌&&◌, nat_le, nat_lt, ◌==◌, List, []}
 use Rattle.std.specs.Prelude.{◌∷◌, length, Option, Some, None}
 use Rattle.std.specs.List.{flat_map, list_all}
 use Rattle.pk_disk.specs.declared.units.Extent.{Extent}
@@ -54,6 +54,17 @@ is_sound units b =
     && nat_le 1 b.next_segment && nat_le (length b.entries) entry_limit
     && list_all (is_part units b.next_segment) b.entries
     && apart same_segment b.entries && apart overlap (named b)
+
+-- WHAT A SOUND BODY SAYS, part by part.
+pub record SaysSound (units : ℕ) (b : Body) : Type 0 where
+  pub generation : 1 ≤ b.generation
+  pub of_disk : b.units ≡ units
+  pub next_number : 1 ≤ b.next_number
+  pub next_segment : 1 ≤ b.next_segment
+  pub few : length b.entries ≤ entry_limit
+  pub parts : list_all (is_part units b.next_segment) b.entries ≡ true
+  pub ids : apart same_segment b.entries ≡ true
+  pub places : apart overlap (named b) ≡ true
 
 -- a sound body, whose numbers have the widths of their fields
 pub record IsBody (disk_units : ℕ) (b : Body) : Type 0 where

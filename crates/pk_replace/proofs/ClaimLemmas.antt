@@ -1,13 +1,15 @@
 -- Claims under changes: those that nothing touches stay, and pieces written one after another are there.
-use Rattle.std.proofs.Common.{◌≡◌, ⊎_elim, ℕ, ◌+◌, ◌≤◌, Bool, List, [], ◌∷◌, length, refl, sym, ◌∙◌, ap, subst}
+use Rattle.std.proofs.Common.{◌≡◌, ⊎_elim, ℕ, ◌+◌, ◌<◌, ◌≤◌, Bool, List, [], ◌∷◌, ◌++◌, length, map, take, drop, get_or, refl, sym, ◌∙◌, ap, subst}
+use Rattle.std.proofs.lemmas.List.{at_drop_more, map-append, take-append-drop, take_more}
 use Rattle.pk_disk.specs.declared.disk.Disk.{Ghosts}
 use Rattle.pk_disk.specs.Disk.{IsImage, IsChangedOnly, also, in_range, nowhere, written}
-use Rattle.pk_disk.proofs.Ranges.{or_left, or_right}
+use Rattle.pk_disk.proofs.Ranges.{or_both, or_left, or_right}
 use Rattle.pk_disk.proofs.Images.{same_part}
 use Rattle.pk_disk.proofs.Changes.{IsWithin, part_in, part_left, there_by}
-use Rattle.pk_replace.specs.Claims.{Claim, AreApart, Each, IsAmong, IsInside, IsThere, IsUntouched, Stands, places}
+use Rattle.pk_replace.specs.declared.pieces.Piece.{Piece}
+use Rattle.pk_replace.specs.Claims.{Claim, AreApart, Each, IsAmong, IsInside, IsThere, IsUntouched, Stands, claim_of, places}
 use Rattle.pk_replace.specs.Writing.{WritesOnly}
-use Rattle.pk_replace.proofs.WritingLemmas.{writes_then, writes_within}
+use Rattle.pk_replace.proofs.WritingLemmas.{writes_then}
 
 -- each has what follows from what it has
 pub each_weaker : (P Q : Claim → Type 0) → ((c : Claim) → P c → Q c) → (cs : List Claim) → Each P cs → Each Q cs
@@ -56,38 +58,74 @@ module _ (b : List ℕ) (o t : ℕ → Bool) (b' : List ℕ) (o' : ℕ → Bool)
   all_still [] out stand = tt
   all_still (c ∷ cs) out stand = (stands_still c out.0 stand.0, all_still cs out.1 stand.1)
 
--- the first claim, and the others
-pub within_first : (c : Claim) (cs : List Claim) → IsWithin (in_range c.at (length c.bytes)) (places (c ∷ cs))
-within_first c cs p out = or_left (in_range c.at (length c.bytes) p) (places cs p) out
+-- the positions of some of the claims, and of one among them
+pub within_front : (front rest : List Claim) → IsWithin (places front) (places (front ++ rest))
+within_front [] rest p out = refl
+within_front (c ∷ front) rest p out =
+    or_both (in_range c.at (length c.bytes) p) (places front p) (or_left (in_range c.at (length c.bytes) p) (places (front ++ rest) p) out)
+    (within_front front rest p (or_right (in_range c.at (length c.bytes) p) (places (front ++ rest) p) out))
 
-pub within_rest : (c : Claim) (cs : List Claim) → IsWithin (places cs) (places (c ∷ cs))
-within_rest c cs p out = or_right (in_range c.at (length c.bytes) p) (places cs p) out
+within_behind : (front rest : List Claim) → IsWithin (places rest) (places (front ++ rest))
+within_behind [] rest p out = out
+within_behind (c ∷ front) rest p out = within_behind front rest p (or_right (in_range c.at (length c.bytes) p) (places (front ++ rest) p) out)
 
--- The calls that write a first piece c, whose bytes were lent as bs, and then the others.
-module _ {D : Type 0} (d : Ghosts D) (whole : List Claim) (c : Claim) (rest : List Claim) (split : whole ≡ c ∷ rest) (bs : List ℕ) (lent : bs ≡ c.bytes) (old mid : D) where
-  in_first : IsWithin (in_range c.at (length bs)) (places whole)
-  in_first = subst (λ (w : List Claim). IsWithin (in_range c.at (length bs)) (places w)) (sym split)
-      (subst (λ (xs : List ℕ). IsWithin (in_range c.at (length xs)) (places (c ∷ rest))) (sym lent) (within_first c rest))
+pub within_one : (front : List Claim) (c : Claim) (rest : List Claim) → IsWithin (in_range c.at (length c.bytes)) (places (front ++ c ∷ rest))
+within_one front c rest p out = or_left (in_range c.at (length c.bytes) p) (places rest p) (within_behind front (c ∷ rest) p out)
 
-  in_rest : IsWithin (places rest) (places whole)
-  in_rest = subst (λ (w : List Claim). IsWithin (places rest) (places w)) (sym split) (within_rest c rest)
+-- what each has, those behind others and those before them have
+each_behind : (P : Claim → Type 0) (front rest : List Claim) → Each P (front ++ rest) → Each P rest
+each_behind P [] rest each = each
+each_behind P (c ∷ front) rest each = each_behind P front rest each.1
 
-  pub fits_first : (size : ℕ) → Each (IsInside size) whole → c.at + length bs ≤ size
-  fits_first size inside = subst (λ (xs : List ℕ). c.at + length xs ≤ size) (sym lent) (subst (Each (IsInside size)) split inside).0.1
+each_last : (P : Claim → Type 0) (front : List Claim) (c : Claim) → Each P front → P c → Each P (front ++ c ∷ [])
+each_last P [] c each last = (last, tt)
+each_last P (d ∷ front) c each last = (each.0, each_last P front c each.1 last)
 
-  -- the first alone
-  pub put_first : WritesOnly d (in_range c.at (length bs)) old mid → WritesOnly d (places whole) old mid
-  put_first first = writes_within d (in_range c.at (length bs)) (places whole) in_first old mid first
+-- of claims that are apart, none before one shares a position with it
+before_one : (front : List Claim) (c : Claim) (rest : List Claim) → AreApart (front ++ c ∷ rest) → Each (IsUntouched (in_range c.at (length c.bytes))) front
+before_one [] c rest apart = tt
+before_one (d ∷ front) c rest apart = (λ p le lt. within_one front c rest p (apart.0 p le lt), before_one front c rest apart.1)
 
-  -- and the others
-  pub put_rest : WritesOnly d (in_range c.at (length bs)) old mid → (now : D) → WritesOnly d (places rest) mid now → WritesOnly d (places whole) old now
-  put_rest first now next = writes_then d (in_range c.at (length bs)) (places rest) (places whole) in_first in_rest old mid now first next
+-- The calls that write, behind the pieces in front, one more piece c, whose bytes were lent as bs.
+module _ {D : Type 0} (d : Ghosts D) (whole front : List Claim) (c : Claim) (rest : List Claim) (split : whole ≡ front ++ c ∷ rest) (bs : List ℕ) (lent : bs ≡ c.bytes) (old mid now : D) where
+  in_one : (outer : ℕ → Bool) → IsWithin (in_range c.at (length c.bytes)) outer → IsWithin (in_range c.at (length bs)) outer
+  in_one outer within = subst (λ (xs : List ℕ). IsWithin (in_range c.at (length xs)) outer) (sym lent) within
 
-  -- so that all are there
-  pub put_there : Each (IsInside (length (d.content old))) whole → AreApart whole → d.content mid ≡ written (d.content old) c.at bs
-      → (now : D) → IsChangedOnly (d.content mid) (d.is_open mid) (places rest) (d.content now) (d.is_open now) → Each (IsThere (d.content now)) rest → Each (IsThere (d.content now)) whole
-  put_there inside apart wrote now next there =
-      let fits : c.at + length c.bytes ≤ length (d.content old) = (subst (Each (IsInside (length (d.content old)))) split inside).0.1 in
-      let wrote_c : d.content mid ≡ written (d.content old) c.at c.bytes = wrote ∙ ap (written (d.content old) c.at) lent in
-      subst (λ (w : List Claim). Each (IsThere (d.content now)) w) (sym split)
-      (there_still (d.content mid) (d.is_open mid) (places rest) (d.content now) (d.is_open now) next c (subst AreApart split apart).0 (there_by (d.content old) c.at c.bytes fits (d.content mid) wrote_c), there)
+  pub fits_one : (size : ℕ) → Each (IsInside size) whole → c.at + length bs ≤ size
+  fits_one size inside = subst (λ (xs : List ℕ). c.at + length xs ≤ size) (sym lent) (each_behind (IsInside size) front (c ∷ rest) (subst (Each (IsInside size)) split inside)).0.1
+
+  -- among all of them
+  pub put_within : WritesOnly d (places front) old mid → WritesOnly d (in_range c.at (length bs)) mid now → WritesOnly d (places whole) old now
+  put_within before one =
+      subst (λ (w : List Claim). WritesOnly d (places w) old now) (sym split)
+      (writes_then d (places front) (in_range c.at (length bs)) (places (front ++ c ∷ rest)) (within_front front (c ∷ rest)) (in_one (places (front ++ c ∷ rest)) (within_one front c rest)) old mid now before one)
+
+  -- and among those so far
+  pub put_more : WritesOnly d (places front) old mid → WritesOnly d (in_range c.at (length bs)) mid now → WritesOnly d (places (front ++ c ∷ [])) old now
+  put_more before one =
+      writes_then d (places front) (in_range c.at (length bs)) (places (front ++ c ∷ [])) (within_front front (c ∷ [])) (in_one (places (front ++ c ∷ [])) (within_one front c [])) old mid now before one
+
+  -- so that these are there
+  pub put_there : AreApart whole → Each (IsThere (d.content mid)) front → IsChangedOnly (d.content mid) (d.is_open mid) (in_range c.at (length bs)) (d.content now) (d.is_open now)
+      → c.at + length bs ≤ length (d.content mid) → d.content now ≡ written (d.content mid) c.at bs → Each (IsThere (d.content now)) (front ++ c ∷ [])
+  put_there apart there changed fits wrote =
+      let fits_c : c.at + length c.bytes ≤ length (d.content mid) = subst (λ (xs : List ℕ). c.at + length xs ≤ length (d.content mid)) lent fits in
+      let wrote_c : d.content now ≡ written (d.content mid) c.at c.bytes = wrote ∙ ap (written (d.content mid) c.at) lent in
+      let untouched = before_one front c rest (subst AreApart split apart) in
+      each_last (IsThere (d.content now)) front c
+      (still front (subst (λ (xs : List ℕ). Each (IsUntouched (in_range c.at (length xs))) front) (sym lent) untouched) there)
+      (there_by (d.content mid) c.at c.bytes fits_c (d.content now) wrote_c)
+    where
+      still : (cs : List Claim) → Each (IsUntouched (in_range c.at (length bs))) cs → Each (IsThere (d.content mid)) cs → Each (IsThere (d.content now)) cs
+      still [] out is = tt
+      still (e ∷ cs) out is = (there_still (d.content mid) (d.is_open mid) (in_range c.at (length bs)) (d.content now) (d.is_open now) changed e out.0 is.0, still cs out.1 is.1)
+
+-- the pieces, cut at one of them
+pub pieces_split : (pieces : List Piece) (i : ℕ) (p : Piece) → i < length pieces → p ≡ get_or pieces i p → map claim_of pieces ≡ map claim_of (take i pieces) ++ claim_of p ∷ map claim_of (drop (i + 1) pieces)
+pieces_split pieces i p lt is =
+    let cut : drop i pieces ≡ p ∷ drop (i + 1) pieces = at_drop_more (λ (ps : List Piece). ps) pieces i p lt ∙ ap (λ (q : Piece). q ∷ drop (i + 1) pieces) (sym is) in
+    ap (map claim_of) (sym (take-append-drop i pieces) ∙ ap (λ (ps : List Piece). take i pieces ++ ps) cut) ∙ map-append claim_of (take i pieces) (p ∷ drop (i + 1) pieces)
+
+pub pieces_more : (pieces : List Piece) (i : ℕ) (p : Piece) → i < length pieces → p ≡ get_or pieces i p → map claim_of (take (i + 1) pieces) ≡ map claim_of (take i pieces) ++ claim_of p ∷ []
+pieces_more pieces i p lt is =
+    ap (map claim_of) (take_more pieces i p lt ∙ ap (λ (q : Piece). take i pieces ++ q ∷ []) (sym is)) ∙ map-append claim_of (take i pieces) (p ∷ [])

@@ -36,11 +36,10 @@ fn put_all<D: Disk>(disk: &mut D, pieces: &[Piece]) -> Result<(), DiskFault>
     ensures cause { OnErr result (Rose (D.failed_writes disk.old) (D.failed_writes disk.new)) }
     ensures writes { OnOk result (D.failed_writes disk.new ≡ D.failed_writes disk.old) }
 {
-    let Some((first, rest)) = pieces.split_first() else {
-        return Ok(());
-    };
-    disk.write(first.at, &first.bytes)?;
-    put_all(disk, rest)
+    for piece in pieces {
+        disk.write(piece.at, &piece.bytes)?;
+    }
+    Ok(())
 }
 
 /// Bytes in memory, written in their order, one write each.

@@ -19,7 +19,8 @@ use Rattle.pk_manifest.specs.Bodies.{body_of, generation_of, half_in_force, half
 use Rattle.pk_manifest.specs.Current.{HasBody, units_of_disk}
 use Rattle.pk_manifest.specs.Sound.{IsBody, dead_extents, extents_of, is_dead, is_extent, is_part, named}
 use Rattle.pk_manifest.specs.Spelling.{Body, spelling as body_spelling}
-use Rattle.pk_manifest.proofs.Fields.{one_body_in_force, sound_says}
+use Rattle.pk_manifest.proofs.Fields.{one_body_in_force}
+use Rattle.pk_manifest.proofs.Sound.{says_sound}
 use Rattle.pk_manifest.proofs.Firm.{in_force_open}
 use Rattle.pk_model.specs.Collection.{Collection, Doc, IsCollection}
 use Rattle.pk_posting.specs.Spelling.{spelled_length, spelling}
@@ -105,7 +106,7 @@ lie_each units size next room (e ∷ es) h =
     All-cons (InsideEntry size) e es (ends_inside units size room e.extent this.0 this.1, list) (lie_each units size next room es parts.1)
 
 pub lie_inside : (bytes : List ℕ) (b : Body) → IsBody (units_of_disk bytes) b → LieInside (length bytes) b.entries
-lie_inside bytes b is = lie_each (units_of_disk bytes) (length bytes) b.next_segment (units_room (length bytes)) b.entries (sound_says (units_of_disk bytes) b is).parts
+lie_inside bytes b is = lie_each (units_of_disk bytes) (length bytes) b.next_segment (units_room (length bytes)) b.entries (says_sound (units_of_disk bytes) b is.sound).parts
 
 -- ---- a sound body's entries are of kinds that are read
 
@@ -130,7 +131,7 @@ kinds_each units next (e ∷ es) h =
     All-cons (λ (x : Entry). IsKind x.kind) e es (entry_kind units next e parts.0) (kinds_each units next es parts.1)
 
 pub have_kinds : (units : ℕ) (b : Body) → IsBody units b → HaveKinds b.entries
-have_kinds units b is = kinds_each units b.next_segment b.entries (sound_says units b is).parts
+have_kinds units b is = kinds_each units b.next_segment b.entries (says_sound units b is.sound).parts
 
 -- ---- what entries spell, as claims
 

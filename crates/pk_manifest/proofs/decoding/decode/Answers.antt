@@ -5,14 +5,15 @@ use Rattle.std.specs.Str.{bytes_eq}
 use Rattle.std.proofs.lemmas.Slice.Eq.{bytes_eq-Decides}
 use Rattle.pk_manifest.specs.Spelling.{view, spelling}
 use Rattle.pk_manifest.specs.Fields.{number_at, body_at}
-use Rattle.pk_manifest.proofs.Fields.{sound_says, count_of_spelling, body_of_spelling, sound_of}
+use Rattle.pk_manifest.proofs.Fields.{count_of_spelling, body_of_spelling, sound_of}
+use Rattle.pk_manifest.proofs.Sound.{says_sound}
 use Rattle.pk_manifest.proofs.decoding.decode.Goals as goal
 
 pub returns-then-u32_at-gt64-clause-none : goal.returns-then-u32_at-gt64-clause-none
 returns-then-u32_at-gt64-clause-none c = λ b is same.
     let count = count_of_spelling c.args.units b is in
     let read : number_at w32 32 c.args.bytes.now ≡ _ = ap (number_at w32 32) same ∙ count in
-    let few = (sound_says c.args.units b is).few in
+    let few = (says_sound c.args.units b is.sound).few in
     omega (arith, read, few, c.u32_at.ensures)
 
 pub returns-then-not-branch-clause-none : goal.returns-then-not-branch-clause-none
