@@ -1,5 +1,5 @@
 -- What became of the disk is an era of it, by which each history goes on.
-use Rattle.std.proofs.Common.{◌≤◌, ℕ, List, [], Option, subst, Result, Ok, Err}
+use Rattle.std.proofs.Common.{◌≡◌, ◌≤◌, ℕ, List, [], Option, subst, sym, Result, Ok, Err}
 use Rattle.pk_disk.specs.declared.disk.Disk.{Ghosts}
 use Rattle.pk_disk.specs.Disk.{IsImage}
 use Rattle.pk_command.specs.Endings.{IsMade, IsSession, era_of}
@@ -8,7 +8,7 @@ use Rattle.pk_shell.specs.Script.{Ends}
 use Rattle.pk_shell.specs.StoreStep.{StoreStep}
 use Rattle.pk_shell.specs.declared.ending.Ended.{Ended}
 use Rattle.pk_shell.specs.declared.ending.ShellFault.{ShellFault}
-use Rattle.pk_store.specs.Eras.{Extends}
+use Rattle.pk_store.specs.Eras.{Era, Extends}
 use Rattle.pk_store.specs.Eras as era
 use Rattle.pk_store.specs.Opening.{Creates, Opens}
 use Rattle.pk_store.specs.View.{StoreView}
@@ -19,23 +19,32 @@ use Rattle.pk_store.proofs.HistoryLemmas.{closed}
 
 module _ {D : Type 0} (d : Ghosts D) (only_now : d.honest → (x : D) (image : List ℕ) → d.images_since x (d.moment x) image → IsImage (d.content x) (d.is_open x) image)
     (counts_now : d.honest → (x : D) (t : ℕ) (image : List ℕ) → t ≤ d.moment x → IsImage (d.content x) (d.is_open x) image → d.images_since x t image) (disk : D) where
-  pub session : (opened left : StoreView D) (r r' w w' : Option (List ℕ)) (how : Result Ended ShellFault) → Opens d disk (Ok opened) → Ends (StoreStep d) opened r r' w w' how left → EndsByCalls d opened r r' w w' how left
-      → IsSession d disk r r' w w' how
-  session opened left r r' w w' how opens ends calls = record {
-    opened = opened;
-    left = left;
-    opens = opens;
-    ends = ends;
-    calls = calls;
-    extends = λ h. subst (λ (s : StoreView D). Extends d (era_of era.opened disk opened calls.calls) s.volume.disk) calls.last
-        (closed d h (only_now h) (counts_now h) (era_of era.opened disk opened calls.calls) (opens, calls.are));
-  }
+  -- an era goes on to the disk that is handed back
+  extended : (disk' last : D) (e : Era D) → disk' ≡ last → Extends d e last → Extends d e disk'
+  extended disk' last e is extends = subst (Extends d e) (sym is) extends
+
+  pub session : (disk' : D) (opened left : StoreView D) (r r' w w' : Option (List ℕ)) (how : Result Ended ShellFault) → Opens d disk (Ok opened) → Ends (StoreStep d) opened r r' w w' how left → EndsByCalls d opened r r' w w' how left
+      → disk' ≡ left.volume.disk → IsSession d disk disk' r r' w w' how
+  session disk' opened left r r' w w' how opens ends calls is =
+      let lived = era_of era.opened disk opened calls.calls in
+      record {
+        opened = opened;
+        left = left;
+        opens = opens;
+        ends = ends;
+        calls = calls;
+        handed = is;
+        extends = λ h. extended disk' left.volume.disk lived is
+            (subst (λ (s : StoreView D). Extends d lived s.volume.disk) calls.last (closed d h (only_now h) (counts_now h) lived (opens, calls.are)));
+      }
 
   pub unopened : (refused : Refused D OpenFault) → Opens d disk (Err refused) → d.honest → Extends d (era.unopened disk (Err refused)) refused.disk
   unopened refused opens h = closed d h (only_now h) (counts_now h) (era.unopened disk (Err refused)) opens
 
-  pub made : (store : StoreView D) → Creates d disk (Ok store) → IsMade d disk
-  made store creates = record { made = store; creates = creates; extends = λ h. closed d h (only_now h) (counts_now h) (era_of era.created disk store []) (creates, tt) }
+  pub made : (disk' : D) (store : StoreView D) → Creates d disk (Ok store) → disk' ≡ store.volume.disk → IsMade d disk disk'
+  made disk' store creates is =
+      let lived = era_of era.created disk store [] in
+      record { made = store; creates = creates; handed = is; extends = λ h. extended disk' store.volume.disk lived is (closed d h (only_now h) (counts_now h) lived (creates, tt)) }
 
   pub uncreated : (refused : Refused D CreateFault) → Creates d disk (Err refused) → d.honest → Extends d (era.uncreated disk (Err refused)) refused.disk
   uncreated refused creates h = closed d h (only_now h) (counts_now h) (era.uncreated disk (Err refused)) creates

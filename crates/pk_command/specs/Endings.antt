@@ -6,7 +6,7 @@ use Rattle.clap.specs.Words.{Text}
 use Rattle.clap.specs.declared.error.kind.ErrorKind.{ErrorKind}
 use Rattle.clap.specs.declared.error.kind.ErrorKind.TheVariants.{OutOfMemory}
 use Rattle.pk_disk.specs.declared.disk.Disk.{Ghosts}
-use Rattle.pk_filedisk.specs.File.{IsDiskLength}
+use Rattle.pk_filedisk.specs.File.{IsDiskLength, IsOfMake, IsOfOpening}
 use Rattle.pk_filedisk.specs.declared.fault.FileFault.{FileFault}
 use Rattle.pk_command.specs.CommandLine.{AreRefused, IsHelp, WordsAsk, WordsAskHelp}
 use Rattle.pk_command.specs.Reasons.{creating_words, file_words, memory_words, opening_words}
@@ -53,64 +53,70 @@ era_of begun disk store calls =
     begun disk (record { store = store; calls = calls; answered = length calls })
 
 -- A SESSION: the disk opened as a store, and what was written is, as far as the session came, a
--- legal script's replies to what was read. Each line that asks the store is the next call of it, and
--- on an honest disk each history goes on by these calls.
-pub record IsSession {D : Type 0} (d : Ghosts D) (disk : D) (r r' w w' : Option (List ℕ))
+-- legal script's replies to what was read. Each line that asks the store is the next call of it; the
+-- last of them left the disk as it is now, and on an honest disk each history goes on by them.
+pub record IsSession {D : Type 0} (d : Ghosts D) (disk disk' : D) (r r' w w' : Option (List ℕ))
     (how : Result Ended ShellFault) : Type 0 where
   pub opened : StoreView D
   pub left : StoreView D
   pub opens : Opens d disk (Ok opened)
   pub ends : Ends (StoreStep d) opened r r' w w' how left
   pub calls : EndsByCalls d opened r r' w w' how left
-  pub extends : d.honest
-      → Extends d (era_of era.opened disk opened calls.calls) left.volume.disk
+  pub handed : disk' ≡ left.volume.disk
+  pub extends : d.honest → Extends d (era_of era.opened disk opened calls.calls) disk'
 
--- NO SESSION: the disk opened as no store. Nothing was read or written.
-pub record IsNoSession {D : Type 0} (d : Ghosts D) (disk : D) (r r' w w' : Option (List ℕ))
+-- NO SESSION: the disk opened as no store, and is as the opening left it. Nothing was read or
+-- written.
+pub record IsNoSession {D : Type 0} (d : Ghosts D) (disk disk' : D) (r r' w w' : Option (List ℕ))
     : Type 0 where
   pub refused : Refused D OpenFault
   pub opens : Opens d disk (Err refused)
   pub reader : r' ≡ r
   pub writer : w' ≡ w
-  pub extends : d.honest → Extends d (era.unopened disk (Err refused)) refused.disk
+  pub handed : disk' ≡ refused.disk
+  pub extends : d.honest → Extends d (era.unopened disk (Err refused)) disk'
 
 -- A line was told on standard error: the whole of it, or a part where a write failed.
 abbrev pub IsTold : Option (List ℕ) → Option (List ℕ) → List ℕ → Type 0
 IsTold e e' line = Appends e e' line ⊎ SentPart e e' line
 
--- WHAT A SESSION CAME TO: a failure is told in the words of its fault, and nothing else is.
-abbrev pub SessionOutcome : {D : Type 0} → Ghosts D → D → Option (List ℕ) → Option (List ℕ)
+-- WHAT A SESSION CAME TO, and to which disk: a failure is told in the words of its fault, and nothing
+-- else is.
+abbrev pub SessionOutcome : {D : Type 0} → Ghosts D → D → D → Option (List ℕ) → Option (List ℕ)
     → Option (List ℕ) → Option (List ℕ) → Option (List ℕ) → Option (List ℕ) → ℕ → Type 0
-SessionOutcome d disk r r' w w' e e' status =
-    ((how : Ended) × (status ≡ done) × (e' ≡ e) × IsSession d disk r r' w w' (Ok how))
+SessionOutcome d disk disk' r r' w w' e e' status =
+    ((how : Ended) × (status ≡ done) × (e' ≡ e) × IsSession d disk disk' r r' w w' (Ok how))
     ⊎ (((fault : ShellFault) × (status ≡ failed) × IsTold e e' (session_words fault)
-    × IsSession d disk r r' w w' (Err fault))
-    ⊎ ((none : IsNoSession d disk r r' w w') × (status ≡ failed)
+    × IsSession d disk disk' r r' w w' (Err fault))
+    ⊎ ((none : IsNoSession d disk disk' r r' w w') × (status ≡ failed)
     × IsTold e e' (opening_words none.refused.why)))
 
--- a store was made, and each history goes on from there
-pub record IsMade {D : Type 0} (d : Ghosts D) (disk : D) : Type 0 where
+-- a store was made, on the disk as it is now, and each history goes on from there
+pub record IsMade {D : Type 0} (d : Ghosts D) (disk disk' : D) : Type 0 where
   pub made : StoreView D
   pub creates : Creates d disk (Ok made)
-  pub extends : d.honest → Extends d (era_of era.created disk made []) made.volume.disk
+  pub handed : disk' ≡ made.volume.disk
+  pub extends : d.honest → Extends d (era_of era.created disk made []) disk'
 
--- none was
-pub record IsNotMade {D : Type 0} (d : Ghosts D) (disk : D) : Type 0 where
+-- none was, and the disk is as it was handed back
+pub record IsNotMade {D : Type 0} (d : Ghosts D) (disk disk' : D) : Type 0 where
   pub refused : Refused D CreateFault
   pub creates : Creates d disk (Err refused)
-  pub extends : d.honest → Extends d (era.uncreated disk (Err refused)) refused.disk
+  pub handed : disk' ≡ refused.disk
+  pub extends : d.honest → Extends d (era.uncreated disk (Err refused)) disk'
 
 -- what is told of a store that was made
 abbrev pub created_line : ℕ → List ℕ
 created_line units = codes "created " ++ (decimal units ++ codes " units\n")
 
--- WHAT A CREATION CAME TO: of a store that was made the size is told, or could not be told.
-abbrev pub CreationOutcome : {D : Type 0} → Ghosts D → D → ℕ → Option (List ℕ) → Option (List ℕ)
+-- WHAT A CREATION CAME TO, and to which disk: of a store that was made the size is told, or could not
+-- be told.
+abbrev pub CreationOutcome : {D : Type 0} → Ghosts D → D → D → ℕ → Option (List ℕ) → Option (List ℕ)
     → Option (List ℕ) → Option (List ℕ) → ℕ → Type 0
-CreationOutcome d disk units w w' e e' status =
-    ((status ≡ done) × IsMade d disk × Appends w w' (created_line units) × (e' ≡ e))
-    ⊎ (((status ≡ failed) × IsMade d disk × IsTold e e' output_words)
-    ⊎ ((none : IsNotMade d disk) × (status ≡ failed)
+CreationOutcome d disk disk' units w w' e e' status =
+    ((status ≡ done) × IsMade d disk disk' × Appends w w' (created_line units) × (e' ≡ e))
+    ⊎ (((status ≡ failed) × IsMade d disk disk' × IsTold e e' output_words)
+    ⊎ ((none : IsNotMade d disk disk') × (status ≡ failed)
     × IsTold e e' (creating_words none.refused.why) × (w' ≡ w)))
 
 -- no call of the disk has failed
@@ -118,36 +124,40 @@ pub record IsFresh {D : Type 0} (d : Ghosts D) (disk : D) : Type 0 where
   pub reads : d.failed_reads disk ≡ 0
   pub writes : d.failed_writes disk ≡ 0
 
--- a session with the store in a file
+-- a session with the store in a file, and what it left of that
 pub record IsFileSession {D : Type 0} (d : Ghosts D) (r r' w w' e e' : Option (List ℕ))
     (status : ℕ) : Type 0 where
   pub file : D
   pub fresh : IsFresh d file
   pub long : IsDiskLength (length (d.content file))
-  pub session : SessionOutcome d file r r' w w' e e' status
+  pub left : D
+  pub session : SessionOutcome d file left r r' w w' e e' status
 
--- WHAT A SESSION CAME TO WITH A FILE: where the file is no disk nothing was read or written.
+-- WHAT A SESSION CAME TO WITH A FILE: where the file is no disk, for a fault of opening one, nothing
+-- was read or written.
 abbrev pub FileSessionOutcome : {D : Type 0} → Ghosts D → Option (List ℕ) → Option (List ℕ)
     → Option (List ℕ) → Option (List ℕ) → Option (List ℕ) → Option (List ℕ) → ℕ → Type 0
 FileSessionOutcome d r r' w w' e e' status =
     IsFileSession d r r' w w' e e' status
-    ⊎ ((fault : FileFault) × (status ≡ failed) × IsTold e e' (file_words fault)
+    ⊎ ((fault : FileFault) × IsOfOpening fault × (status ≡ failed) × IsTold e e' (file_words fault)
     × (r' ≡ r) × (w' ≡ w))
 
--- a creation in a file of so many units
+-- a creation in a file of so many units, and what it left of that
 pub record IsFileCreation {D : Type 0} (d : Ghosts D) (units : ℕ) (w w' e e' : Option (List ℕ))
     (status : ℕ) : Type 0 where
   pub file : D
   pub fresh : IsFresh d file
   pub long : length (d.content file) ≡ units * 512
-  pub creation : CreationOutcome d file units w w' e e' status
+  pub left : D
+  pub creation : CreationOutcome d file left units w w' e e' status
 
--- WHAT A CREATION CAME TO WITH A FILE
+-- WHAT A CREATION CAME TO WITH A FILE: where there is none, it is for a fault of making one.
 abbrev pub FileCreationOutcome : {D : Type 0} → Ghosts D → ℕ → Option (List ℕ) → Option (List ℕ)
     → Option (List ℕ) → Option (List ℕ) → ℕ → Type 0
 FileCreationOutcome d units w w' e e' status =
     IsFileCreation d units w w' e e' status
-    ⊎ ((fault : FileFault) × (status ≡ failed) × IsTold e e' (file_words fault) × (w' ≡ w))
+    ⊎ ((fault : FileFault) × IsOfMake fault × (status ≡ failed) × IsTold e e' (file_words fault)
+    × (w' ≡ w))
 
 -- a command that was asked for came to this, by the disk that a creation writes and the disk that
 -- a session is on

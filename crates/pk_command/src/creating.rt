@@ -9,24 +9,26 @@ use pk_store::Store;
 use std::alloc::Global;
 use std::io::Write;
 
-/// Makes an empty store on a disk of so many units, and tells that.
-fn create_on<D: Disk + Drop, W: Write, E: Write>(
+/// Makes an empty store on a disk of so many units, tells that, and answers the status, with the
+/// disk as the making left it.
+fn create_on<D: Disk, W: Write, E: Write>(
     alloc: Global,
     disk: D,
     units: u64,
     output: &mut W,
     faults: &mut E,
-) -> u8
-    ensures { CreationOutcome D.Disk disk units (W.contents output.old) (W.contents output.new)
-        (E.contents faults.old) (E.contents faults.new) result }
+) -> (u8, D)
+    ensures { CreationOutcome D.Disk disk result.1 units
+        (W.contents output.old) (W.contents output.new)
+        (E.contents faults.old) (E.contents faults.new) result.0 }
 {
-    match Store::create(alloc, disk, 0) {
-        Ok(_) => {}
-        Err(refused) => return fail(faults, creating_reason(refused.why)),
-    }
+    let disk = match Store::create(alloc, disk, 0) {
+        Ok(store) => store.close(),
+        Err(refused) => return (fail(faults, creating_reason(refused.why)), refused.disk),
+    };
     match writeln!(output, "created {units} units") {
-        Ok(()) => DONE,
-        Err(_) => fail(faults, OUTPUT),
+        Ok(()) => (DONE, disk),
+        Err(_) => (fail(faults, OUTPUT), disk),
     }
 }
 
@@ -46,7 +48,10 @@ pub fn create<F: RawFile + Drop, S: FileSystem<File = F>, W: Write, E: Write>(
         (E.contents faults.old) (E.contents faults.new) result }
 {
     match FileDisk::make(rt, path, units) {
-        Ok(disk) => create_on(alloc, disk, units, output, faults),
+        Ok(disk) => {
+            let (status, _) = create_on(alloc, disk, units, output, faults);
+            status
+        }
         Err(fault) => fail(faults, file_reason(fault)),
     }
 }

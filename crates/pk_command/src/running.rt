@@ -17,25 +17,28 @@ const CACHE_BLOCKS: u32 = 256;
 /// The most pages of the file that a session keeps: 64 MiB.
 const PAGES: usize = 16_384;
 
-/// Answers the lines of the input, from the store on a disk.
-fn run_on<D: Disk + Drop, R: Read, W: Write, E: Write>(
+/// Answers the lines of the input, from the store on a disk, and then the status, with the disk as
+/// the lines left it.
+fn run_on<D: Disk, R: Read, W: Write, E: Write>(
     alloc: Global,
     disk: D,
     input: &mut R,
     output: &mut W,
     faults: &mut E,
-) -> u8
-    ensures { SessionOutcome D.Disk disk (R.remaining input.old) (R.remaining input.new)
+) -> (u8, D)
+    ensures { SessionOutcome D.Disk disk result.1 (R.remaining input.old) (R.remaining input.new)
         (W.contents output.old) (W.contents output.new)
-        (E.contents faults.old) (E.contents faults.new) result }
+        (E.contents faults.old) (E.contents faults.new) result.0 }
 {
     let mut store = match Store::open_on(alloc, disk, CACHE_BLOCKS) {
         Ok(store) => store,
-        Err(refused) => return fail(faults, opening_reason(refused.why)),
+        Err(refused) => return (fail(faults, opening_reason(refused.why)), refused.disk),
     };
-    match serve(alloc, input, output, &mut store) {
-        Ok(_) => DONE,
-        Err(fault) => fail(faults, session_reason(fault)),
+    let served = serve(alloc, input, output, &mut store);
+    let disk = store.close();
+    match served {
+        Ok(_) => (DONE, disk),
+        Err(fault) => (fail(faults, session_reason(fault)), disk),
     }
 }
 
@@ -57,7 +60,8 @@ pub fn run<F: RawFile + Drop, S: FileSystem<File = F>, R: Read, W: Write, E: Wri
     match FileDisk::on(rt, path) {
         Ok(file) => {
             let disk = PageCache::new(alloc, file, PAGES);
-            run_on(alloc, disk, input, output, faults)
+            let (status, _) = run_on(alloc, disk, input, output, faults);
+            status
         }
         Err(fault) => fail(faults, file_reason(fault)),
     }

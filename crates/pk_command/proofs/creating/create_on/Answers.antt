@@ -4,18 +4,18 @@ use Rattle.pk_command.proofs.SessionLemmas.{made, uncreated}
 use Rattle.pk_command.proofs.creating.create_on.Goals as goal
 
 pub returns-in-Ok-writeln : goal.returns-in-Ok-writeln
-returns-in-Ok-writeln g c = inl (refl, made g.D.Disk (λ honest x image. g.met.D.Disk.only_now x image honest) (λ honest x t image. g.met.D.Disk.counts_now x t image honest) c.args.disk c.in-Ok.field-0 c.in-Ok.ensures, c.in-Ok-writeln.ensures.bytes, refl)
+returns-in-Ok-writeln g c = inl (refl, made g.D.Disk (λ honest x image. g.met.D.Disk.only_now x image honest) (λ honest x t image. g.met.D.Disk.counts_now x t image honest) c.args.disk c.close-disk.result c.in-Ok.store c.in-Ok.ensures c.close-disk.ensures, c.in-Ok-writeln.ensures.bytes, refl)
 
 pub returns-in-Err-writeln : goal.returns-in-Err-writeln
 returns-in-Err-writeln g c = inr (inl (
   c.fail-in-Err-writeln.ensures.status,
-  made g.D.Disk (λ honest x image. g.met.D.Disk.only_now x image honest) (λ honest x t image. g.met.D.Disk.counts_now x t image honest) c.args.disk c.in-Ok.field-0 c.in-Ok.ensures,
+  made g.D.Disk (λ honest x image. g.met.D.Disk.only_now x image honest) (λ honest x t image. g.met.D.Disk.counts_now x t image honest) c.args.disk c.close-disk.result c.in-Ok.store c.in-Ok.ensures c.close-disk.ensures,
   c.fail-in-Err-writeln.ensures.told,
 ))
 
 pub returns-in-Err : goal.returns-in-Err
 returns-in-Err g c = inr (inr (
-  record { refused = c.in-Err.refused; creates = c.in-Err.ensures; extends = uncreated g.D.Disk (λ honest x image. g.met.D.Disk.only_now x image honest) (λ honest x t image. g.met.D.Disk.counts_now x t image honest) c.args.disk c.in-Err.refused c.in-Err.ensures },
+  record { refused = c.in-Err.refused; creates = c.in-Err.ensures; handed = refl; extends = uncreated g.D.Disk (λ honest x image. g.met.D.Disk.only_now x image honest) (λ honest x t image. g.met.D.Disk.counts_now x t image honest) c.args.disk c.in-Err.refused c.in-Err.ensures },
   c.fail.ensures.status,
   rw c.creating_reason.ensures at c.fail.ensures.told,
   refl,

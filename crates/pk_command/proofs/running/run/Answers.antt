@@ -7,8 +7,9 @@ returns-in-Ok g c = inl (record {
   file = c.new-disk.result;
   fresh = record { reads = search rules; writes = search rules };
   long = search rules;
-  session = c.run_on.ensures;
+  left = c.run_on-status.result.1;
+  session = c.run_on-status.ensures;
 })
 
 pub returns-in-Err : goal.returns-in-Err
-returns-in-Err g c = inr (c.in-Err.fault, c.fail.ensures.status, rw c.file_reason.ensures at c.fail.ensures.told, refl, refl)
+returns-in-Err g c = inr (c.in-Err.fault, c.in-Err.ensures.fault, c.fail.ensures.status, rw c.file_reason.ensures at c.fail.ensures.told, refl, refl)
