@@ -29,7 +29,8 @@ try:
 	cd crates/pk_find && rt try -- run $(STORE) < ../../$(SESSION)
 
 # The seals of the mutants; the gate: every proof from nothing, each must-fail edit, each test, each
-# program twice; then sessions that are killed, and the tests of the client and of tools/.
+# program twice; then tests of the built program, sessions that are killed, and the tests of the
+# client and of tools/.
 test:
 	tools/test.sh
 

@@ -1,7 +1,7 @@
 #!/bin/sh
 # The tests of the repository: the seals of the mutants, without which nothing else is run; the merge
-# gate; sessions of the program that it built, killed in their midst; the Python client's tests over
-# that program; the tests of these tools; and what the gate cost. The last line is 'N passed, M
+# gate; tests of the program that it built; sessions of it, killed in their midst; the Python client's
+# tests over it; the tests of these tools; and what the gate cost. The last line is 'N passed, M
 # failed', each of these but the gate counting as one.
 cd "$(dirname "$0")/.." || exit 1
 log=$(mktemp) || exit 1
@@ -22,6 +22,7 @@ failed=$(expr "$last" : '.*, \([0-9][0-9]*\) failed')
 count() {
     if "$@"; then passed=$((passed + 1)); else failed=$((failed + 1)); fi
 }
+count python3 tools/program_test.py crates/pk_find/out/pk_find
 count python3 tools/kill_test.py crates/pk_find/out/pk_find
 count make --no-print-directory client
 count python3 -m unittest discover --quiet tools/tests

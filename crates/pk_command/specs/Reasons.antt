@@ -38,6 +38,10 @@ session_words session.Output = codes "pk_find: output\n"
 session_words session.TooManyReads = codes "pk_find: too many reads\n"
 session_words session.Memory = codes "pk_find: memory\n"
 
+-- of a word that is not text, of which there is no reason more
+abbrev pub not_text_words : List ℕ
+not_text_words = codes "error: an argument is not text\n"
+
 -- of want of memory, and of an output that could not be written
 abbrev pub memory_words : List ℕ
 memory_words = codes "pk_find: memory\n"

@@ -9,7 +9,7 @@
 //! |---|---|---|
 //! | 0 | the store is made; the input is answered to its end or a `quit`; help, version | nothing |
 //! | 1 | a command failed | `pk_find: ` and one of the reasons below, in one line |
-//! | 2 | the command line was refused | why, and how it is to be used |
+//! | 2 | the command line was refused | why, and how it is to be used; of an argument that is no UTF-8 one line |
 //!
 //! | reason | when |
 //! |---|---|
@@ -42,6 +42,7 @@ use creating::create;
 use pk_disk::Disk;
 use pk_filedisk::{FileDisk, FileSystem, RawFile};
 use pk_pages::PageCache;
+pub use reporting::refuse_words;
 use reporting::{MEMORY, fail, refuse};
 use running::run;
 use std::alloc::Global;

@@ -5,12 +5,14 @@ ghost use Rattle.clap.specs.Words.{kind_of};
 ghost use Rattle.pk_command.specs.Endings.{IsTold, RefusalOutcome};
 ghost use Rattle.pk_command.specs.Reasons.{creating_words, file_words};
 ghost use Rattle.pk_command.specs.Reasons.{opening_words, session_words};
+ghost use Rattle.pk_command.specs.Unread.{UnreadOutcome};
 
 use clap::Error;
 use clap::error::ErrorKind;
 use pk_filedisk::FileFault;
 use pk_shell::{ShellFault, write_all};
 use pk_store::{CreateFault, OpenFault};
+use std::io;
 use std::io::Write;
 
 /// All was done, or help was asked for.
@@ -28,14 +30,35 @@ pub const MEMORY: &str = "pk_find: memory\n";
 /// What is told where the output could not be written.
 pub const OUTPUT: &str = "pk_find: output\n";
 
+/// What is told where a word of the command line is not text.
+const NOT_TEXT: &str = "error: an argument is not text\n";
+
+/// Tells a line on standard error. Where that takes nothing, the status tells it alone.
+fn tell<E: Write>(faults: &mut E, line: &str)
+    ensures { IsTold (E.contents faults.old) (E.contents faults.new) line.now }
+{
+    let _ = write_all(faults, line.as_bytes());
+}
+
 /// Tells why a command failed, in this line.
 pub fn fail<E: Write>(faults: &mut E, line: &str) -> u8
     ensures status { result ≡ FAILED }
     ensures told { IsTold (E.contents faults.old) (E.contents faults.new) line.now }
 {
-    // Where standard error takes nothing, the status tells it alone.
-    let _ = write_all(faults, line.as_bytes());
+    tell(faults, line);
     FAILED
+}
+
+/// Tells why the words of a command line could not be read, by the kind of the error, and answers
+/// the status: 2 where one of them is not text, and else 1, for want of memory.
+pub fn refuse_words<E: Write>(kind: io::ErrorKind, faults: &mut E) -> u8
+    ensures { UnreadOutcome kind (E.contents faults.old) (E.contents faults.new) result }
+{
+    if kind == io::ErrorKind::InvalidData {
+        tell(faults, NOT_TEXT);
+        return REFUSED;
+    }
+    fail(faults, MEMORY)
 }
 
 /// Tells why the command line was refused, or the help that was asked for.

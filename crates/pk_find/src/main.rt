@@ -2,22 +2,31 @@
 //! What it prints, its statuses and its reasons stand there.
 #![tactic(auto)]
 
-use pk_command::command;
+use pk_command::{command, refuse_words};
+use std::alloc::Global;
+use std::io;
 use std::process::ExitCode;
 
-fn main(rt: HostRuntime) -> std::io::Result<ExitCode> {
+fn main(rt: HostRuntime) -> ExitCode {
     let alloc = rt.alloc();
-    let words: Vec<String> = std::env::args(&rt)?.collect(alloc)?;
     let mut input = rt.stdin();
     let mut output = rt.stdout();
     let mut faults = rt.stderr();
-    let status = command(
-        &rt,
-        alloc,
-        words.as_slice(),
-        &mut input,
-        &mut output,
-        &mut faults,
-    );
-    Ok(ExitCode::from(status))
+    let status = match words_of(&rt, alloc) {
+        Ok(words) => command(
+            &rt,
+            alloc,
+            words.as_slice(),
+            &mut input,
+            &mut output,
+            &mut faults,
+        ),
+        Err(error) => refuse_words(error.kind(), &mut faults),
+    };
+    ExitCode::from(status)
+}
+
+/// The words of the command line, the program's name first.
+fn words_of(rt: &HostRuntime, alloc: Global) -> io::Result<Vec<String>> {
+    Ok(std::env::args(rt)?.collect(alloc)?)
 }

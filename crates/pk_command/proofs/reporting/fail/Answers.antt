@@ -1,6 +1,0 @@
--- The line is written, or a part of it.
-use Rattle.pk_command.proofs.ReportLemmas.{told}
-use Rattle.pk_command.proofs.reporting.fail.Goals as goal
-
-pub returns-clause-told : goal.returns-clause-told
-returns-clause-told g c = rw c.as_bytes.ensures.value at (told _ _ c.write_all.result _ c.write_all.ensures)
