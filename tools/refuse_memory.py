@@ -11,15 +11,11 @@ import subprocess
 import sys
 import tempfile
 
+import preload
+
 TOP = os.path.dirname(os.path.dirname(os.path.abspath(__file__)))
 MARK = "short_of_memory"
 LONGEST = 2000
-
-
-def compiler():
-    """The toolchain's own clang, beside the page that `rt doc` names."""
-    page = subprocess.run(["rt", "doc"], capture_output=True, text=True, check=True).stdout.strip()
-    return os.path.join(os.path.dirname(page), "toolchain", "bin", "clang")
 
 
 def tests_of(program):
@@ -47,10 +43,7 @@ def run(program, name, shim, request, told):
 def main():
     passed = failed = 0
     with tempfile.TemporaryDirectory() as place:
-        shim = os.path.join(place, "refuse_memory.so")
-        source = os.path.join(TOP, "tools", "refuse_memory.c")
-        build = [compiler(), "-shared", "-fPIC", "-O1", "-w", "-o", shim, source]
-        subprocess.run(build, check=True)
+        shim = preload.built("refuse_memory", place)
         for program in sorted(glob.glob(os.path.join(TOP, "crates", "*", "out", "*_tests"))):
             for name in tests_of(program):
                 for request in range(1, LONGEST + 1):
