@@ -35,6 +35,12 @@ session_has_its_path :
 unfolding clap_on_literals
 session_has_its_path = refl
 
+check_has_its_path :
+    path_in (subcommand_of pk_find_app (codes "pk_find" ∷ codes "check" ∷ codes "s" ∷ []))
+    ≡ Some (codes "check", Some (codes "s"))
+unfolding clap_on_literals
+check_has_its_path = refl
+
 few_units_are_refused :
     fault_of pk_find_app (codes "pk_find" ∷ codes "create" ∷ codes "s" ∷ codes "--units" ∷ codes "63" ∷ [])
     ≡ ValueValidation ∷ []

@@ -9,7 +9,7 @@ use Rattle.pk_disk.specs.declared.disk.Disk.{Ghosts}
 use Rattle.pk_command.specs.CommandLine.{Asks, IsCount, IsHelp, WordsAsk, pk_find_app}
 use Rattle.pk_command.specs.Endings.{CommandOutcome, HasSize, HelpOutcome, IsOfSize, RefusalOutcome, refused}
 use Rattle.pk_command.specs.declared.command_line.Asked.{Asked}
-use Rattle.pk_command.specs.declared.command_line.Asked.TheVariants.{Create, Run}
+use Rattle.pk_command.specs.declared.command_line.Asked.TheVariants.{Check, Create, Run}
 
 -- where the name and the rows are known, so is the pair of them
 pub named_rows : {B : Type 0} (met : Option B) (name_of : B → Text) (rows_of : B → List Row) (name : Text) (rows : List Row)
@@ -24,9 +24,13 @@ pub no_path : (asked : Asked) (name : Text) (rows : List Row) → first_of (code
     → Asks (Some (name, rows)) asked → ⊥
 no_path (Create path units) name rows none asks = cc
 no_path (Run path) name rows none asks = cc
+no_path (Check path) name rows none asks = cc
 
 create_is_not_run : codes "create" ≡ codes "run" → ⊥
 create_is_not_run same = cc
+
+create_is_not_check : codes "create" ≡ codes "check" → ⊥
+create_is_not_check same = cc
 
 -- without a number of units no creation is
 pub no_units : (asked : Asked) (name : Text) (rows : List Row) → name ≡ codes "create"
@@ -34,6 +38,7 @@ pub no_units : (asked : Asked) (name : Text) (rows : List Row) → name ≡ code
     → HasSize asked → Asks (Some (name, rows)) asked → ⊥
 no_units (Create path units) name rows named none size asks = none asks.2.0 units asks.2.1 asks.2.2 size
 no_units (Run path) name rows named none size asks = create_is_not_run (sym named ∙ asks.0)
+no_units (Check path) name rows named none size asks = create_is_not_check (sym named ∙ asks.0)
 
 -- the program's command line is one of which `clap` tells the matches and the faults
 has_matches : is_simple pk_find_app ≡ true

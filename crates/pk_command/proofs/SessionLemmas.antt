@@ -1,21 +1,25 @@
 -- What became of the disk is an era of it, by which each history goes on.
-use Rattle.std.proofs.Common.{◌≡◌, ◌≤◌, ℕ, List, [], Option, subst, sym, Result, Ok, Err}
+use Rattle.std.proofs.Common.{◌≡◌, ◌≤◌, ℕ, List, [], ◌∷◌, ◌++◌, length, slice_index, Option, refl, ap, subst, sym, ◌∙◌, Result, Ok, Err}
 use Rattle.pk_disk.specs.declared.disk.Disk.{Ghosts}
 use Rattle.pk_disk.specs.Disk.{IsImage}
-use Rattle.pk_command.specs.Endings.{IsMade, IsSession, era_of}
+use Rattle.pk_check.specs.declared.body.Checked.{Checked}
+use Rattle.pk_command.specs.Endings.{HoldsNoneBy, IsCheckOf, IsMade, IsSession, era_of}
+use Rattle.pk_model.specs.declared.commands.Refusal.{Refusal}
 use Rattle.pk_shell.specs.Called.{EndsByCalls}
 use Rattle.pk_shell.specs.Script.{Ends}
 use Rattle.pk_shell.specs.StoreStep.{StoreStep}
 use Rattle.pk_shell.specs.declared.ending.Ended.{Ended}
 use Rattle.pk_shell.specs.declared.ending.ShellFault.{ShellFault}
+use Rattle.pk_store.specs.Checking.{Checks, ChecksBytes}
 use Rattle.pk_store.specs.Eras.{Era, Extends}
 use Rattle.pk_store.specs.Eras as era
-use Rattle.pk_store.specs.Opening.{Creates, Opens}
-use Rattle.pk_store.specs.View.{StoreView}
+use Rattle.pk_store.specs.Opening.{Creates, IsNoStoreFault, Opens}
+use Rattle.pk_store.specs.View.{IsLookedAt, StoreView}
 use Rattle.pk_store.specs.declared.refused.CreateFault.{CreateFault}
 use Rattle.pk_store.specs.declared.refused.OpenFault.{OpenFault}
+use Rattle.pk_store.specs.declared.refused.OpenFault.TheVariants.{TooSmall, NotAStore, Damaged, Disk, Memory}
 use Rattle.pk_store.specs.declared.refused.Refused.{Refused}
-use Rattle.pk_store.proofs.HistoryLemmas.{closed}
+use Rattle.pk_store.proofs.HistoryLemmas.{between, closed}
 
 module _ {D : Type 0} (d : Ghosts D) (only_now : d.honest → (x : D) (image : List ℕ) → d.images_since x (d.moment x) image → IsImage (d.content x) (d.is_open x) image)
     (counts_now : d.honest → (x : D) (t : ℕ) (image : List ℕ) → t ≤ d.moment x → IsImage (d.content x) (d.is_open x) image → d.images_since x t image) (disk : D) where
@@ -48,3 +52,30 @@ module _ {D : Type 0} (d : Ghosts D) (only_now : d.honest → (x : D) (image : L
 
   pub uncreated : (refused : Refused D CreateFault) → Creates d disk (Err refused) → d.honest → Extends d (era.uncreated disk (Err refused)) refused.disk
   uncreated refused creates h = closed d h (only_now h) (counts_now h) (era.uncreated disk (Err refused)) creates
+
+  -- a store that was only looked at is closed as it was opened
+  looked : (store left : StoreView D) → Opens d disk (Ok store) → IsLookedAt d store left → d.honest → Extends d (era_of era.opened disk store []) left.volume.disk
+  looked store left opens is h first eras past =
+      let read = is.volume.disk.read h in
+      between d first (eras ++ era_of era.opened disk store [] ∷ []) store.volume.disk left.volume.disk
+      (closed d h (only_now h) (counts_now h) (era_of era.opened disk store []) (opens, tt) first eras past)
+      (record { size = ap length read.bytes; same = λ p shut. ap (λ (b : List ℕ). slice_index b p) read.bytes })
+      (read.positions ∙ opens.closed h)
+
+  pub checked : (store left : StoreView D) (result : Result Checked Refusal) → Opens d disk (Ok store) → Checks d store result left → IsCheckOf d disk result
+  checked store left result opens checks = record {
+    opened = store;
+    left = left;
+    opens = opens;
+    checks = checks;
+    answered = λ h. subst (λ (b : List ℕ). ChecksBytes b result) (opens.content h) (checks.checked h opens.fresh.clear);
+    extends = looked store left opens checks.looked_at;
+  }
+
+  -- a disk that did not open holds no collection, where that is the reason
+  pub none_held : (refused : Refused D OpenFault) (why : OpenFault) → refused.why ≡ why → Opens d disk (Err refused) → d.honest → HoldsNoneBy (d.content disk) why
+  none_held refused TooSmall is opens h = tt
+  none_held refused NotAStore is opens h = λ c holds. subst (IsNoStoreFault (d.content disk)) is (opens.means h c holds)
+  none_held refused Damaged is opens h = λ c holds. subst (IsNoStoreFault (d.content disk)) is (opens.means h c holds)
+  none_held refused Disk is opens h = tt
+  none_held refused Memory is opens h = tt

@@ -9,7 +9,7 @@ use Rattle.clap.specs.declared.builder.value_parser.ValueParser.TheVariants as p
 use Rattle.clap.specs.declared.error.kind.ErrorKind.{ErrorKind}
 use Rattle.clap.specs.declared.error.kind.ErrorKind.TheVariants.{DisplayHelp, DisplayVersion}
 use Rattle.pk_command.specs.declared.command_line.Asked.{Asked}
-use Rattle.pk_command.specs.declared.command_line.Asked.TheVariants.{Create, Run}
+use Rattle.pk_command.specs.declared.command_line.Asked.TheVariants.{Check, Create, Run}
 
 -- the path, which each command takes
 abbrev pub path_rule : Rule
@@ -30,6 +30,9 @@ create_app = with_rule (with_rule (new_app (codes "create")) path_rule) units_ru
 abbrev pub run_app : App
 run_app = with_rule (new_app (codes "run")) path_rule
 
+abbrev pub check_app : App
+check_app = with_rule (new_app (codes "check")) path_rule
+
 -- it has a version; a command is required, and where nothing is given help is told
 abbrev pub bare_app : App
 bare_app =
@@ -44,7 +47,9 @@ bare_app =
 
 -- WHAT THE PROGRAM'S COMMAND LINE MAY SAY
 abbrev pub pk_find_app : App
-pk_find_app = with_subcommand (with_subcommand bare_app create_app.top) run_app.top
+pk_find_app =
+    with_subcommand (with_subcommand (with_subcommand bare_app create_app.top) run_app.top)
+    check_app.top
 
 -- an argument that reads so, of one command alone
 abbrev pub IsArg : Rule → Arg → Type 0
@@ -65,6 +70,8 @@ Asks (Some (name, rows)) (Create path units) = (name ≡ codes "create")
     × (first_of (codes "PATH") rows ≡ Some path.now)
     × ((text : Text) × (one_of (codes "units") rows ≡ Some text) × IsCount text units)
 Asks (Some (name, rows)) (Run path) = (name ≡ codes "run")
+    × (first_of (codes "PATH") rows ≡ Some path.now)
+Asks (Some (name, rows)) (Check path) = (name ≡ codes "check")
     × (first_of (codes "PATH") rows ≡ Some path.now)
 
 -- THE WORDS ASK THIS: they are not refused, and the command that they name has these matches.

@@ -9,10 +9,13 @@ use Rattle.pk_disk.specs.declared.disk.Disk.{Ghosts}
 use Rattle.pk_filedisk.specs.File.{IsDiskLength, IsOfMake, IsOfOpening}
 use Rattle.pk_filedisk.specs.declared.fault.FileFault.{FileFault}
 use Rattle.pk_command.specs.CommandLine.{AreRefused, IsHelp, WordsAsk, WordsAskHelp}
-use Rattle.pk_command.specs.Reasons.{creating_words, file_words, memory_words, opening_words}
-use Rattle.pk_command.specs.Reasons.{output_words, session_words}
+use Rattle.pk_command.specs.Reasons.{checking_words, creating_words, file_words, memory_words}
+use Rattle.pk_command.specs.Reasons.{opening_words, output_words, session_words}
 use Rattle.pk_command.specs.declared.command_line.Asked.{Asked}
-use Rattle.pk_command.specs.declared.command_line.Asked.TheVariants.{Create, Run}
+use Rattle.pk_command.specs.declared.command_line.Asked.TheVariants.{Check, Create, Run}
+use Rattle.pk_check.specs.Holding.{HoldsNone}
+use Rattle.pk_check.specs.declared.body.Checked.{Checked}
+use Rattle.pk_model.specs.declared.commands.Refusal.{Refusal}
 use Rattle.pk_shell.specs.Called.{EndsByCalls}
 use Rattle.pk_shell.specs.Script.{Ends}
 use Rattle.pk_shell.specs.Sending.{SentPart}
@@ -20,12 +23,14 @@ use Rattle.pk_shell.specs.StoreStep.{StoreStep}
 use Rattle.pk_shell.specs.declared.ending.Ended.{Ended}
 use Rattle.pk_shell.specs.declared.ending.ShellFault.{ShellFault}
 use Rattle.pk_store.specs.Calls.{Call}
+use Rattle.pk_store.specs.Checking.{Checks, ChecksBytes}
 use Rattle.pk_store.specs.Eras.{Era, Extends, Work}
 use Rattle.pk_store.specs.Eras as era
 use Rattle.pk_store.specs.Opening.{Creates, Opens}
 use Rattle.pk_store.specs.View.{StoreView}
 use Rattle.pk_store.specs.declared.refused.CreateFault.{CreateFault}
 use Rattle.pk_store.specs.declared.refused.OpenFault.{OpenFault}
+use Rattle.pk_store.specs.declared.refused.OpenFault.TheVariants as opening
 use Rattle.pk_store.specs.declared.refused.Refused.{Refused}
 
 -- the statuses: all was done; a command failed; the command line was refused
@@ -46,6 +51,7 @@ IsOfSize units = (64 ≤ units) × (units ≤ 2 ^ 31)
 abbrev pub HasSize : Asked → Type 0
 HasSize (Create path units) = IsOfSize units
 HasSize (Run path) = Unit {0}
+HasSize (Check path) = Unit {0}
 
 -- the era of a store that was opened on the disk, or made on it, and closed after these calls
 abbrev pub era_of : {D : Type 0} → (D → Work D → Era D) → D → StoreView D → List (Call D) → Era D
@@ -119,6 +125,48 @@ CreationOutcome d disk disk' units w w' e e' status =
     ⊎ ((none : IsNotMade d disk disk') × (status ≡ failed)
     × IsTold e e' (creating_words none.refused.why) × (w' ≡ w)))
 
+-- A STORE THAT WAS CHECKED: the disk opened as one, and on an honest disk what was answered is what
+-- the bytes are. Each history goes on as if the store had been opened and closed.
+pub record IsCheckOf {D : Type 0} (d : Ghosts D) (disk : D) (result : Result Checked Refusal)
+    : Type 0 where
+  pub opened : StoreView D
+  pub left : StoreView D
+  pub opens : Opens d disk (Ok opened)
+  pub checks : Checks d opened result left
+  pub answered : d.honest → ChecksBytes (d.content disk) result
+  pub extends : d.honest → Extends d (era_of era.opened disk opened []) left.volume.disk
+
+-- what a disk that did not open holds, by the reason
+abbrev pub HoldsNoneBy : List ℕ → OpenFault → Type 0
+HoldsNoneBy bytes opening.NotAStore = HoldsNone bytes
+HoldsNoneBy bytes opening.Damaged = HoldsNone bytes
+HoldsNoneBy bytes why = Unit {0}
+
+-- NO STORE TO CHECK: the disk opened as none; where it is said to be none, or damaged, an honest one
+-- holds no collection.
+pub record IsUnchecked {D : Type 0} (d : Ghosts D) (disk : D) : Type 0 where
+  pub refused : Refused D OpenFault
+  pub opens : Opens d disk (Err refused)
+  pub answered : d.honest → HoldsNoneBy (d.content disk) refused.why
+  pub extends : d.honest → Extends d (era.unopened disk (Err refused)) refused.disk
+
+-- what is told of a store that was checked
+abbrev pub checked_line : Checked → List ℕ
+checked_line c = codes "ok " ++ (decimal c.documents ++ (codes " documents next "
+    ++ (decimal c.next ++ (codes " segments " ++ (decimal c.segments ++ codes "\n")))))
+
+-- WHAT A CHECK CAME TO: what the store has is told, or could not be told; else why not.
+abbrev pub CheckOutcome : {D : Type 0} → Ghosts D → D → Option (List ℕ) → Option (List ℕ)
+    → Option (List ℕ) → Option (List ℕ) → ℕ → Type 0
+CheckOutcome d disk w w' e e' status =
+    ((c : Checked) × (status ≡ done) × (e' ≡ e) × IsCheckOf d disk (Ok c)
+    × Appends w w' (checked_line c))
+    ⊎ (((c : Checked) × (status ≡ failed) × IsTold e e' output_words × IsCheckOf d disk (Ok c))
+    ⊎ (((why : Refusal) × (status ≡ failed) × IsTold e e' (checking_words why)
+    × IsCheckOf d disk (Err why) × (w' ≡ w))
+    ⊎ ((none : IsUnchecked d disk) × (status ≡ failed)
+    × IsTold e e' (opening_words none.refused.why) × (w' ≡ w))))
+
 -- no call of the disk has failed
 pub record IsFresh {D : Type 0} (d : Ghosts D) (disk : D) : Type 0 where
   pub reads : d.failed_reads disk ≡ 0
@@ -159,14 +207,31 @@ FileCreationOutcome d units w w' e e' status =
     ⊎ ((fault : FileFault) × IsOfMake fault × (status ≡ failed) × IsTold e e' (file_words fault)
     × (w' ≡ w))
 
--- a command that was asked for came to this, by the disk that a creation writes and the disk that
--- a session is on
+-- a check of the store in a file
+pub record IsFileCheck {D : Type 0} (d : Ghosts D) (w w' e e' : Option (List ℕ)) (status : ℕ)
+    : Type 0 where
+  pub file : D
+  pub fresh : IsFresh d file
+  pub long : IsDiskLength (length (d.content file))
+  pub check : CheckOutcome d file w w' e e' status
+
+-- WHAT A CHECK CAME TO WITH A FILE
+abbrev pub FileCheckOutcome : {D : Type 0} → Ghosts D → Option (List ℕ) → Option (List ℕ)
+    → Option (List ℕ) → Option (List ℕ) → ℕ → Type 0
+FileCheckOutcome d w w' e e' status =
+    IsFileCheck d w w' e e' status
+    ⊎ ((fault : FileFault) × (status ≡ failed) × IsTold e e' (file_words fault) × (w' ≡ w))
+
+-- a command that was asked for came to this, by the disk that a creation writes and a check reads,
+-- and the disk that a session is on
 abbrev pub CarriedOut : {C D : Type 0} → Ghosts C → Ghosts D → Asked → Option (List ℕ)
     → Option (List ℕ) → Option (List ℕ) → Option (List ℕ) → Option (List ℕ) → Option (List ℕ) → ℕ
     → Type 0
 CarriedOut c d (Create path units) r r' w w' e e' status =
     (r' ≡ r) × FileCreationOutcome c units w w' e e' status
 CarriedOut c d (Run path) r r' w w' e e' status = FileSessionOutcome d r r' w w' e e' status
+CarriedOut c d (Check path) r r' w w' e e' status =
+    (r' ≡ r) × FileCheckOutcome c w w' e e' status
 
 -- help was told, or could not be
 abbrev pub HelpOutcome : Option (List ℕ) → Option (List ℕ) → ℕ → Type 0

@@ -2,6 +2,8 @@
 use Rattle.std.specs.Prelude.{ℕ, List, codes}
 use Rattle.pk_filedisk.specs.declared.fault.FileFault.{FileFault}
 use Rattle.pk_filedisk.specs.declared.fault.FileFault.TheVariants as file
+use Rattle.pk_model.specs.declared.commands.Refusal.{Refusal}
+use Rattle.pk_model.specs.declared.commands.Refusal.TheVariants as refusal
 use Rattle.pk_store.specs.declared.refused.CreateFault.{CreateFault}
 use Rattle.pk_store.specs.declared.refused.CreateFault.TheVariants as creating
 use Rattle.pk_store.specs.declared.refused.OpenFault.{OpenFault}
@@ -30,6 +32,13 @@ opening_words opening.NotAStore = codes "pk_find: not a store\n"
 opening_words opening.Damaged = codes "pk_find: damaged\n"
 opening_words opening.Disk = codes "pk_find: disk\n"
 opening_words opening.Memory = codes "pk_find: memory\n"
+
+-- of a check that was refused: a store that was just opened needn't be opened again, so that what is
+-- left is the device's
+abbrev pub checking_words : Refusal → List ℕ
+checking_words refusal.Damaged = codes "pk_find: damaged\n"
+checking_words refusal.Memory = codes "pk_find: memory\n"
+checking_words why = codes "pk_find: disk\n"
 
 -- of a session that is broken off
 abbrev pub session_words : ShellFault → List ℕ

@@ -72,6 +72,19 @@ in capitals.
 A line that is not done is answered `refused` and why. After `refused reopen` end the session and
 run the program again: what was committed before is there, and of what was not, all or nothing.";
 
+const CHECK_ABOUT: &str = "Reads all that is committed in the store of a file, and compares it";
+
+const CHECK_HELP: &str = "\
+It takes each document out of the file, makes its part of the index again, and compares every byte
+of each segment and of each list of deleted documents. It prints one line, as
+
+  ok 2500 documents next 2612 segments 7
+
+which says how many documents are committed and not deleted, the number that the next one gets, and
+how many segments there are. `pk_find: damaged` says that some byte is another one than was written.
+Nothing is written, and the store stays as it is. It takes about as long as an index of all texts
+takes to make, and nobody else can have the store meanwhile.";
+
 const PATH_HELP: &str = "The file of the store";
 
 /// What a command line asks.
@@ -81,6 +94,8 @@ pub enum Asked<'a> {
     Create { path: &'a str, units: u64 },
     /// A session with the store in a file.
     Run { path: &'a str },
+    /// A check of the store in a file.
+    Check { path: &'a str },
 }
 
 /// The path, which each command takes.
@@ -115,13 +130,18 @@ pub fn program<'a>(alloc: Global) -> Result<Command<'a>, AllocError>
         .about(RUN_ABOUT)
         .after_help(RUN_HELP)
         .arg(path(alloc))?;
+    let check = Command::new(alloc, "check")
+        .about(CHECK_ABOUT)
+        .after_help(CHECK_HELP)
+        .arg(path(alloc))?;
     Command::new(alloc, "pk_find")
         .about(ABOUT)
         .version(VERSION)
         .subcommand_required(true)
         .arg_required_else_help(true)
         .subcommand(create)?
-        .subcommand(run)
+        .subcommand(run)?
+        .subcommand(check)
 }
 
 /// How many units `create` is to make. The range is the command line's own.
@@ -153,6 +173,9 @@ pub fn asked_by<'a>(matches: &ArgMatches<'a>) -> Option<Asked<'a>>
             units: units_of(given)?,
         }),
         Some(("run", given)) => Some(Asked::Run {
+            path: given.get_str("PATH")?,
+        }),
+        Some(("check", given)) => Some(Asked::Check {
             path: given.get_str("PATH")?,
         }),
         _ => None,

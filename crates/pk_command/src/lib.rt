@@ -4,21 +4,24 @@
 //! `pk_find create PATH --units N` makes a file of N units of 512 bytes with an empty store in it.
 //! `pk_find run PATH` opens the store in a file and answers the lines of its standard input, one
 //! reply line for each, until `quit` or the end of the input.
+//! `pk_find check PATH` reads all that is committed in the store in a file, compares it byte by byte
+//! with what its documents give, and prints `ok D documents next N segments S`.
 //!
 //! | status | when | standard error |
 //! |---|---|---|
-//! | 0 | the store is made; the input is answered to its end or a `quit`; help, version | nothing |
+//! | 0 | the store is made, or is sound; help, version | nothing |
+//! | 0 | the input is answered to its end or a `quit` | nothing |
 //! | 1 | a command failed | `pk_find: ` and one of the reasons below, in one line |
 //! | 2 | the command line was refused | why, and how it is to be used; of an argument that is no UTF-8 one line |
 //!
 //! | reason | when |
 //! |---|---|
 //! | `exists` | there is something at the path of `create` already; it stays as it is |
-//! | `missing` | there is nothing at the path of `run` |
-//! | `bad length` | the file of `run` is not 64 to 2,147,483,648 whole units long |
+//! | `missing` | there is nothing at the path of `run` or `check` |
+//! | `bad length` | the file of `run` or `check` is not 64 to 2,147,483,648 whole units long |
 //! | `too small`, `already a store` | the disk of a new store is too small, or has one |
 //! | `not a store` | the file has no store |
-//! | `damaged` | the file has a store whose bytes are not sound |
+//! | `damaged` | the store's bytes are not sound: for `run` those that opening reads, for `check` all |
 //! | `disk` | the system refused a call of the file |
 //! | `memory` | a growth of memory was refused |
 //! | `input`, `output` | a read of standard input, or a write of standard output, failed |
@@ -29,6 +32,7 @@
 //! lost with its end.
 #![tactic(auto)]
 
+mod checking;
 mod command_line;
 mod creating;
 mod reporting;
@@ -37,6 +41,7 @@ mod running;
 ghost use Rattle.std.specs.Prelude.{map, string_bytes};
 ghost use Rattle.pk_command.specs.Endings.{CommandOutcome};
 
+use checking::check;
 use command_line::{Asked, asked_by, program};
 use creating::create;
 use pk_disk::Disk;
@@ -75,6 +80,7 @@ pub fn command<F: RawFile + Drop, S: FileSystem<File = F>, R: Read, W: Write, E:
     match asked_by(&matches) {
         Some(Asked::Create { path, units }) => create(rt, alloc, path, units, output, faults),
         Some(Asked::Run { path }) => run(rt, alloc, path, input, output, faults),
+        Some(Asked::Check { path }) => check(rt, alloc, path, output, faults),
         None => fail(faults, MEMORY),
     }
 }

@@ -3,13 +3,14 @@
 ghost use Rattle.std.specs.Prelude.{◌≡◌};
 ghost use Rattle.clap.specs.Words.{kind_of};
 ghost use Rattle.pk_command.specs.Endings.{IsTold, RefusalOutcome};
-ghost use Rattle.pk_command.specs.Reasons.{creating_words, file_words};
+ghost use Rattle.pk_command.specs.Reasons.{checking_words, creating_words, file_words};
 ghost use Rattle.pk_command.specs.Reasons.{opening_words, session_words};
 ghost use Rattle.pk_command.specs.Unread.{UnreadOutcome};
 
 use clap::Error;
 use clap::error::ErrorKind;
 use pk_filedisk::FileFault;
+use pk_model::Refusal;
 use pk_shell::{ShellFault, write_all};
 use pk_store::{CreateFault, OpenFault};
 use std::io;
@@ -113,6 +114,18 @@ pub fn opening_reason(fault: OpenFault) -> &'static str
         OpenFault::Damaged => "pk_find: damaged\n",
         OpenFault::Disk => "pk_find: disk\n",
         OpenFault::Memory => MEMORY,
+    }
+}
+
+/// Why a store was not checked, as a line. One that was just opened needn't be opened again, so that
+/// what is left is the device's.
+pub fn checking_reason(why: Refusal) -> &'static str
+    ensures { result.now ≡ checking_words why }
+{
+    match why {
+        Refusal::Damaged => "pk_find: damaged\n",
+        Refusal::Memory => MEMORY,
+        _ => "pk_find: disk\n",
     }
 }
 

@@ -20,6 +20,13 @@ returns-in-Some-Create g c =
     let size = subst HasSize c.in-Some-Create.field-0-is c.in-Some-Create.ensures.size in
     inl (_, words_ask _ _ _ _ c.in-Ok.ensures parsed.matches parsed.kinds asked, size, (refl, c.create.ensures))
 
+pub returns-in-Some-Check : goal.returns-in-Some-Check
+returns-in-Some-Check g c =
+    let parsed = c.in-Ok-try_get_matches_from.ensures in
+    let asked = subst (Asks (subcommand_rows_of c.in-Ok-try_get_matches_from.matches)) c.in-Some-Check.field-0-is c.in-Some-Check.ensures.asked in
+    let size = subst HasSize c.in-Some-Check.field-0-is c.in-Some-Check.ensures.size in
+    inl (_, words_ask _ _ _ _ c.in-Ok.ensures parsed.matches parsed.kinds asked, size, (refl, c.check.ensures))
+
 pub returns-in-Err : goal.returns-in-Err
 returns-in-Err g c = words_refused _ _ _ _ (kind_of c.in-Err.error) _ _ _ _ _ _ c.in-Ok.ensures c.in-Err.ensures.kinds c.refuse.ensures
 

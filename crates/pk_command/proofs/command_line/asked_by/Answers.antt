@@ -4,7 +4,7 @@ use Rattle.clap.proofs.WalkLemmas.{first_value-rows, one_text-rows}
 use Rattle.clap.specs.Words.{found_of, rows_of}
 use Rattle.pk_command.proofs.CommandLineLemmas.{named_rows, no_path, no_units}
 use Rattle.pk_command.specs.CommandLine.{Asks}
-use Rattle.pk_command.specs.declared.command_line.Asked.TheVariants.{Create, Run}
+use Rattle.pk_command.specs.declared.command_line.Asked.TheVariants.{Check, Create, Run}
 use Rattle.pk_command.proofs.command_line.asked_by.Goals as goal
 
 pub returns-in_ok-units_of-in-Some-create-default-clause-asked :
@@ -19,6 +19,12 @@ pub returns-in_ok-get_str-in-Some-run-default-clause-asked :
 returns-in_ok-get_str-in-Some-run-default-clause-asked c =
     subst (λ met. Asks met (Run c.in_ok-get_str-in-Some-run-default.field-0)) (sym (named_rows _ _ _ _ _ c.in-Some-run-default.ensures.name c.in-Some-run-default.ensures.rows))
     (c.in-Some-run-default.is-run, sym (first_value-rows (found_of c.in-Some-run-default.given.now) (codes "PATH")) ∙ sym c.in_ok-get_str-in-Some-run-default.ensures)
+
+pub returns-in_ok-get_str-in-Some-check-default-clause-asked :
+    goal.returns-in_ok-get_str-in-Some-check-default-clause-asked
+returns-in_ok-get_str-in-Some-check-default-clause-asked c =
+    subst (λ met. Asks met (Check c.in_ok-get_str-in-Some-check-default.field-0)) (sym (named_rows _ _ _ _ _ c.in-Some-check-default.ensures.name c.in-Some-check-default.ensures.rows))
+    (c.in-Some-check-default.is-check, sym (first_value-rows (found_of c.in-Some-check-default.given.now) (codes "PATH")) ∙ sym c.in_ok-get_str-in-Some-check-default.ensures)
 
 pub returns-in_err-get_str-in-Some-create-default-clause-none : goal.returns-in_err-get_str-in-Some-create-default-clause-none
 returns-in_err-get_str-in-Some-create-default-clause-none c = λ none asked size asks.
@@ -38,3 +44,9 @@ returns-in_err-get_str-in-Some-run-default-clause-none c = λ none asked size as
     no_path asked _ (rows_of (found_of c.in-Some-run-default.given.now))
     (sym (first_value-rows (found_of c.in-Some-run-default.given.now) (codes "PATH")) ∙ sym c.in_err-get_str-in-Some-run-default.ensures)
     (subst (λ met. Asks met asked) (named_rows _ _ _ _ _ c.in-Some-run-default.ensures.name c.in-Some-run-default.ensures.rows) asks)
+
+pub returns-in_err-get_str-in-Some-check-default-clause-none : goal.returns-in_err-get_str-in-Some-check-default-clause-none
+returns-in_err-get_str-in-Some-check-default-clause-none c = λ none asked size asks.
+    no_path asked _ (rows_of (found_of c.in-Some-check-default.given.now))
+    (sym (first_value-rows (found_of c.in-Some-check-default.given.now) (codes "PATH")) ∙ sym c.in_err-get_str-in-Some-check-default.ensures)
+    (subst (λ met. Asks met asked) (named_rows _ _ _ _ _ c.in-Some-check-default.ensures.name c.in-Some-check-default.ensures.rows) asks)

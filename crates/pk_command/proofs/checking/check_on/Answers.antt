@@ -1,0 +1,38 @@
+-- What was told is what the check of the store answered, which the disk opened to.
+use Rattle.std.proofs.Common.{inl, inr, refl, Ok, Err}
+use Rattle.pk_command.proofs.SessionLemmas.{checked, none_held, unopened}
+use Rattle.pk_command.proofs.checking.check_on.Goals as goal
+
+pub returns-in-Ok-writeln : goal.returns-in-Ok-writeln
+returns-in-Ok-writeln g c = inl (
+  c.in-Ok-check.checked,
+  refl,
+  refl,
+  checked g.D.Disk (λ honest x image. g.met.D.Disk.only_now x image honest) (λ honest x t image. g.met.D.Disk.counts_now x t image honest) c.args.disk c.in-Ok.store c.check.new.self (Ok c.in-Ok-check.checked) c.in-Ok.ensures c.in-Ok-check.ensures,
+  c.in-Ok-writeln.ensures.bytes,
+)
+
+pub returns : goal.returns
+returns g c = inr (inl (
+  c.in-Ok-check.checked,
+  c.fail-in-Err-writeln.ensures.status,
+  c.fail-in-Err-writeln.ensures.told,
+  checked g.D.Disk (λ honest x image. g.met.D.Disk.only_now x image honest) (λ honest x t image. g.met.D.Disk.counts_now x t image honest) c.args.disk c.in-Ok.store c.check.new.self (Ok c.in-Ok-check.checked) c.in-Ok.ensures c.in-Ok-check.ensures,
+))
+
+pub returns-in-Err-check : goal.returns-in-Err-check
+returns-in-Err-check g c = inr (inr (inl (
+  c.in-Err-check.why,
+  c.fail-in-Err-check.ensures.status,
+  rw c.checking_reason.ensures at c.fail-in-Err-check.ensures.told,
+  checked g.D.Disk (λ honest x image. g.met.D.Disk.only_now x image honest) (λ honest x t image. g.met.D.Disk.counts_now x t image honest) c.args.disk c.in-Ok.store c.check.new.self (Err c.in-Err-check.why) c.in-Ok.ensures c.in-Err-check.ensures,
+  refl,
+)))
+
+pub returns-in-Err : goal.returns-in-Err
+returns-in-Err g c = inr (inr (inr (
+  record { refused = c.in-Err.refused; opens = c.in-Err.ensures; answered = none_held g.D.Disk (λ honest x image. g.met.D.Disk.only_now x image honest) (λ honest x t image. g.met.D.Disk.counts_now x t image honest) c.args.disk c.in-Err.refused c.in-Err.refused.why refl c.in-Err.ensures; extends = unopened g.D.Disk (λ honest x image. g.met.D.Disk.only_now x image honest) (λ honest x t image. g.met.D.Disk.counts_now x t image honest) c.args.disk c.in-Err.refused c.in-Err.ensures },
+  c.fail.ensures.status,
+  rw c.opening_reason.ensures at c.fail.ensures.told,
+  refl,
+)))

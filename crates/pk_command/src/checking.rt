@@ -1,0 +1,64 @@
+//! A store, checked.
+
+ghost use Rattle.pk_command.specs.Endings.{CheckOutcome, FileCheckOutcome};
+
+use super::reporting::{DONE, OUTPUT, checking_reason, fail, file_reason, opening_reason};
+use pk_disk::Disk;
+use pk_filedisk::{FileDisk, LockFile};
+use pk_store::{Checked, Store};
+use std::alloc::Global;
+use std::fs::OpenFile;
+use std::io::Write;
+use std::os::unix::fs::FileExt;
+use std::rt::Files;
+
+/// Opens the store on a disk, reads all that is committed, and tells what there is.
+fn check_on<D: Disk + Drop, W: Write, E: Write>(
+    alloc: Global,
+    disk: D,
+    output: &mut W,
+    faults: &mut E,
+) -> u8
+    ensures { CheckOutcome D.Disk disk (W.contents output.old) (W.contents output.new)
+        (E.contents faults.old) (E.contents faults.new) result }
+{
+    let mut store = match Store::open_on(alloc, disk, 0) {
+        Ok(store) => store,
+        Err(refused) => return fail(faults, opening_reason(refused.why)),
+    };
+    let Checked {
+        documents,
+        next,
+        segments,
+    } = match store.check(alloc) {
+        Ok(checked) => checked,
+        Err(why) => return fail(faults, checking_reason(why)),
+    };
+    match writeln!(
+        output,
+        "ok {documents} documents next {next} segments {segments}"
+    ) {
+        Ok(()) => DONE,
+        Err(_) => fail(faults, OUTPUT),
+    }
+}
+
+/// Checks the store in a file, tells what there is, and answers the status: 0, or 1 where the store
+/// is none, is damaged, or could not be read or told. Each byte is read once, so that no page of the
+/// file is kept.
+pub fn check<F: FileExt + OpenFile + LockFile + Drop, S: Files<File = F>, W: Write, E: Write>(
+    rt: &S,
+    alloc: Global,
+    path: &str,
+    output: &mut W,
+    faults: &mut E,
+) -> u8
+    ensures { FileCheckOutcome ⟦<FileDisk<F> as Disk>⟧
+        (W.contents output.old) (W.contents output.new)
+        (E.contents faults.old) (E.contents faults.new) result }
+{
+    match FileDisk::on(rt, path) {
+        Ok(disk) => check_on(alloc, disk, output, faults),
+        Err(fault) => fail(faults, file_reason(fault)),
+    }
+}
