@@ -1,7 +1,7 @@
--- What the laws of the two writers say: where they write, and what doesn't rest on the bodies.
-use Rattle.std.specs.Prelude.{◌≡◌, ◌≤◌, ◌+◌, ◌∷◌, [], ℕ, List, length}
-use Rattle.std.proofs.Common.{inl, refl, sym, ◌∙◌, arith}
-use Rattle.pk_disk.specs.Disk.{in_range}
+-- What the laws of the writers say: where they write, and what doesn't rest on the bodies.
+use Rattle.std.specs.Prelude.{◌≡◌, ◌⊎◌, ◌≤◌, ◌+◌, ◌∷◌, [], ℕ, Bool, List, length}
+use Rattle.std.proofs.Common.{inl, inr, refl, sym, ◌∙◌, arith}
+use Rattle.pk_disk.specs.Disk.{also, in_range}
 use Rattle.pk_disk.proofs.Images.{same_part}
 use Rattle.pk_disk.proofs.Ranges.{or_both, outside_range}
 use Rattle.pk_manifest.specs.Bodies.{bodies_end}
@@ -37,3 +37,14 @@ copy_stays from to n bytes bytes' c agree is =
       placed = is.placed;
       spelled = is.spelled ∙ sym same;
     }
+
+-- nor do a writer and the pieces behind it
+pub far_followed : (touched : ℕ → Bool) (size : ℕ) (claims : List Claim) → IsFar touched
+    → Each (IsInside size) claims → IsFar (also touched (places claims))
+far_followed touched size claims far inside p lt =
+    or_both (touched p) (places claims p) (far p lt) (far_places size claims inside p lt)
+
+-- what the first of two promises stays, and the pieces do
+pub followed_stays : (P Q R : Type 0) → (P → Q) → P ⊎ R → Q ⊎ R
+followed_stays P Q R stays (inl is) = inl (stays is)
+followed_stays P Q R stays (inr is) = inr is

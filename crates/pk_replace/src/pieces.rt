@@ -17,10 +17,10 @@ pub struct Piece {
     pub bytes: Vec<u8>,
 }
 
-// Writes the pieces in their order, one write each.
-//
-// They lie behind the bodies and share no position.
-fn put_all<D: Disk>(disk: &mut D, pieces: &[Piece]) -> Result<(), DiskFault>
+/// Writes the pieces in their order, one write each.
+///
+/// They lie behind the bodies and share no position.
+pub(crate) fn put_all<D: Disk>(disk: &mut D, pieces: &[Piece]) -> Result<(), DiskFault>
     requires inside { Each (IsInside (length (D.content disk.old))) (map claim_of pieces.now) }
     requires apart { AreApart (map claim_of pieces.now) }
 

@@ -1,17 +1,19 @@
-//! A body put in force with pieces, and with a copy that reads between its writes: what each leaves
-//! where a call of the device fails, and what a crash does then.
+//! A body put in force with pieces, with a copy that reads between its writes, and with a copy and
+//! a piece behind it: what each leaves where a call of the device fails, and what a crash does then.
 //!
 //! Each store has segment 1 at unit 34, of 4,500 bytes. The next one has it with a deletion list
-//! and another segment, both new pieces, or it has it and a copy of it.
-ghost use Rattle.std.specs.Prelude.{◌≡◌, ◌≤◌, ◌<◌, ◌*◌, IfOk, IfSome, length, map};
+//! and another segment, both new pieces; or it has it and a copy of it; or both a copy of it and a
+//! deletion list.
+ghost use Rattle.std.specs.Prelude.{◌≡◌, ◌≤◌, ◌<◌, ◌*◌, false, ℕ, IfOk, IfSome, length, map};
 ghost use Rattle.pk_disk.specs.Disk.{nowhere};
 ghost use Rattle.pk_manifest.specs.Bodies.{bodies_end, body_of, body_size, generation_of, other};
 ghost use Rattle.pk_manifest.specs.Firm.{IsFirm};
-ghost use Rattle.pk_replace.specs.Claims.{AreApart, Each, IsInside, claim_of};
+ghost use Rattle.pk_replace.specs.Claims.{AreApart, CanFollow, Each, IsInside, claim_of, places};
+ghost use Rattle.pk_replace.specs.Copying.{CanCopy, PromisesCopy};
 
 use pk_disk::{Disk, Extent, FaultDisk, LossyDisk, MemoryDisk};
 use pk_manifest::{Half, Manifest, Part, read_current};
-use pk_replace::{CopyExtent, Piece, Pieces, StreamFault, WritesExtent, replace_with};
+use pk_replace::{CopyExtent, Followed, Piece, Pieces, StreamFault, WritesExtent, replace_with};
 use std::alloc::{AllocError, Global};
 use std::process::Abort;
 use std::test::Fail;
@@ -24,6 +26,9 @@ const FIRST: u8 = 34;
 
 const LONG: usize = 4_500;
 
+// The first unit behind all copies.
+const BEHIND: u8 = 61;
+
 // A call that no replacement makes.
 const NEVER: u64 = 100;
 
@@ -34,13 +39,15 @@ enum With {
     Pieces,
     // A copy of segment 1, in two parts.
     Copy,
+    // The copy, and then the deletion list.
+    Followed,
 }
 
 impl With {
     // How many extents the next store has.
     fn extents(self) -> usize {
         match self {
-            With::Pieces => 3,
+            With::Pieces | With::Followed => 3,
             With::Copy => 2,
         }
     }
@@ -49,7 +56,8 @@ impl With {
     fn filling(self, unit: u32) -> u32 {
         match self {
             With::Pieces => unit,
-            With::Copy => u32::from(FIRST),
+            With::Followed if unit >= u32::from(BEHIND) => unit,
+            With::Copy | With::Followed => u32::from(FIRST),
         }
     }
 }
@@ -97,6 +105,49 @@ fn copy(alloc: Global, unit: u8) -> Result<CopyExtent, AllocError>
     CopyExtent::new(alloc, 17_408, 512 * u64::from(unit), 4_500)
 }
 
+// The unit of the deletion list that follows a copy at a unit.
+fn behind(unit: u8) -> u8
+    requires low { 43 ≤ unit }
+    requires high { unit ≤ 52 }
+    ensures low { 61 ≤ result }
+    ensures high { result ≤ 62 }
+{
+    BEHIND + (unit - 43) / 9
+}
+
+// That deletion list, of 9 bytes.
+fn list(alloc: Global, unit: u8) -> Result<Vec<Piece>, AllocError>
+    requires low { 61 ≤ unit }
+    requires high { unit ≤ 62 }
+    ensures inside { IfOk result (λ v. Each (IsInside 32768) (map claim_of v.items)) }
+    ensures apart { IfOk result (λ v. AreApart (map claim_of v.items)) }
+    ensures behind { IfOk result (λ v. (p : ℕ) → p < 31232
+        → places (map claim_of v.items) p ≡ false) }
+{
+    let list = piece(alloc, unit, 9)?;
+    Ok(Vec::from_array(alloc, [list])?)
+}
+
+// A copy of segment 1 at a unit, and then what lies behind all copies.
+fn followed(
+    alloc: Global,
+    unit: u8,
+    pieces: &[Piece],
+) -> Result<Followed<'_, CopyExtent>, AllocError>
+    requires low { 43 ≤ unit }
+    requires high { unit ≤ 52 }
+    requires inside { Each (IsInside 32768) (map claim_of pieces.now) }
+    requires apart { AreApart (map claim_of pieces.now) }
+    requires behind { (p : ℕ) → p < 31232 → places (map claim_of pieces.now) p ≡ false }
+    ensures { IfOk result (λ w. CanFollow (CanCopy w.first.from w.first.to w.first.bytes 32768)
+        (PromisesCopy w.first.from w.first.to w.first.bytes) 32768 (map claim_of w.pieces.now)) }
+{
+    Ok(Followed {
+        first: copy(alloc, unit)?,
+        pieces,
+    })
+}
+
 // Segment 1, with a deletion list or without.
 fn first_part(dead: Option<Extent>) -> Part {
     Part {
@@ -109,13 +160,18 @@ fn first_part(dead: Option<Extent>) -> Part {
 
 // The entries of the next store, whose new segment is at a unit.
 fn next_entries(alloc: Global, with: With, unit: u8) -> Result<Vec<Part>, AllocError>
-    requires { unit ≤ 57 }
+    requires low { 43 ≤ unit }
+    requires high { unit ≤ 52 }
     ensures { IfOk result (λ v. length v.items ≡ 2) }
 {
     let first = u32::from(unit);
     let (dead, bytes) = match with {
         With::Pieces => (Some(Extent::of_bytes(first + 6, 9)), 600),
         With::Copy => (None, LONG as u32),
+        With::Followed => (
+            Some(Extent::of_bytes(u32::from(behind(unit)), 9)),
+            LONG as u32,
+        ),
     };
     let new = Part {
         segment: 2,
@@ -266,6 +322,16 @@ fn replace_next(
             };
             put_next(alloc, disk, entries, copy(alloc, unit)?, second, k, once)
         }
+        With::Followed => {
+            let lists = list(alloc, behind(unit))?;
+            let second = if again {
+                Some(followed(alloc, unit, &lists)?)
+            } else {
+                None
+            };
+            let first = followed(alloc, unit, &lists)?;
+            put_next(alloc, disk, entries, first, second, k, once)
+        }
     }
 }
 
@@ -364,6 +430,22 @@ static ROWS: [Row; 4] = [
     },
 ];
 
+// The same with a piece behind the copy, whose write is one call more.
+static FOLLOWED: [Row; 2] = [
+    Row {
+        with: With::Followed,
+        over_open: false,
+        calls: 10,
+        reads: [1, 2, 4],
+    },
+    Row {
+        with: With::Followed,
+        over_open: true,
+        calls: 12,
+        reads: [1, 4, 6],
+    },
+];
+
 // What it answers where its kth call fails.
 fn answer_of(k: u64, calls: u64, reads: [u64; 3]) -> Result<(), StreamFault> {
     if k > calls {
@@ -397,7 +479,7 @@ fn outcome(
 fn cut_off(rt: &impl Abort, alloc: Global, row: Row, once: bool, pick: u8) -> Result<(), Fail> {
     let Row { calls, reads, .. } = row;
     let [old, new] = stores(row.with, row.over_open);
-    for k in 1..13 {
+    for k in 1..14 {
         let is_new = k > calls || (k + 2 > calls && pick == 0xA7);
         let want = (answer_of(k, calls, reads), if is_new { new } else { old });
         let told = outcome(rt, alloc, row, k, once, false, pick)?;
@@ -406,15 +488,25 @@ fn cut_off(rt: &impl Abort, alloc: Global, row: Row, once: bool, pick: u8) -> Re
     Ok(())
 }
 
-#[test]
-fn a_cut_replacement_leaves_the_old_store_or_the_new(rt: HostRuntime) -> Result<(), Fail> {
-    for row in &ROWS {
+// The same of each row.
+fn cut_each(rt: &impl Abort, alloc: Global, rows: &[Row]) -> Result<(), Fail> {
+    for row in rows {
         for pick in [0xA7, 0x00, 0xFF] {
-            cut_off(&rt, rt.alloc(), *row, true, pick)?;
-            cut_off(&rt, rt.alloc(), *row, false, pick)?;
+            cut_off(rt, alloc, *row, true, pick)?;
+            cut_off(rt, alloc, *row, false, pick)?;
         }
     }
     Ok(())
+}
+
+#[test]
+fn a_cut_replacement_leaves_the_old_store_or_the_new(rt: HostRuntime) -> Result<(), Fail> {
+    cut_each(&rt, rt.alloc(), &ROWS)
+}
+
+#[test]
+fn so_does_one_with_a_piece_behind_the_copy(rt: HostRuntime) -> Result<(), Fail> {
+    cut_each(&rt, rt.alloc(), &FOLLOWED)
 }
 
 // Each read fails, and then a crash with every pick the same.
@@ -432,7 +524,7 @@ fn begin_again(rt: &impl Abort, alloc: Global, row: Row, pick: u8) -> Result<(),
 // Also between two writes of the copy, and behind a gate that the first attempt closed.
 #[test]
 fn after_a_failed_read_it_may_begin_again(rt: HostRuntime) -> Result<(), Fail> {
-    for row in &ROWS {
+    for row in ROWS.iter().chain(&FOLLOWED) {
         for pick in [0xA7, 0x00, 0xFF] {
             begin_again(&rt, rt.alloc(), *row, pick)?;
         }
@@ -454,7 +546,7 @@ fn fail_first(rt: &impl Abort, alloc: Global, row: Row) -> Result<(), Fail> {
 
 #[test]
 fn a_failed_read_of_the_gate_writes_nothing(rt: HostRuntime) -> Result<(), Fail> {
-    for row in &ROWS {
+    for row in ROWS.iter().chain(&FOLLOWED) {
         fail_first(&rt, rt.alloc(), *row)?;
     }
     Ok(())

@@ -1,5 +1,5 @@
 -- One piece more is written behind those so far: what is written, and what is there.
-use Rattle.std.proofs.Common.{rules, ◌≡◌, ◌∙◌, ◌≤◌, ◌+◌, ◌++◌, ◌∷◌, [], List, ap, arith, drop, length, map, subst, sym, take}
+use Rattle.std.proofs.Common.{rules, ◌≡◌, ◌+◌, ◌++◌, ◌∷◌, [], List, drop, length, map, subst, sym, take}
 use Rattle.pk_disk.specs.Disk.{in_range}
 use Rattle.pk_replace.specs.Claims.{Claim, Each, IsInside, IsThere, claim_of, places}
 use Rattle.pk_replace.specs.Writing.{WritesOnly}
