@@ -29,7 +29,10 @@ ghost use Rattle.std.specs.Prelude.{
   OnErr,
   MatchOption,
   string_bytes,
+  String,
 };
+ghost use Rattle.std.specs.declared.alloc.Global.{Global};
+ghost use Rattle.pk_plan.specs.declared.plans.Plan.{Plan};
 ghost use Rattle.std.specs.List.Sorted.{IsStrictlyIncreasing};
 ghost use Rattle.pk_buffer.specs.Buffer.{AreBeside, IsOrdered, text_bytes};
 ghost use Rattle.pk_index.specs.Index.{Keeps};
@@ -37,9 +40,11 @@ ghost use Rattle.pk_model.specs.Collection.{Doc, answer, has_number, is_live, nu
 ghost use Rattle.pk_model.specs.Steps.{text_of};
 ghost use Rattle.pk_model.specs.Tree.{Term, tree_of};
 ghost use Rattle.pk_model.specs.Views.{doc_of, numbers_in};
+ghost use Rattle.pk_plan.specs.Plans.{means};
 
 use pk_index::Index;
 use pk_model::{DocNo, Document, Query};
+use pk_plan::Plan;
 use std::alloc::{AllocError, Global};
 use std::marker::Model;
 
@@ -152,6 +157,18 @@ impl Buffer {
     {
         let hits = self.index.find(alloc, query, &self.numbers)?;
         doc_numbers(alloc, &hits)
+    }
+
+    /// The numbers of the documents that the plan finds, rising.
+    pub fn find_planned(&self, alloc: Global, plan: &Plan) -> Result<Vec<DocNo>, AllocError>
+        ensures found { IfOk result (λ v. numbers_in v.items ≡ means plan.now self.now) }
+        ensures rising { IsStrictlyIncreasing (numbers_of self.now) }
+        // One word that no document holds takes no memory.
+        ensures none { (word : String Global) → plan.now ≡ Plan.Term word
+            → answer (Term (string_bytes word)) self.now ≡ [] → IsOk result }
+    {
+        let found = self.index.find_planned(alloc, plan, &self.numbers)?;
+        doc_numbers(alloc, &found)
     }
 
     /// The text of the document of this number, if there is one.

@@ -1,13 +1,12 @@
 //! A query over stored segments: those of kind 2 by a plan over their posting lists, those of
 //! kind 1 document by document, each read, cut into words and folded.
-ghost use Rattle.std.specs.Prelude.{◌≡◌, ◌≤◌, ◌<◌, ◌+◌, ◌++◌, ◌∷◌, [], ℕ, List, length, min};
+ghost use Rattle.std.specs.Prelude.{◌≡◌, ◌≤◌, ◌<◌, ◌+◌, ℕ, List, length, min};
 ghost use Rattle.std.specs.Prelude.{All, IfErr, IfOk, true};
 ghost use Rattle.pk_disk.specs.Frames.{KeepsDisk};
 ghost use Rattle.pk_disk.specs.Units.{apart, extent_bytes, start_of};
 ghost use Rattle.pk_manifest.specs.Sound.{same_segment};
-ghost use Rattle.pk_model.specs.Collection.{Doc, answer};
-ghost use Rattle.pk_model.specs.Tree.{tree_of};
-ghost use Rattle.pk_model.specs.Views.{doc_of, numbers_in};
+ghost use Rattle.pk_model.specs.Collection.{Doc};
+ghost use Rattle.pk_model.specs.Tree.{Tree, tree_of};
 ghost use Rattle.pk_search.specs.Cached.{AddsOnlyOf, AgreesAt, CacheAgrees, KeepsBelow};
 ghost use Rattle.pk_search.specs.Finding.{FoundAs};
 ghost use Rattle.pk_search.specs.Matching.{AreEntriesOf, AreKept, EntriesAs, IsPlanFor};
@@ -19,40 +18,23 @@ ghost use Rattle.pk_state.specs.Committed.{Stored, live_in, live_of};
 ghost use Rattle.pk_state.specs.Holds.{IndexesEntries, IndexesEntry};
 ghost use Rattle.pk_state.specs.Kept.{LieInside};
 
+use crate::hits::put_hit;
 use crate::listed::{WordEntry, WordLists, frequencies_of, look_up, words_in};
 use crate::opened::OpenSegment;
 use crate::pivots::PivotTables;
 use crate::planned::find_planned;
-use pk_buffer::is_hit;
 use pk_cache::BlockCache;
 use pk_disk::Disk;
+use pk_index::Index;
 use pk_manifest::Part;
-use pk_model::{DocNo, Document, Query};
+use pk_model::{DocNo, Query};
 use pk_plan::{Plan, plan};
 use pk_posting::ByteSource;
 use pk_segment::{ExtentSource, ReadFault};
-use pk_words::words;
-use std::alloc::{AllocError, Global};
+use std::alloc::Global;
 
 // The kind of segments that have posting lists.
 const INDEXED: u32 = 2;
-
-// Puts the document's number behind those that were found, where its words satisfy the query.
-fn find_one(
-    alloc: Global,
-    document: &Document,
-    query: &Query,
-    found: &mut Vec<DocNo>,
-) -> Result<(), AllocError>
-    ensures { IfOk result (λ _. numbers_in found.new.items
-        ≡ numbers_in found.old.items ++ answer (tree_of query.now) (doc_of document.now ∷ [])) }
-{
-    let set = words(alloc, &document.text)?;
-    if is_hit(query, &set) {
-        found.push(document.number)?;
-    }
-    Ok(())
-}
 
 // Puts the numbers of the segment's documents that are not deleted and satisfy the query behind
 // those that were found.
@@ -60,21 +42,23 @@ fn find_from<S: ByteSource>(
     alloc: Global,
     source: &mut S,
     opened: &OpenSegment,
-    query: &Query,
+    plan: &Plan,
     found: &mut Vec<DocNo>,
 ) -> Result<(), ReadFault>
     ensures found { S.honest → (s : Stored) (kind : ℕ)
         → SegmentSpells (S.content source.old) s.documents kind
         → IsSegmentOf opened.now.segment s.documents
-        → FoundAs (tree_of query.now) (live_of (with_deleted opened.now s)) found.old.items
+        → (query : Tree) → IsPlanFor plan.now query
+        → FoundAs query (live_of (with_deleted opened.now s)) found.old.items
         found.new.items result }
     ensures keeps { S.keeps source.old source.new }
     ensures faults { CountsReads (S.failures source.old) (S.failures source.new) result }
 {
+    let mut index = Index::new(alloc);
     for i in 0..opened.segment.count() {
         let document = opened.segment.document_at(alloc, source, i)?;
         if !opened.deleted.contains(document.number.0) {
-            find_one(alloc, &document, query, found)?;
+            put_hit(alloc, &mut index, &document, plan, found)?;
         }
     }
     Ok(())
@@ -194,7 +178,7 @@ fn find_in<D: Disk>(
             found,
         );
     }
-    find_from(alloc, &mut source, opened, planned.query, found)
+    find_from(alloc, &mut source, opened, &planned.plan, found)
 }
 
 // The same of all segments.
@@ -247,6 +231,8 @@ fn find_all<D: Disk>(
 /// Where there is a cache, the blocks of a list that is taken out whole go through it. Let it agree
 /// with the entries and their open segments, then it does so afterwards; a new one does.
 ///
+/// Answers the plan by which it looked, so that whoever has other documents finds by it there.
+///
 /// Words are looked up by the pivots of the segments' dictionaries, as far as there are tables of
 /// them; whatever these have, the answer is the same.
 ///
@@ -261,9 +247,10 @@ pub fn find_stored<D: Disk>(
     opened: &[OpenSegment],
     query: &Query,
     found: &mut Vec<DocNo>,
-) -> Result<(), ReadFault>
+) -> Result<Plan, ReadFault>
     requires inside { LieInside (length (D.content disk.old)) entries.now }
     requires ids { apart same_segment entries.now ≡ true }
+    ensures plan { IfOk result (λ plan. IsPlanFor plan (tree_of query.now)) }
     ensures found { D.honest → (stored : List Stored)
         → IndexesEntries (D.content disk.old) entries.now stored → AreOpenOf opened.now stored
         → CacheAgrees (D.content disk.old) cache.old entries.now opened.now
@@ -282,5 +269,6 @@ pub fn find_stored<D: Disk>(
     let frequencies = frequencies_of(alloc, &words, &kept)?;
     let plan = plan(alloc, query, &frequencies)?;
     let planned = Planned { query, plan };
-    find_all(alloc, disk, cache, entries, opened, &kept, &planned, found)
+    find_all(alloc, disk, cache, entries, opened, &kept, &planned, found)?;
+    Ok(planned.plan)
 }

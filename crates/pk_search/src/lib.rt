@@ -17,13 +17,12 @@
 //!
 //! A find looks each distinct word up once in each segment of kind 2, and keeps what the
 //! dictionaries say (`listed`). The sums of a word's frequencies go into the plan of the query
-//! (pk_plan), which is carried out in each of these segments (`planned`): of an intersection the
-//! rarest word's list is taken out whole by a cursor, block by block; a later word is sought number
-//! by number where its list is more than 50 times as long as what is left, else taken out too and
-//! joined (`lists`). Joins write into a buffer and change it for the one they read (`joining`), so
-//! that a step takes memory only where its result is longer than each before it. Where nothing is
-//! left, nothing more is read. A segment of kind 1 has no lists: its documents are read, cut into
-//! words and folded.
+//! (pk_plan), which is carried out in each of these segments (pk_match, over the lists of `stored`):
+//! of an intersection the rarest word's list is taken out whole by a cursor, block by block; a later
+//! word is sought number by number where its list is more than 50 times as long as what is left, else
+//! taken out too and joined (`lists`). Where nothing is left, nothing more is read. A segment of kind
+//! 1 has no lists: its documents are read, and the plan carried out over an index of the words of
+//! each (`hits`). The plan is answered, so that other documents are found by it too.
 //!
 //! The answer is exact whatever the frequencies are: they choose the way alone.
 //!
@@ -41,7 +40,7 @@
 #![tactic(auto)]
 
 mod finding;
-mod joining;
+mod hits;
 mod kept;
 mod listed;
 mod lists;
@@ -50,6 +49,7 @@ mod opening;
 mod pivots;
 mod planned;
 mod showing;
+mod stored;
 
 pub use finding::find_stored;
 pub use opened::OpenSegment;

@@ -1,5 +1,6 @@
 //! One posting list: taken out by a cursor or through the cache, or asked by a cursor's seeks.
-ghost use Rattle.std.specs.Prelude.{◌≡◌, ℕ, List, length, OnOk, MatchResult};
+ghost use Rattle.std.specs.Prelude.{◌≡◌, ◌<◌, ◌*◌, ◌↔◌, ℕ, List, length};
+ghost use Rattle.std.specs.Prelude.{IsTrue, OnOk, MatchResult};
 ghost use Rattle.std.specs.List.Sorted.{IsStrictlyIncreasing};
 ghost use Rattle.pk_model.specs.Collection.{Doc};
 ghost use Rattle.pk_search.specs.Cached.{AddsOnlyOf, AreServed, KeepsBlocksOf, Serves};
@@ -12,12 +13,12 @@ ghost use Rattle.pk_segment.specs.Reading.{CountsReads, IsNoDamage};
 ghost use Rattle.pk_segment.specs.Spelling.{IndexSpells};
 ghost use Rattle.pk_sets.specs.Sets.{intersection};
 
-use crate::joining::keep_both;
 use crate::kept::copy_kept;
 use crate::listed::{WordLists, entry_for};
 use pk_cache::BlockCache;
 use pk_cursor::Cursor;
 use pk_dict::Entry;
+use pk_match::keep_both;
 use pk_posting::{ByteSource, ListPlace};
 use pk_segment::{ReadFault, Segment};
 use pk_sets::is_rising;
@@ -175,7 +176,9 @@ pub(crate) fn put_word<S: ByteSource>(
 }
 
 // Whether a list is more than 50 times as long as the numbers that are sought in it.
-fn is_far(numbers: usize, frequency: u32) -> bool {
+fn is_far(numbers: usize, frequency: u32) -> bool
+    ensures { IsTrue result ↔ (numbers * 50 < frequency) }
+{
     numbers.saturating_mul(50) < frequency as usize
 }
 
