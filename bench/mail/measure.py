@@ -1,12 +1,14 @@
 """Measures a first load of a maildir, its disk, finds, a kill in its midst and a second writer.
 
-    measure.py DATA MAILS [shards]
+    measure.py DATA MAILS [shards | log]
 
-With `shards` it measures these alone. DATA/mails/maildir has the mails. Each system is a command
-line that loads all of them, one that counts those with a word, and a folder that it keeps; absent
-ones are skipped. Times are of whole processes, with the files in the system's cache.
+With `shards` or `log` it measures these alone. DATA/mails/maildir has the mails, DATA/log a syslog.
+Each system is a command line that loads all of them, one that counts those with a word, and a
+folder that it keeps; absent ones are skipped. Systems take turns in loading. Times are of whole
+processes, with the files in the system's cache.
 """
 
+import itertools
 import os
 import pathlib
 import platform
@@ -19,8 +21,9 @@ import sys
 import time
 
 from rubewola import Store
-from rubewola.documents import document, mail
-from rubewola.loading import Maildir
+from rubewola.documents import document
+from rubewola.maildirs import Maildirs
+from rubewola.mails import mail
 
 LOADS = 3
 ASKED = 9
@@ -66,6 +69,10 @@ def systems(data):
     found = [System("Rubewola", made / "rubewola",
                     [*RUBEWOLA, "load-maildir", str(made / "rubewola" / "s"), str(mails)],
                     [*RUBEWOLA, "search", "--count", str(made / "rubewola" / "s"), "WORD"])]
+    alone = str(made / "alone" / "s")
+    found.append(System("Rubewola, `--jobs 1`", made / "alone",
+                        [*RUBEWOLA, "load-maildir", "--jobs", "1", alone, str(mails)],
+                        [*RUBEWOLA, "search", "--count", alone, "WORD"]))
     if shutil.which("notmuch"):
         config = made / "notmuch" / "config"
 
@@ -99,13 +106,18 @@ def fts(what, path, argument):
         return
     base.execute("CREATE VIRTUAL TABLE IF NOT EXISTS mails USING fts5(text, detail=none)")
     done = base.execute("SELECT count(*) FROM mails").fetchone()[0]
-    paths = [pathlib.Path(path) for path in Maildir(argument).paths[done:]]
-    for first in range(0, len(paths), 4_096):
+    texts = mail_texts(argument, done) if what == "load" else open(argument, encoding="utf-8")
+    while batch := list(itertools.islice(texts, 4_096)):
         base.execute("BEGIN")
-        base.executemany("INSERT INTO mails VALUES (?)",
-                         ((document(*mail(path.read_bytes()), with_parts=False),)
-                          for path in paths[first:first + 4_096]))
+        base.executemany("INSERT INTO mails VALUES (?)", ((text,) for text in batch))
         base.execute("COMMIT")
+
+
+def mail_texts(folder, done):
+    """The texts of a maildir's mails with the words of their fields, but for those done before."""
+    for path in Maildirs(folder).paths[done:]:
+        parsed = mail(pathlib.Path(path).read_bytes())
+        yield document("maildir", parsed.text, parsed.words, with_parts=False)[0].decode()
 
 
 def timed(system, word):
@@ -116,6 +128,37 @@ def timed(system, word):
         number = system.ask(word)
         times.append(time.perf_counter() - start)
     return f"{statistics.median(times) * 1e3:.0f} ms ({number:,})"
+
+
+def log_systems(data):
+    """Those that load a log."""
+    made, log = data / "stores", str(data / "log")
+    one, base = str(made / "lines" / "s"), str(made / "fts-lines" / "base")
+    return [System("Rubewola", made / "lines", [*RUBEWOLA, "load-log", one, log],
+                   [*RUBEWOLA, "search", "--count", one, "WORD"]),
+            System("Rubewola, `--jobs 1`", made / "lines-1",
+                   [*RUBEWOLA, "load-log", "--jobs", "1", str(made / "lines-1" / "s"), log],
+                   [*RUBEWOLA, "search", "--count", str(made / "lines-1" / "s"), "WORD"]),
+            System("SQLite FTS5", made / "fts-lines", [*FTS, "load-log", base, log],
+                   [*FTS, "count", base, "WORD"])]
+
+
+def logs(data):
+    """A table of loading a log."""
+    size, count = (data / "log").stat().st_size, sum(1 for _ in open(data / "log", "rb"))
+    measured = log_systems(data)
+    seconds = best_loads(measured)
+    rows = [f"| {system.name} | {least:.1f} s | {count / least:,.0f} "
+            f"| {system.disk() / 1e6:.1f} MB | {timed(system, 'dhcprequest')} |" for system, least in zip(measured, seconds)]
+    return "\n".join([f"A syslog of {count:,} lines, {size / 1e6:.1f} MB:", "",
+                      "| | first load | lines a second | disk | find dhcprequest |",
+                      "|---|---|---|---|---|", *rows])
+
+
+def best_loads(measured):
+    """The least seconds of a load of each system, which take turns."""
+    rounds = [[load(system) for system in measured] for _ in range(LOADS)]
+    return [min(times) for times in zip(*rounds)]
 
 
 def load(system):
@@ -209,8 +252,8 @@ def main():
           f"load {os.getloadavg()[0]:.1f}\n")
     print(f"| | first load | disk | find {words[0]} | find {words[1]} | killed | second writer |\n"
           "|---|---|---|---|---|---|---|")
-    for system in systems(data):
-        seconds = min(load(system) for _ in range(LOADS))
+    measured = systems(data)
+    for system, seconds in zip(measured, best_loads(measured)):
         row = [system.name, f"{seconds:.1f} s", f"{system.disk() / 1e6:.1f} MB",
                *(timed(system, word) for word in words)]
         if system.name == "Rubewola":
@@ -219,12 +262,14 @@ def main():
         asked = (system, seconds, words[1], wanted)
         row += [killed(*asked), second(*asked)]
         print("| " + " | ".join(row) + " |", flush=True)
-    print(f"\n{note}\n{shards(data, words[1])}")
+    print(f"\n{note}\n{shards(data, words[1])}\n\n{logs(data)}\nload {os.getloadavg()[0]:.1f}")
 
 
 if __name__ == "__main__":
     if sys.argv[1] == "fts":
         fts(*sys.argv[2:])
+    elif sys.argv[3:] == ["log"]:
+        print(logs(pathlib.Path(sys.argv[1]).absolute()))
     elif sys.argv[3:]:
         print(shards(pathlib.Path(sys.argv[1]).absolute(), "water"))
     else:

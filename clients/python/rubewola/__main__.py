@@ -6,32 +6,61 @@ import os
 import sys
 import time
 from collections.abc import Iterator
+from concurrent.futures import BrokenExecutor
 from contextlib import suppress
 
-from . import documents, loading, searching
+from . import documents, loading, queries, searching
+from .files import InputRefused
 from .store import Refused, Store, StoreError
 
-LOADERS = {"load-mbox": loading.Mailboxes, "load-maildir": loading.Maildir,
-           "load-log": loading.Source, "load-journal": loading.Journal}
+LOADERS = {"load-mbox": loading.Mailboxes, "load-maildir": loading.Maildirs,
+           "load-log": loading.Logs, "load-json": loading.JsonLines,
+           "load-journal": loading.Journals}
+WAIT = 10  # Seconds for which a search waits for a store that another program has.
 TYPED = ["add", "commit", "count", "delete", "find", "help", "merge", "quit", "show", "tidy",
-         "from:", "to:", "cc:", "subject:", "date:", "AND", "OR", "NOT"]
+         *(f"{name}:" for name in queries.FIELDS), "AND", "OR", "NOT"]
+EXAMPLES = """examples:
+  $ rubewola load-mbox archive ~/mail/devel.mbox
+  $ rubewola load-maildir --prune archive ~/Mail
+  $ rubewola load-log lines syslog
+  $ rubewola load-json service service.json
+  $ journalctl -o json | rubewola load-journal journal.store -
+  $ rubewola search archive --count 'subject:schedule (freeze OR release)'
+  $ rubewola search --limit 9 archive from:bdale date:2010-05..2010-07
+  $ rubewola search lines 'failed date:2026..'
+  $ rubewola search service level:error
+"""
+
+
+def tell(text: str) -> None:
+    """Says something that is no result."""
+    print(f"rubewola: {text}", file=sys.stderr)
+
+
+def opened(path: str) -> Store:
+    """A store, waited for where another program has it."""
+    return Store(path, WAIT, lambda: tell("the store is in use; waiting"))
 
 
 def load(given: argparse.Namespace) -> None:
     """Loads what a command line names."""
     begin, source = time.monotonic(), LOADERS[given.command](*given.input)
-    loaded = loading.load(given.store, source, not given.no_parts)
-    print(f"loaded {loaded} documents in {time.monotonic() - begin:.1f} s", file=sys.stderr)
+    prune = getattr(given, "prune", False)
+    loaded = loading.load(given.store, source, not given.no_parts, given.jobs, prune)
+    for note in getattr(source, "notes", ()):
+        tell(note)
+    print(f"loaded {loaded} in {time.monotonic() - begin:.1f} s", file=sys.stderr)
 
 
 def search(given: argparse.Namespace) -> int:
-    """Prints what is found, the newest last, and gives grep's status."""
-    with Store(given.store) as store:
-        numbers = searching.find(store, " ".join(given.query).replace("\n", " "))
+    """Prints what is found, the newest last, and gives grep's status. The store is closed before
+    anything is printed."""
+    with opened(given.store) as store:
+        numbers = searching.find(store, " ".join(given.query), tell)
         last = numbers[max(len(numbers) - given.limit, 0):]
-        lines = searching.results(store, last, given.format)
-        for line in [len(numbers)] if given.count else lines:
-            print(line)
+        results = None if given.count else searching.Results(store, last)
+    for line in results.lines(given.format) if results else [len(numbers)]:
+        print(line)
     return 0 if numbers else 1
 
 
@@ -68,18 +97,18 @@ def answer(store: Store, line: str) -> str:
     """
     command, _, rest = line.partition(" ")
     if command == "find":
-        numbers = searching.find(store, rest)
-        lines = searching.results(store, numbers[-20:], "text")
+        numbers = searching.find(store, rest, tell)
+        lines = searching.Results(store, numbers[-20:]).lines("text")
         return "\n".join([*lines, f"found {len(numbers)}"])
     if command == "show":
-        return searching.plain(documents.split(store.show(int(rest)))[0])
+        return queries.plain(documents.split(store.show(int(rest)))[0])
     return str(answer.__doc__) if command == "help" else store.ask(line)
 
 
 def shell(given: argparse.Namespace) -> None:
     """Answers a person's commands."""
     print("`help` names the commands, `quit` ends the session.")
-    with Store(given.store) as store:
+    with opened(given.store) as store:
         for line in filter(None, typed_lines()):
             try:
                 print(answer(store, line))
@@ -88,15 +117,28 @@ def shell(given: argparse.Namespace) -> None:
         loading.commit(store)
 
 
+def _some(text: str) -> int:
+    """A number of at least one."""
+    if (number := int(text)) < 1:
+        raise ValueError
+    return number
+
+
 def parser() -> argparse.ArgumentParser:
     """What the command line may say."""
-    top = argparse.ArgumentParser("rubewola", description=__doc__)
+    top = argparse.ArgumentParser("rubewola", description=__doc__, epilog=EXAMPLES,
+                                  formatter_class=argparse.RawDescriptionHelpFormatter)
     commands = top.add_subparsers(dest="command", metavar="COMMAND", required=True)
     for name, source in LOADERS.items():
         loader = commands.add_parser(name, help=source.__doc__)
         loader.add_argument("store")
         loader.add_argument("input", nargs="+")
         loader.add_argument("--no-parts", action="store_true", help="without parts of joined words")
+        loader.add_argument("--jobs", type=_some, default=0, metavar="N",
+                            help="decode in N processes (default: one a processor)")
+        if name == "load-maildir":
+            loader.add_argument("--prune", action="store_true",
+                                help="delete the mails that are in no folder any more")
     finder = commands.add_parser("search", help="find mails or lines")
     finder.add_argument("store")
     finder.add_argument("query", nargs="+")
@@ -117,9 +159,13 @@ def main() -> int:
     except BrokenPipeError:
         os.dup2(os.open(os.devnull, os.O_WRONLY), sys.stdout.fileno())
         return 0
-    except (OSError, StoreError, UnicodeError) as error:
-        print(f"rubewola: {error}", file=sys.stderr)
+    except (OSError, StoreError, UnicodeError, InputRefused) as error:
+        tell(str(error))
         return 2
+    except BrokenExecutor as error:
+        tell(str(error))
+        sys.stdout.flush()
+        os._exit(2)  # What waits for the process that was ended would wait for ever.
     except KeyboardInterrupt:
         print("\nrubewola: stopped; what is committed stays", file=sys.stderr)
         return 130

@@ -1,155 +1,175 @@
-"""Filling a store from mailboxes, logs and journals, from where an earlier run stopped."""
+"""Filling a store from mails, logs and journals.
 
-import json
-import mailbox
+Items are decoded side by side, in their order. A batch of them is made first; then the store is
+opened, the batch added and committed, and the store closed, so that others have it in between.
+"""
+
+from __future__ import annotations
+
+import multiprocessing
 import os
+import signal
 import sys
+import threading
 import time
-import zlib
+from collections import deque
 from collections.abc import Iterable, Iterator
-from contextlib import closing, suppress
-from itertools import islice
-from pathlib import Path
+from concurrent.futures import BrokenExecutor, Future, ProcessPoolExecutor, TimeoutError
+from contextlib import closing, contextmanager, suppress
+from itertools import chain, islice
+from multiprocessing import active_children, connection
+from multiprocessing.process import BaseProcess
+from typing import NamedTuple, Union
 
-from .documents import date_words, decoded, document, identity, mail, split
-from .store import Full, NoSuchDocument, Store, StoreError, TooManySegments
+from .documents import KINDS, earlier
+from .entries import Journals, JsonLines
+from .logs import Logs
+from .mailboxes import Mailboxes
+from .maildirs import Maildirs
+from .sources import Entry, Task
+from .store import (LAST_TRY, Failed, Full, NoSuchDocument, Store, StoreError, TooManySegments,
+                    make)
+from .words import SIGN
 
 BATCH_DOCUMENTS, BATCH_BYTES = 4_096, 16_777_216  # A commit comes after so many.
 LEAST_UNITS, MOST_UNITS = 131_072, 2_147_483_648  # Of a new store: from 64 MiB to 1 TiB.
-Items = Iterator[tuple[bytes, str]]  # Mails or lines as they stand in files, with their paths.
+WAIT = 60  # Seconds for which a store that another program has is waited for.
+WATCHED = 1  # Seconds after which it is seen whether the processes are still there.
+AHEAD = 64  # Chunks that are decoded while a batch is added.
+
+Source = Union[Mailboxes, Maildirs, Logs, JsonLines, Journals]
 
 
-class Source:
-    """The lines of logs, one file after the other."""
+class Loaded(NamedTuple):
+    """What a load did: documents that were added, of which some were cut, some could not be read,
+    and some took the place of another; and documents that were deleted."""
 
-    # And what other kinds of items begin with. Of the files' `size` bytes, `read` are read.
+    documents: int = 0
+    cut: int = 0
+    unreadable: int = 0
+    moved: int = 0
+    pruned: int = 0
 
-    def __init__(self, *paths: str) -> None:
-        self.paths, self.size, self.read = paths, sum(map(os.path.getsize, paths)), 0
-
-    def pieces(self, path: str) -> Iterable[bytes]:
-        """The items in a file, as they stand there."""
-        with open(path, "rb") as lines:
-            yield from lines
-
-    def parsed(self, raw: bytes, path: str) -> tuple[str, list[str]]:
-        """The text and the words of an item."""
-        return decoded(raw.rstrip(b"\r\n")), []
-
-    def items(self) -> Items:
-        """All items from the first."""
-        self.read = 0
-        for path in self.paths:
-            for raw in self.pieces(path):
-                self.read += len(raw)
-                yield raw, path
-
-    def behind(self, number: int, text: str, known: dict[str, str]) -> Items:
-        """The items that a store lacks whose last document has this number, text and identity. The
-        number is that document's place in the files."""
-        items = self.items()
-        for item in islice(items, number - 1, number):
-            # White space may have changed, as U+000B to a line feed.
-            if split(document(*self.parsed(*item)))[0].split() == text.split():
-                return items
-        raise StoreError(f"other input: document {number} is not what stands at this place of it")
+    def __str__(self) -> str:
+        told = {"cut": self.cut, "unreadable": self.unreadable, "moved": self.moved,
+                "pruned": self.pruned}
+        more = ", ".join(f"{count} {what}" for what, count in told.items() if count)
+        return f"{self.documents} documents" + (f" ({more})" if more else "")
 
 
-class Mailboxes(Source):
-    """The mails of mailbox files, one file after the other."""
-
-    def pieces(self, path: str) -> Iterable[bytes]:
-        with closing(mailbox.mbox(path, create=False)) as box:
-            yield from map(box.get_bytes, box.iterkeys())
-
-    def parsed(self, raw: bytes, path: str) -> tuple[str, list[str]]:
-        return mail(raw)
+def _complain_of_waiting() -> None:
+    print("rubewola: the store is in use; waiting", file=sys.stderr)
 
 
-class Maildir(Source):
-    """The mails of maildirs and of the folders in them, by the names of their files, which begin
-    with the time of delivery."""
+class Shared:
+    """A store that other programs have in between. Once one of them has changed it, `changed`."""
 
-    parsed = staticmethod(mail)
+    def __init__(self, path: str) -> None:
+        self._path, self._left, self.changed = path, None, False
 
-    def __init__(self, *folders: str) -> None:
-        # Where there is no folder `listdir` complains; `glob` just finds nothing.
-        tops = [Path(folder).absolute() for folder in folders if os.listdir(folder)]
-        files = (str(path) for top in tops for path in top.glob("**/*")
-                 if path.parent.name in ("cur", "new") and path.is_file())
-        super().__init__(*sorted(files, key=_base_name))
-
-    def pieces(self, path: str) -> Iterable[bytes]:
-        return [Path(path).read_bytes()]
-
-    def behind(self, number: int, text: str, known: dict[str, str]) -> Items:
-        stored = _base_name(known.get("path", ""))
-        super().__init__(*(path for path in self.paths if _base_name(path) > stored))
-        return self.items()
+    @contextmanager
+    def session(self) -> Iterator[Store]:
+        """The store, open."""
+        with Store(self._path, WAIT, _complain_of_waiting) as store:
+            counts = store.count()
+            self.changed |= self._left not in (None, counts)
+            yield store
+            self._left = store.count()
 
 
-def _base_name(path: str) -> str:
-    return os.path.basename(path).partition(":2,")[0]  # The flags behind it change.
+def _ends_with_parent() -> None:
+    """Lets a process end when the one that started it does, however that ends."""
+    parent = multiprocessing.parent_process()
+
+    def watch() -> None:
+        connection.wait([parent.sentinel])
+        os._exit(1)
+    threading.Thread(target=watch, daemon=True).start()
 
 
-class Journal(Source):
-    """The entries of a journal, as `journalctl -o json` prints them. Where the last one stored is
-    not among them, all are new."""
-
-    def parsed(self, raw: bytes, path: str) -> tuple[str, list[str]]:
-        entry = _entry(raw)
-        known = identity("cursor", entry["__CURSOR"])
-        try:
-            seconds = int(entry["__REALTIME_TIMESTAMP"]) // 1_000_000
-            when = time.strftime("%Y-%m-%d %H:%M:%SZ", time.gmtime(seconds))
-        except (KeyError, OverflowError, OSError, TypeError, ValueError):
-            return "[not stored: no time]", [known]
-        message = entry.get("MESSAGE") or ""
-        with suppress(TypeError, ValueError):  # What is no UTF-8 is a list of its bytes.
-            message = decoded(bytes(iter(message)))
-        name = entry.get("SYSLOG_IDENTIFIER") or entry.get("_COMM") or "-"
-        pid = f"[{entry['_PID']}]" if entry.get("_PID") else ""
-        text = f"{when} {entry.get('_HOSTNAME', '-')} {name}{pid}: {message}"
-        return text, [known, *date_words(text)]
-
-    def behind(self, number: int, text: str, known: dict[str, str]) -> Items:
-        items = self.items()
-        found = any(_entry(line)["__CURSOR"] == known.get("cursor") for line, _ in items)
-        return items if found else self.items()
+@contextmanager
+def _no_interrupt() -> Iterator[None]:
+    """Keeps the terminal's interrupt for later, and for ever from processes that are started."""
+    before = signal.pthread_sigmask(signal.SIG_BLOCK, {signal.SIGINT})
+    try:
+        yield
+    finally:
+        signal.pthread_sigmask(signal.SIG_SETMASK, before)
 
 
-def _entry(line: bytes) -> dict:
-    entry = {}
-    with suppress(RecursionError, TypeError, ValueError):
-        entry = dict(json.loads(line))
-    # Where there is no cursor, a checksum stands for it.
-    return {**entry, "__CURSOR": str(entry.get("__CURSOR") or f"{zlib.crc32(line):08x}")}
+def processors() -> int:
+    """How many processors this program may use."""
+    with suppress(AttributeError):  # Not every system tells.
+        return len(os.sched_getaffinity(0))
+    return os.cpu_count() or 1
 
 
-def _with_bar(items: Items, source: Source) -> Items:
+def in_order(tasks: Iterator[Task], jobs: int) -> Iterator[list[Entry]]:
+    """What each task gives, in their order. With more than one they are done side by side."""
+    first = list(islice(tasks, 2))
+    if jobs == 1 or len(first) < 2:
+        for function, *given in chain(first, tasks):
+            yield function(*given)
+        return
+    # A fork is quick. It comes before any other thread, and while no store is open.
+    context = multiprocessing.get_context("fork" if sys.platform == "linux" else None)
+    pool, waiting = ProcessPoolExecutor(jobs, context, _ends_with_parent), deque()
+    others, own, is_broken = set(active_children()), set(), False
+    try:
+        for task in chain(first, tasks):
+            with _no_interrupt():
+                waiting.append(pool.submit(*task))
+            own.update(set(active_children()) - others)
+            if len(waiting) > AHEAD:
+                yield _result(waiting.popleft(), own)
+        while waiting:
+            yield _result(waiting.popleft(), own)
+    except BrokenExecutor:
+        is_broken = True
+        for process in own:
+            process.kill()
+        raise
+    finally:
+        pool.shutdown(wait=not is_broken, cancel_futures=True)
+
+
+def _result(future: Future[list[Entry]], processes: set[BaseProcess]) -> list[Entry]:
+    """What a task gives. The library waits for ever where a process is killed while it hands its
+    result over, so now and then they are looked at."""
+    while True:
+        with suppress(TimeoutError):
+            return future.result(WATCHED)
+        if not all(process.is_alive() for process in processes):
+            raise BrokenExecutor("a process that decodes was ended: run it again")
+
+
+def _batches(chunks: Iterable[list[Entry]]) -> Iterator[list[Entry]]:
+    """Whole chunks, as many at once as a commit takes."""
+    batch, size = [], 0
+    for chunk in chunks:
+        more = sum(len(entry.data) for entry in chunk)
+        if batch and (len(batch) + len(chunk) > BATCH_DOCUMENTS or size + more > BATCH_BYTES):
+            yield batch
+            batch, size = [], 0
+        batch, size = batch + chunk, size + more
+    if batch:
+        yield batch
+
+
+def _with_bar(chunks: Iterator[list[Entry]], source: Source) -> Iterator[list[Entry]]:
     start, loaded, drawn = time.monotonic(), 0, 0.0
     try:
-        for count, item in enumerate(items, 1):
-            yield item
-            loaded, seconds = loaded + len(item[0]), time.monotonic() - start
+        for chunk in chunks:
+            yield chunk
+            loaded, seconds = loaded + len(chunk), time.monotonic() - start
             if seconds > drawn + 0.1 and sys.stderr.isatty():
-                drawn, rate, size = seconds, loaded / seconds, max(source.size, source.read, 1)
+                drawn, rate, size = seconds, source.read / seconds, max(source.size, source.read, 1)
                 done, left = source.read / size, int((size - source.read) / max(rate, 1))
-                sys.stderr.write(f"\r[{'#' * int(done * 24):.<24}] {done:4.0%}  {count:,} loaded  "
+                sys.stderr.write(f"\r[{'#' * int(done * 24):.<24}] {done:4.0%}  {loaded:,} loaded  "
                                  f"{rate / 1e6:.1f} MB/s  {left // 60}:{left % 60:02} left ")
     finally:
         if drawn:
             sys.stderr.write("\r\x1b[K")
-
-
-def _batch(items: Items, source: Source, with_parts: bool) -> Iterator[str]:
-    size = 0
-    for item in islice(items, BATCH_DOCUMENTS):
-        text = document(*source.parsed(*item), with_parts)
-        yield text
-        size += len(text.encode())
-        if size >= BATCH_BYTES:
-            return
 
 
 def commit(store: Store) -> None:
@@ -164,20 +184,78 @@ def commit(store: Store) -> None:
         store.commit()
 
 
-def load(path: str, source: Source, with_parts: bool = True) -> int:
-    """Loads what the store at the path lacks of the source, and gives how many items that was.
+def _add(store: Store, entries: list[Entry]) -> Loaded:
+    """Adds entries and commits them, and so what they take the place of is deleted."""
+    for number in filter(None, (entry.replaces for entry in entries)):
+        with suppress(NoSuchDocument):  # Another program has deleted it.
+            store.delete(number)
+    added = sum(1 for _ in store.add_all(entry.data for entry in entries))
+    try:
+        commit(store)
+    except Full as full:
+        raise StoreError(f"the store has no room for more: {full.need * 512:,} bytes in a row are "
+                         f"wanted, and {full.largest * 512:,} are free; what was committed before "
+                         "stays, and a larger store takes it over, as the guide tells") from full
+    return Loaded(added, sum(entry.cut for entry in entries),
+                  sum(entry.unreadable for entry in entries),
+                  sum(1 for entry in entries if entry.replaces))
 
-    A new store gets as many units as have eight times the room of the source. Its file is sparse:
-    what is never written takes no room.
-    """
-    units = max(LEAST_UNITS, min(MOST_UNITS, source.size // 64))
-    with Store(path, wait=2) if os.path.exists(path) else Store.create(path, units) as store:
-        number = store.count().next - 1
+
+def _make(path: str, size: int) -> None:
+    """Makes a store with eight times the room of the input. Its file is sparse: what is never
+    written takes no room."""
+    try:
+        make(path, max(LEAST_UNITS, min(MOST_UNITS, size // 64)))
+    except Failed as failed:
+        if failed.reason != "exists":
+            raise
+        _wait_until_made(path)
+
+
+def _wait_until_made(path: str) -> None:
+    """Waits for another loader, which is making the store."""
+    ends = time.monotonic() + LAST_TRY
+    while True:
         try:
-            items = source.behind(number, *split(store.show(number))) if number else source.items()
-        except NoSuchDocument as gone:
-            raise StoreError(f"other input: document {number}, the last, was deleted") from gone
-        with closing(_with_bar(items, source)) as items:
-            while list(store.add_all(_batch(items, source, with_parts))):
-                commit(store)
-        return store.count().next - 1 - number
+            Store(path, WAIT).close()
+            return
+        except Failed:
+            if time.monotonic() > ends:
+                raise
+            time.sleep(0.01)
+
+
+def _refuse_earlier(store: Store, source: Source) -> None:
+    """Refuses a store whose documents an earlier client wrote: they have no names."""
+    if isinstance(source, Logs):
+        return  # A log may go on in one.
+    others = store.find(f"NOT ({' OR '.join(SIGN + kind for kind in KINDS)})")
+    for stored in store.show_all(others[:1]):
+        if (told := earlier(stored)) and told[1]:
+            raise StoreError("the store was filled by an earlier client, whose documents have no "
+                             "names: load all into a new store")
+
+
+def load(path: str, source: Source, with_parts: bool = True, jobs: int = 0,
+         prune: bool = False) -> Loaded:
+    """Loads what the store at the path lacks of the source; makes the store where there is none.
+    With `prune`, of a source of maildirs, it deletes the mails that are no more."""
+    if not os.path.exists(path):
+        _make(path, source.size)
+    shared, done = Shared(path), Loaded()
+    with shared.session() as store:
+        _refuse_earlier(store, source)
+        source.begin(store)
+    tasks = source.tasks(shared.session, with_parts)
+    decoded = in_order(tasks, jobs or processors())
+    with closing(decoded), closing(_with_bar(decoded, source)) as chunks:
+        for batch in _batches(chunks):
+            with shared.session() as store:
+                if shared.changed:
+                    batch = source.still_lacking(store, batch)
+                done = Loaded(*map(sum, zip(done, _add(store, batch))))
+    if prune:
+        with shared.session() as store:
+            done = done._replace(pruned=source.prune(store))
+            commit(store)
+    return done

@@ -1,53 +1,88 @@
-"""Queries with fields, and what is told of the documents found."""
+"""Finding documents, and what is told of them."""
+
+from __future__ import annotations
 
 import json
-import re
-from collections.abc import Iterator
+import tempfile
+from collections.abc import Callable, Iterator
+from contextlib import suppress
+from datetime import date
 from email.utils import parseaddr
 from typing import Any
-from unicodedata import combining, east_asian_width
 
-from .documents import HEAD, identity, split, words
-from .store import QueryRefused, Store
+from . import queries
+from .documents import HEAD, earlier, split
+from .places import Places
+from .queries import plain, pointed
+from .store import NoSuchDocument, QueryRefused, Store, shown
+from .words import SIGN, has_word
 
-# A field of a query, or else a character.
-_TOKEN = re.compile(r"(?<![^\s()])(from|to|cc|subject|date|id|path):([^\s()]+)|.", re.DOTALL)
-
-
-def _program_text(token: re.Match[str]) -> str:
-    name, value = token.groups()
-    if name in ("id", "path"):
-        return identity(name, value.strip("<>"))
-    if name == "date":
-        return "date_" + "_".join(part.zfill(2) for part in re.findall(r"\d+", value))
-    return f"({' '.join(words(value, name + '_')) or value})" if name else token[0]
+MAILS = ("maildir", "mbox")
+IN_MEMORY = 67_108_864  # Bytes of texts that are held in memory; more go to a temporary file.
+EARLIER_CLIENT = ("documents of an earlier client have no fields that are found: load what they "
+                  "come from into a new store")
 
 
-def find(store: Store, query: str) -> list[int]:
+def _untold(_: str) -> None:
+    """Tells nobody."""
+
+
+def find(store: Store, typed: str, tell: Callable[[str], None] = _untold) -> list[int]:
     """The documents that satisfy a query with fields, as `from:bdale`. The `place` of a fault is
-    that of a typed character, and the refusal tells the query with a caret under it."""
-    pieces = [(token.start(), _program_text(token)) for token in _TOKEN.finditer(query)]
+    that of a typed character, and the refusal tells the query with a caret under it. `tell` is
+    given what the query does not mean, where it looks as if it did."""
+    query = queries.read(typed, lambda name: bool(store.find(has_word(name))), date.today())
     try:
-        return store.find("".join(piece for _, piece in pieces))
-    except QueryRefused as refused:
-        if refused.place is not None:
-            places = [place for place, piece in pieces for _ in piece.encode()] + [len(query)]
-            place = refused.place = places[refused.place]
-            wide = sum((east_asian_width(c) in "WF") - (combining(c) > 0) for c in query[:place])
-            refused.args = (f"{refused}\n{plain(query)}\n{' ' * (place + wide)}^",)
+        numbers = store.find(query.text)
+    except QueryRefused as refusal:
+        if refusal.place is not None:
+            refusal.place = query.place(refusal.place)
+            refusal.args = (pointed(str(refusal), query.typed, refusal.place),)
         raise
+    for note in query.notes:
+        tell(pointed(note.text, query.typed, note.place))
+    if SIGN in query.text and _has_earlier(store):
+        tell(EARLIER_CLIENT)
+    return numbers
 
 
-def plain(text: str) -> str:
-    """A text without what might steer a terminal."""
-    return "".join(c if c.isprintable() or c in "\n\t" else " " for c in text)
+def _has_earlier(store: Store) -> bool:
+    """Whether a store was begun by an earlier client's loader."""
+    with suppress(NoSuchDocument):
+        told = earlier(store.show(1))
+        return bool(told and told[1])
+    return False
 
 
 def parsed(stored: str, number: int) -> dict[str, Any]:
     """A document by its parts: a mail's head and body, or a line."""
     text, known = split(stored)
-    lines = text.split("\n", len(HEAD) + 1) if "id" in known else [text]
-    return {"number": number, **known, **dict(zip(HEAD, lines[:-1])), "text": lines[-1]}
+    if known.get("kind") not in MAILS:
+        return {"number": number, "text": text}
+    names = {name: known[name] for name in ("id", "path") if name in known}
+    lines = text.split("\n", len(HEAD) + 1)
+    return {"number": number, **names, **dict(zip(HEAD, lines[:-1])), "text": lines[-1]}
+
+
+class Results:
+    """The documents of some numbers, read from the store at once, to be told when it is closed."""
+
+    def __init__(self, store: Store, numbers: list[int]) -> None:
+        self._numbers = numbers
+        self._texts = tempfile.SpooledTemporaryFile(IN_MEMORY)
+        for reply in store.ask_all(f"show {number}" for number in numbers):
+            self._texts.write(reply.encode() + b"\n")
+
+    def lines(self, form: str) -> Iterator[str]:
+        """A line for each document; then nothing is held any more."""
+        places = Places()
+        with self._texts as texts:
+            texts.seek(0)
+            for number, reply in zip(self._numbers, texts):
+                doc = parsed(shown(reply[:-1].decode()), number)
+                if "path" in doc:
+                    doc["path"] = places.path_at(doc["path"]) or doc["path"]
+                yield FORMATS[form](doc)
 
 
 def where(doc: dict[str, Any]) -> str:
@@ -65,8 +100,3 @@ def as_line(doc: dict[str, Any]) -> str:
 
 
 FORMATS = {"text": as_line, "json": json.dumps, "paths": where}
-
-
-def results(store: Store, numbers: list[int], form: str) -> Iterator[str]:
-    """The documents of these numbers, a line each."""
-    return map(FORMATS[form], map(parsed, store.show_all(numbers), numbers))

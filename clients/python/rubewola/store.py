@@ -2,21 +2,29 @@
 
 from __future__ import annotations
 
+import fcntl
 import os
 import re
 import subprocess
 import time
-from collections.abc import Iterable, Iterator
+from collections import deque
+from collections.abc import Callable, Iterable, Iterator
 from contextlib import AbstractContextManager, suppress
 from typing import NamedTuple
 
-# Bytes of commands sent before their replies are read. So few fit into every pipe: sending them
-# never waits for the program, which may itself be waiting for its replies to be read.
+# Bytes that may be in a pipe at once. So few fit into every pipe: neither side comes to wait for
+# the other, which may itself be waiting for its replies to be read. A command without a long reply
+# counts as its reply, which waits to be read; any other as itself, which waits to be answered.
 IN_FLIGHT = 4_096
+SHORT_REPLY = 64
+
+# Seconds after which a store that nobody has is no longer tried, and after which a wait is told.
+LAST_TRY, LONG_WAIT = 1, 1
 
 # What the shorter reasons mean.
 HINTS = {"bad length": "the file is no store", "missing": "there is nothing at this path",
-         "disk": "another program has the store, or the system refused the file",
+         "disk": "the system refused to read or to write the store's file",
+         "in use": "another program has the store",
          "not a store": "the file has no store; where its making was broken off, remove it"}
 
 
@@ -30,6 +38,13 @@ class StoreError(Exception):
 
 class Failed(StoreError):
     """The program ended, or made no store."""
+
+
+class InUse(Failed):
+    """Another program has the store."""
+
+    def __init__(self) -> None:
+        super().__init__("in use")
 
 
 class Refused(StoreError):
@@ -61,7 +76,7 @@ class QueryRefused(Refused):
 
     def __init__(self, reason: str) -> None:
         super().__init__(reason)
-        self.place = next(map(int, re.findall(r"\d+$", reason)), None)
+        self.place: int | None = next(map(int, re.findall(r"\d+$", reason)), None)
 
 
 # The exceptions by the words that their reasons begin with.
@@ -81,30 +96,37 @@ class Store(AbstractContextManager["Store"]):
     text is kept as it is. What is not committed is lost at `close`, in a `with` block at its end.
     """
 
-    def __init__(self, path: str | os.PathLike[str], wait: float = 0) -> None:
-        """Opens the store; one that another program has is tried again for `wait` seconds."""
-        self._busy, ends = False, time.monotonic() + wait
+    def __init__(self, path: str | os.PathLike[str], wait: float = 0,
+                 waiting: Callable[[], None] = lambda: None) -> None:
+        """Opens the store; one that another program has is tried again for `wait` seconds, and
+        `waiting` called once when that takes long."""
+        self._busy, begin, path = False, time.monotonic(), os.path.abspath(path)
+        turn = _Turn(path, begin + wait, waiting)
         while True:
-            self._process = _start("run", os.path.abspath(path))
+            self._process = _start("run", path)
             try:
                 self.count()
                 return
             except Failed as failed:
-                if failed.reason != "disk" or time.monotonic() >= ends:
+                if failed.reason != "disk":
                     raise
-                time.sleep(0.05)
+                turn.wait()
+                if time.monotonic() > max(begin + wait, begin + LAST_TRY):
+                    raise
 
     @classmethod
     def create(cls, path: str | os.PathLike[str], units: int) -> Store:
         """Makes a file of so many units of 512 bytes with an empty store, and opens it."""
-        with _start("create", os.path.abspath(path), "--units", str(units)) as made:
-            if made.wait():
-                raise _failure(made)
+        make(path, units)
         return cls(path)
 
     def close(self, *_: object) -> None:
         """Ends the session."""
-        self._process.communicate()
+        if self._process.returncode is None:
+            with suppress(BrokenPipeError):
+                self._process.stdin.write(b"quit\n")
+                self._process.stdin.flush()
+            self._process.communicate()
 
     __exit__ = close
 
@@ -116,29 +138,41 @@ class Store(AbstractContextManager["Store"]):
         """The replies to many commands, up to a refusal, which is raised. Commands are sent ahead
         of the replies as far as no side can come to wait for the other, so some behind a refused
         one may be done. Until all replies are read the store takes no other command."""
+        return self._ask_all(map(_line, commands), len)
+
+    def _ask_all(self, lines: Iterable[bytes], weight: Callable[[bytes], int]) -> Iterator[str]:
         if self._busy or self._process.returncode is not None:
             raise Failed("busy" if self._busy else "closed")
-        self._busy, sent = True, []
+        self._busy, sent, total = True, deque(), 0
         try:
-            for command in commands:
-                line = command.replace("\n", "\v").encode() + b"\n"
-                while sent and sum(sent) + len(line) > IN_FLIGHT:
-                    yield self._reply(sent)
+            for line in lines:
+                size = weight(line)
+                if sent and total + size > IN_FLIGHT:
+                    self._flush()
+                    while sent and total + size > IN_FLIGHT // 2:
+                        total -= sent.popleft()
+                        yield self._reply()
                 # Where the program has ended, the reply that does not come tells why.
                 with suppress(BrokenPipeError):
                     self._process.stdin.write(line)
-                    self._process.stdin.flush()
-                sent.append(len(line))
+                sent.append(size)
+                total += size
+            self._flush()
             while sent:
-                yield self._reply(sent)
+                sent.popleft()
+                yield self._reply()
         finally:
+            self._flush()
             while sent and self._process.returncode is None:
-                sent.pop()
+                sent.popleft()
                 self._process.stdout.readline()
             self._busy = False
 
-    def _reply(self, sent: list[int]) -> str:
-        sent.pop(0)
+    def _flush(self) -> None:
+        with suppress(BrokenPipeError, ValueError):
+            self._process.stdin.flush()
+
+    def _reply(self) -> str:
         line = self._process.stdout.readline()
         if not line.endswith(b"\n"):
             raise _failure(self._process)
@@ -152,9 +186,11 @@ class Store(AbstractContextManager["Store"]):
         """Adds a document, and gives its number."""
         return list(self.add_all([text]))[0]
 
-    def add_all(self, texts: Iterable[str]) -> Iterator[int]:
+    def add_all(self, texts: Iterable[str | bytes]) -> Iterator[int]:
         """Adds documents, many on their way at once, and gives their numbers."""
-        return (int(reply.split()[1]) for reply in self.ask_all(f"add {text}" for text in texts))
+        lines = (b"add %b\n" % (text if isinstance(text, bytes) else _one_line(text))
+                 for text in texts)
+        return (int(reply[6:]) for reply in self._ask_all(lines, lambda _: SHORT_REPLY))
 
     def delete(self, number: int) -> None:
         """Deletes a document."""
@@ -162,7 +198,12 @@ class Store(AbstractContextManager["Store"]):
 
     def find(self, query: str) -> list[int]:
         """The numbers of the documents that satisfy a query, rising."""
-        return [int(number) for number in self.ask(f"find {query}").split()[2:]]
+        return list(self.find_all([query]))[0]
+
+    def find_all(self, queries: Iterable[str]) -> Iterator[list[int]]:
+        """What satisfies each of many queries, many on their way at once."""
+        for reply in self.ask_all(f"find {query}" for query in queries):
+            yield [int(number) for number in reply.split()[2:]]
 
     def show(self, number: int) -> str:
         """The text of a document."""
@@ -170,7 +211,7 @@ class Store(AbstractContextManager["Store"]):
 
     def show_all(self, numbers: Iterable[int]) -> Iterator[str]:
         """The texts of documents, many on their way at once."""
-        return map(_shown, self.ask_all(f"show {number}" for number in numbers))
+        return map(shown, self.ask_all(f"show {number}" for number in numbers))
 
     def commit(self) -> None:
         """Writes what is uncommitted to the disk. Once this returns, it stays."""
@@ -189,6 +230,53 @@ class Store(AbstractContextManager["Store"]):
         return Counts(*map(int, re.findall(r"\d+", self.ask("count"))))
 
 
+class _Turn:
+    """Waiting for a store that another program has."""
+
+    def __init__(self, path: str, ends: float, waiting: Callable[[], None]) -> None:
+        self._path, self._ends, self._waiting = path, ends, waiting
+        self._told = time.monotonic() + LONG_WAIT
+
+    def wait(self) -> None:
+        """Returns when nobody has the store; raises where one has it for too long, or where the
+        system refuses the file, in its words."""
+        with open(self._path, "r+b") as file:
+            while True:
+                with suppress(BlockingIOError):
+                    fcntl.flock(file, fcntl.LOCK_EX | fcntl.LOCK_NB)
+                    return
+                now = time.monotonic()
+                if now >= self._ends:
+                    raise InUse
+                if now >= self._told:
+                    self._told = float("inf")
+                    self._waiting()
+                time.sleep(0.01)
+
+
+def make(path: str | os.PathLike[str], units: int) -> None:
+    """Makes a file of so many units of 512 bytes with an empty store."""
+    path = os.path.abspath(path)
+    with _start("create", path, "--units", str(units)) as made:
+        failed = _failure(made) if made.wait() else None
+    if not failed:
+        return
+    if failed.reason == "disk":
+        folder = os.path.dirname(path)
+        os.stat(folder)  # The system tells what is wrong with it.
+        if not os.access(folder, os.W_OK):
+            raise PermissionError(f"no right to write to {folder}")
+    raise failed
+
+
+def _one_line(text: str) -> bytes:
+    return text.replace("\n", "\v").encode()
+
+
+def _line(command: str) -> bytes:
+    return _one_line(command) + b"\n"
+
+
 def _start(*words: str) -> subprocess.Popen[bytes]:
     line, pipe = [os.environ.get("RUBEWOLA_PROGRAM") or "pk_find", *words], subprocess.PIPE
     # A session of its own, so that the terminal's interrupt does not end it.
@@ -200,6 +288,7 @@ def _failure(process: subprocess.Popen[bytes]) -> Failed:
     return Failed(told.partition("\n")[0].removeprefix("pk_find: ") or "the program was ended")
 
 
-def _shown(reply: str) -> str:
+def shown(reply: str) -> str:
+    """The text in the reply to a `show`."""
     text = reply.removeprefix("text ").replace("\v", "\n")
     return re.sub(r"\\(.)", lambda pair: "\n" if pair[1] == "n" else pair[1], text)

@@ -1,0 +1,169 @@
+"""Entries of programs: lines of JSON, and journals as `journalctl -o json` prints them."""
+
+from __future__ import annotations
+
+import json
+import time
+from collections.abc import Iterator
+from contextlib import suppress
+from datetime import date
+from typing import Any
+
+from . import days
+from .charsets import decoded
+from .documents import document
+from .files import Input, InputRefused
+from .logs import Line, Logs, Read, entries_of
+from .sources import Entry, Named
+from .store import Store
+from .words import SIGN, asked, digest, field_name, field_words, has_word, named
+
+# The names under which entries tell their time, the surest first.
+_TIMES = ("@timestamp", "timestamp", "time", "ts", "datetime", "date", "t", "asctime", "created",
+          "created_at", "eventtime")
+_DEEPEST = 32
+
+
+def _told(value: object) -> str:
+    """A value as text: a string as it is, any other as JSON writes it."""
+    return value if isinstance(value, str) else json.dumps(value, ensure_ascii=False)
+
+
+def _flat(value: object, name: str = "", depth: int = 0) -> Iterator[tuple[str, object]]:
+    """The values of an object, each with its name: that in another has the names of both."""
+    if isinstance(value, dict) and value and depth < _DEEPEST:
+        for key, inner in value.items():
+            yield from _flat(inner, f"{name}.{key}" if name else key, depth + 1)
+    elif isinstance(value, list) and depth < _DEEPEST:
+        for inner in value:
+            yield from _flat(inner, name, depth + 1)
+    else:
+        yield name, value
+
+
+def _object(line: bytes) -> dict[str, Any] | None:
+    with suppress(RecursionError, ValueError):
+        value = json.loads(decoded(line))
+        return value if isinstance(value, dict) else None
+    return None
+
+
+def _first_line(source: Input) -> bytes:
+    """The first line that is not empty."""
+    with source.opened() as (stream, _):
+        return next((line for line in stream if line.strip()), b"")
+
+
+class _Fields:
+    """The words of fields, of some lines; for each name that is met first, also its `has_` word."""
+
+    def __init__(self) -> None:
+        self._met: set[str] = set()
+
+    def _words(self, name: str, value: object) -> list[str]:
+        field, told = field_name(name), _told(value)
+        if not field:
+            return []
+        words = named(field, told) if field in ("id", "path") else field_words(field, told)
+        if field not in self._met:
+            self._met.add(field)
+            words.append(has_word(field))
+        return words
+
+    def parsed(self, line: bytes, _: date) -> Line:
+        """A line of JSON. What is none stands as it is."""
+        value = _object(line)
+        if value is None:
+            return decoded(line), [], bool(line.strip())
+        flat = [(name, told) for name, told in _flat(value)]
+        by_name = {name.lower(): told for name, told in reversed(flat)}
+        when = next(filter(None, (days.of_value(by_name.get(name)) for name in _TIMES)), None)
+        words = [word for name, told in flat if name.lower() != "date"
+                 for word in self._words(name, told)]
+        text = "\n".join(f"{name}: {_told(told)}" for name, told in flat)
+        return text, [*days.words_of(when), *dict.fromkeys(words)], False
+
+
+def _read_json(read: Read, with_parts: bool) -> list[Entry]:
+    return entries_of(read, JsonLines.kind, _Fields().parsed, with_parts)
+
+
+class JsonLines(Logs):
+    """Logs of JSON, an object a line, whose names are fields: `level:error`."""
+
+    kind = "json"
+    read_chunk = staticmethod(_read_json)
+
+    def __init__(self, *paths: str) -> None:
+        super().__init__(*paths)
+        for one in self.inputs:
+            line = _first_line(one)
+            if line and _object(line) is None and (line.endswith(b"\n") or not one.grows):
+                raise InputRefused(f"{one.path}: no lines of JSON: each is an object, as "
+                                   '{"level": "error"}')
+
+
+def _read_journal(lines: list[bytes], with_parts: bool) -> list[Entry]:
+    entries = []
+    for line in lines:
+        text, words, unreadable = _journal_entry(line)
+        data, is_cut = document(Journals.kind, text, [*named("sum", _cursor(line)), *words],
+                                with_parts)
+        entries.append(Entry(data, asked("sum", _cursor(line)), 0, is_cut, unreadable))
+    return entries
+
+
+def _cursor(line: bytes) -> str:
+    """The digest of an entry's cursor; where there is none, of the entry."""
+    entry = _object(line) or {}
+    return digest(str(entry.get("__CURSOR") or "").encode("utf-8", "replace") or line)
+
+
+def _journal_entry(line: bytes) -> Line:
+    entry = _object(line)
+    try:
+        seconds = int(entry["__REALTIME_TIMESTAMP"]) // 1_000_000
+        when = time.strftime("%Y-%m-%d %H:%M:%SZ", time.gmtime(seconds))
+    except (KeyError, OverflowError, OSError, TypeError, ValueError):
+        return f"[not read: no time]\n{decoded(line)}", [], True
+    message = entry.get("MESSAGE") or ""
+    with suppress(TypeError, ValueError):  # What is no UTF-8 is a list of its bytes.
+        message = decoded(bytes(iter(message)))
+    name = entry.get("SYSLOG_IDENTIFIER") or entry.get("_COMM") or "-"
+    pid = f"[{entry['_PID']}]" if entry.get("_PID") else ""
+    text = f"{when} {entry.get('_HOSTNAME', '-')} {name}{pid}: {message}"
+    return text, [*days.words_of(days.of_line(text, date.max))], False
+
+
+class Journals(Named):
+    """Journals as `journalctl -o json` prints them. Each entry that the store lacks is added; it is
+    known by its cursor."""
+
+    kind = "journal"
+    read_chunk = staticmethod(_read_journal)
+
+    def __init__(self, *paths: str) -> None:
+        super().__init__()
+        self.inputs = [*{one.name: one for one in map(Input, paths)}.values()]
+        self.size = sum(one.size for one in self.inputs)
+        for one in self.inputs:
+            one.refuse_what_is_no_text()
+            line = _first_line(one)
+            if line and not {"__CURSOR", "__REALTIME_TIMESTAMP", "MESSAGE"} & (
+                    _object(line) or {}).keys():
+                raise InputRefused(f"{one.path}: no journal: `journalctl -o json` prints one")
+
+    def items(self) -> Iterator[bytes]:
+        """All whole lines, one file after the other."""
+        for one, before in zip(self.inputs, self.sizes_before(self.inputs)):
+            with one.opened() as (stream, raw):
+                for line in stream:
+                    self.read = before + raw.tell()
+                    if line.strip() and (line.endswith(b"\n") or _object(line)):
+                        yield line.rstrip(b"\n")
+
+    def lacking(self, store: Store | None, lines: list[bytes]) -> list[bytes]:
+        """The entries that the store has not."""
+        known = [_cursor(line) for line in lines]
+        found = zip(lines, known, self.found(store, [asked("sum", one) for one in known]))
+        return [line for line, one, numbers in found if self.is_new(one) and not numbers]

@@ -1,0 +1,51 @@
+"""Where the mails of maildirs are.
+
+The name of a mail's file is given once: what stands before its flags stays when the mail is read,
+moved or put back. A mail's place is its folder and that name, whatever its flags, and whether it
+stands in `new` or in `cur`.
+"""
+
+from __future__ import annotations
+
+import os
+
+FOLDERS = ("cur", "new")
+
+
+def base_name(path: str) -> str:
+    """The name of a mail's file without its flags, which change."""
+    return os.path.basename(path).partition(":2,")[0]
+
+
+def place_of(path: str) -> str:
+    """A path without what changes as a mail is read: it stands in `cur`, and has no flags. That of
+    no maildir's file is itself."""
+    folder = os.path.dirname(path)
+    if os.path.basename(folder) not in FOLDERS:
+        return path
+    return os.path.join(os.path.dirname(folder), "cur", base_name(path))
+
+
+class Places:
+    """Where mails are now. Each folder is looked at once."""
+
+    def __init__(self) -> None:
+        self._seen: dict[str, dict[str, str]] = {}
+
+    def _names(self, folder: str) -> dict[str, str]:
+        if folder not in self._seen:
+            try:
+                self._seen[folder] = {base_name(name): name for name in os.listdir(folder)}
+            except OSError:
+                self._seen[folder] = {}
+        return self._seen[folder]
+
+    def path_at(self, place: str) -> str | None:
+        """The path of the mail that has this place, if it is there."""
+        if os.path.lexists(place):
+            return place
+        top = os.path.dirname(os.path.dirname(place))
+        for folder in (os.path.join(top, name) for name in FOLDERS):
+            if name := self._names(folder).get(os.path.basename(place)):
+                return os.path.join(folder, name)
+        return None

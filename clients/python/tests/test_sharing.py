@@ -1,0 +1,143 @@
+"""Several programs with one store: searches beside a load, two loaders, and what a kill leaves."""
+
+import json
+import os
+import signal
+import subprocess
+import time
+
+from rubewola import Store
+
+from support import LONG, RUBEWOLA, Stores, mail, mbox, processes_of
+
+MAILS = 9_000
+
+
+class Sharing(Stores):
+    """A store is held while it is used, and not longer."""
+
+    def box(self, name="box", first=0, count=MAILS):
+        mails = (mail(f"wort{number} gleich " + f"fuell{number % 50} " * 30,
+                      Message_ID=f"<{number}@x>") for number in range(first, first + count))
+        return self.write(name, mbox(*mails))
+
+    def wait_for(self, condition):
+        ends = time.monotonic() + LONG
+        while not condition():
+            self.assertLess(time.monotonic(), ends)
+            time.sleep(0.01)
+
+    def test_eight_searches_beside_a_load(self):
+        box = self.box()
+        loader = self.start("load-mbox", "--jobs", "2", box)
+        self.wait_for(lambda: self.store.exists() or loader.poll() is not None)
+        answered = []
+        while loader.poll() is None or not answered:
+            running = [self.start("search", "--count", "gleich") for _ in range(8)]
+            for one in running:
+                told, errors = one.communicate()
+                self.assertIn(one.returncode, (0, 1), errors)
+                answered.append(int(told))
+        self.assertEqual(loader.wait(), 0, loader.communicate())
+        # They see whole commits, and did so in the midst of the load.
+        self.assertEqual(answered[-8:-7] and self.found("gleich")[-1:], [MAILS])
+        self.assertGreater(len(answered), 8)
+
+    def test_a_search_waits_and_says_so(self):
+        with Store.create(self.store, 64) as store:
+            store.add("wort")
+            store.commit()
+            search = self.start("search", "wort")
+            self.assertEqual(search.stderr.readline(), "rubewola: the store is in use; waiting\n")
+        told, errors = search.communicate(timeout=LONG)
+        self.assertEqual((told, errors, search.returncode), ("1: wort\n", "", 0))
+
+    def test_a_reader_who_takes_his_time_holds_no_store(self):
+        with Store.create(self.store, 4_096) as store:
+            list(store.add_all(["wort " * 100] * 1_000))
+            store.commit()
+        search = self.start("search", "--format", "json", "wort")
+        # What is printed is more than a pipe holds, so the search waits for its reader.
+        self.assertEqual(json.loads(search.stdout.readline())["number"], 1)
+        with Store(self.store) as store:
+            self.assertEqual(store.count().live, 1_000)
+        self.assertIsNone(search.poll())
+        self.assertEqual(len(search.stdout.readlines()), 999)
+        search.communicate()
+
+    def both(self, *commands):
+        """Two loaders at once, and what they say."""
+        running = [self.start(*words) for words in commands]
+        ends = [(*one.communicate(timeout=LONG), one.returncode) for one in running]
+        for told, errors, status in ends:
+            self.assertEqual((told, errors.count("\n")), ("", 1), errors)
+            self.assertEqual(status, 0 if errors.startswith("loaded ") else 2)
+        return ends
+
+    def test_two_loaders_of_the_same_mails(self):
+        box = self.box()
+        self.both(["load-mbox", "--jobs", "2", box], ["load-mbox", "--jobs", "1", box])
+        self.loaded(0, "load-mbox", box)
+        self.assertEqual(len(self.found("gleich")), MAILS)
+
+    def test_two_loaders_of_maildirs_that_overlap(self):
+        for number in range(2_000):
+            self.write(f"m/a{number % 4}/cur/{number}.M1.h:2,S", mail(f"wort{number} gleich"))
+        tops = [self.folder / f"m/a{number}" for number in range(4)]
+        self.both(["load-maildir", *tops[:3]], ["load-maildir", *tops[1:]])
+        self.loaded(0, "load-maildir", *tops)
+        self.assertEqual(len(self.found("gleich")), 2_000)
+
+    def test_two_loaders_of_one_log(self):
+        rows = [f"zeile{number}" for number in range(20_000)]
+        log = self.write("log", "\n".join(rows) + "\n")
+        self.both(["load-log", "--jobs", "2", log], ["load-log", "--jobs", "1", log])
+        self.run_line("^loaded ", "load-log", log)
+        self.assertEqual(list(self.texts().values()), rows)
+
+    def test_two_logs_in_one_store(self):
+        logs = [self.write(f"log{at}", "".join(f"l{at} zeile{number}\n" for number in range(9_000)))
+                for at in range(2)]
+        ends = self.both(*(["load-log", log] for log in logs))
+        self.assertEqual([status for *_, status in ends], [0, 0])
+        self.assert_found({"l0 zeile8999": self.found("l0")[-1:]})
+        self.assertEqual([len(self.found(word)) for word in ("l0", "l1")], [9_000, 9_000])
+
+    def test_a_killed_loader_goes_on_and_leaves_no_process(self):
+        box = self.box()
+        Store.create(self.store, 131_072).close()
+        loader = subprocess.Popen([*RUBEWOLA, "load-mbox", "--jobs", "3", self.store, box],
+                                  start_new_session=True, stderr=subprocess.PIPE)
+        empty = self.store.stat().st_blocks
+        self.wait_for(lambda: self.store.stat().st_blocks > empty or loader.poll() is not None)
+        self.assertGreater(len(processes_of(loader.pid)), 1)
+        loader.kill()
+        loader.communicate()
+        self.wait_for(lambda: not processes_of(loader.pid))
+        with Store(self.store, wait=LONG) as store:
+            left = store.count().live
+        self.assertTrue(0 < left < MAILS)
+        self.loaded(MAILS - left, "load-mbox", box)
+        with Store(self.store) as store:
+            self.assertEqual([len(store.find(f"wort{number}")) for number in range(0, MAILS, 500)],
+                             [1] * (MAILS // 500))
+
+    def test_an_interrupt_ends_all(self):
+        box = self.box()
+        loader = self.start("load-mbox", "--jobs", "3", box)
+        self.wait_for(lambda: len(processes_of(loader.pid)) > 2 or loader.poll() is not None)
+        os.killpg(loader.pid, signal.SIGINT)
+        told, errors = loader.communicate(timeout=LONG)
+        self.assertEqual((told, loader.returncode), ("", 130), errors)
+        self.assertNotIn("Traceback", errors)
+        self.assertEqual(processes_of(loader.pid), [])
+        self.run_line("^loaded ", "load-mbox", box)
+        self.assertEqual(len(self.found("gleich")), MAILS)
+
+    def test_a_process_that_is_ended_is_told(self):
+        loader = self.start("load-mbox", "--jobs", "2", self.box())
+        self.wait_for(lambda: len(processes_of(loader.pid)) > 2 or loader.poll() is not None)
+        os.kill(max(processes_of(loader.pid)), signal.SIGKILL)
+        _, errors = loader.communicate(timeout=LONG)
+        self.assertEqual(loader.returncode, 2, errors)
+        self.assertNotIn("Traceback", errors)
