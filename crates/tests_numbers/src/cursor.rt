@@ -328,10 +328,14 @@ fn every_prefix_is_damaged(rt: HostRuntime) -> Result<(), Fail> {
 }
 
 // A seek and a walk over any bytes.
-fn each_call_returns(rt: &impl Abort, alloc: Global, bytes: &[u8]) -> Result<(), AllocError>
+fn each_call_returns(
+    rt: &impl Abort,
+    alloc: Global,
+    bytes: &[u8],
+    place: ListPlace,
+) -> Result<(), AllocError>
     requires { length bytes.now < 4096 }
 {
-    let place = place_at(0, bytes);
     let mut source = SliceSource::new(bytes);
     let mut cursor = Cursor::open(&mut source, place);
     assert_ne!(rt; cursor.seek(200), Err(SourceFault::Disk));
@@ -345,14 +349,47 @@ fn each_call_returns(rt: &impl Abort, alloc: Global, bytes: &[u8]) -> Result<(),
 #[test]
 fn over_changed_bytes_each_call_returns(rt: HostRuntime) -> Result<(), Fail> {
     let mut bytes = short_list(&rt, rt.alloc())?;
+    let place = place_at(0, &bytes);
     for i in 0..bytes.len() {
         let kept = bytes[i];
         for new in [0x00, 0xFF] {
             bytes[i] = new;
             assert!(rt; bytes.len() < 4096);
-            each_call_returns(&rt, rt.alloc(), &bytes)?;
+            each_call_returns(&rt, rt.alloc(), &bytes, place)?;
         }
         bytes[i] = kept;
+    }
+    Ok(())
+}
+
+// The segment of documents 1 `a b` and 2 `a`.
+const SEGMENT: [u8; 78] = [
+    2, 0, 0, 0, 2, 0, 0, 0, 4, 0, 0, 0, 11, 0, 0, 0, 15, 0, 0, 0, 2, 0, 0, 0, // header
+    1, 0, 0, 0, 0, 0, 0, 0, 3, 0, 0, 0, 2, 0, 0, 0, 3, 0, 0, 0, 1, 0, 0, 0, // directory
+    0x61, 0x20, 0x62, 0x61, // texts
+    2, 0, 0, 0, 0x81, 0x81, 1, 0, 0, 0, 0x81, // lists
+    0, 0, 0, 0, 0x81, 0x61, 0x82, 0x80, 0x86, 0x80, 0x81, 0x62, 0x81, 0x86, 0x85, // dictionary
+];
+
+// Where its two lists lie, and its dictionary, which is no list.
+static PLACES: [ListPlace; 3] = [
+    ListPlace { at: 52, bytes: 6 },
+    ListPlace { at: 58, bytes: 5 },
+    ListPlace { at: 63, bytes: 15 },
+];
+
+// A prefix of a segment, and a segment with a byte changed.
+#[test]
+fn over_a_changed_segment_each_call_returns(rt: HostRuntime) -> Result<(), Fail> {
+    for place in PLACES {
+        for i in 0..78usize {
+            each_call_returns(&rt, rt.alloc(), &SEGMENT[..i], place)?;
+            for new in [0x00, 0xFF] {
+                let mut bytes = SEGMENT;
+                bytes[i] = new;
+                each_call_returns(&rt, rt.alloc(), &bytes, place)?;
+            }
+        }
     }
     Ok(())
 }
