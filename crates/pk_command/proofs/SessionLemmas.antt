@@ -62,14 +62,15 @@ module _ {D : Type 0} (d : Ghosts D) (only_now : d.honest → (x : D) (image : L
       (record { size = ap length read.bytes; same = λ p shut. ap (λ (b : List ℕ). slice_index b p) read.bytes })
       (read.positions ∙ opens.closed h)
 
-  pub checked : (store left : StoreView D) (result : Result Checked Refusal) → Opens d disk (Ok store) → Checks d store result left → IsCheckOf d disk result
-  checked store left result opens checks = record {
+  pub checked : (disk' : D) (store left : StoreView D) (result : Result Checked Refusal) → Opens d disk (Ok store) → Checks d store result left → disk' ≡ left.volume.disk → IsCheckOf d disk disk' result
+  checked disk' store left result opens checks is = record {
     opened = store;
     left = left;
     opens = opens;
     checks = checks;
     answered = λ h. subst (λ (b : List ℕ). ChecksBytes b result) (opens.content h) (checks.checked h opens.fresh.clear);
-    extends = looked store left opens checks.looked_at;
+    handed = is;
+    extends = λ h. extended disk' left.volume.disk (era_of era.opened disk store []) is (looked store left opens checks.looked_at h);
   }
 
   -- a disk that did not open holds no collection, where that is the reason

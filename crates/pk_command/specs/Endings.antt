@@ -126,15 +126,17 @@ CreationOutcome d disk disk' units w w' e e' status =
     × IsTold e e' (creating_words none.refused.why) × (w' ≡ w)))
 
 -- A STORE THAT WAS CHECKED: the disk opened as one, and on an honest disk what was answered is what
--- the bytes are. Each history goes on as if the store had been opened and closed.
-pub record IsCheckOf {D : Type 0} (d : Ghosts D) (disk : D) (result : Result Checked Refusal)
+-- the bytes are. Each history goes on, to the disk as it is now, as if the store had been opened and
+-- closed.
+pub record IsCheckOf {D : Type 0} (d : Ghosts D) (disk disk' : D) (result : Result Checked Refusal)
     : Type 0 where
   pub opened : StoreView D
   pub left : StoreView D
   pub opens : Opens d disk (Ok opened)
   pub checks : Checks d opened result left
   pub answered : d.honest → ChecksBytes (d.content disk) result
-  pub extends : d.honest → Extends d (era_of era.opened disk opened []) left.volume.disk
+  pub handed : disk' ≡ left.volume.disk
+  pub extends : d.honest → Extends d (era_of era.opened disk opened []) disk'
 
 -- what a disk that did not open holds, by the reason
 abbrev pub HoldsNoneBy : List ℕ → OpenFault → Type 0
@@ -143,28 +145,31 @@ HoldsNoneBy bytes opening.Damaged = HoldsNone bytes
 HoldsNoneBy bytes why = Unit {0}
 
 -- NO STORE TO CHECK: the disk opened as none; where it is said to be none, or damaged, an honest one
--- holds no collection.
-pub record IsUnchecked {D : Type 0} (d : Ghosts D) (disk : D) : Type 0 where
+-- holds no collection. The disk is as the opening left it.
+pub record IsUnchecked {D : Type 0} (d : Ghosts D) (disk disk' : D) : Type 0 where
   pub refused : Refused D OpenFault
   pub opens : Opens d disk (Err refused)
   pub answered : d.honest → HoldsNoneBy (d.content disk) refused.why
-  pub extends : d.honest → Extends d (era.unopened disk (Err refused)) refused.disk
+  pub handed : disk' ≡ refused.disk
+  pub extends : d.honest → Extends d (era.unopened disk (Err refused)) disk'
 
 -- what is told of a store that was checked
 abbrev pub checked_line : Checked → List ℕ
 checked_line c = codes "ok " ++ (decimal c.documents ++ (codes " documents next "
     ++ (decimal c.next ++ (codes " segments " ++ (decimal c.segments ++ codes "\n")))))
 
--- WHAT A CHECK CAME TO: what the store has is told, or could not be told; else why not.
-abbrev pub CheckOutcome : {D : Type 0} → Ghosts D → D → Option (List ℕ) → Option (List ℕ)
+-- WHAT A CHECK CAME TO, and to which disk: what the store has is told, or could not be told; else why
+-- not.
+abbrev pub CheckOutcome : {D : Type 0} → Ghosts D → D → D → Option (List ℕ) → Option (List ℕ)
     → Option (List ℕ) → Option (List ℕ) → ℕ → Type 0
-CheckOutcome d disk w w' e e' status =
-    ((c : Checked) × (status ≡ done) × (e' ≡ e) × IsCheckOf d disk (Ok c)
+CheckOutcome d disk disk' w w' e e' status =
+    ((c : Checked) × (status ≡ done) × (e' ≡ e) × IsCheckOf d disk disk' (Ok c)
     × Appends w w' (checked_line c))
-    ⊎ (((c : Checked) × (status ≡ failed) × IsTold e e' output_words × IsCheckOf d disk (Ok c))
+    ⊎ (((c : Checked) × (status ≡ failed) × IsTold e e' output_words
+    × IsCheckOf d disk disk' (Ok c))
     ⊎ (((why : Refusal) × (status ≡ failed) × IsTold e e' (checking_words why)
-    × IsCheckOf d disk (Err why) × (w' ≡ w))
-    ⊎ ((none : IsUnchecked d disk) × (status ≡ failed)
+    × IsCheckOf d disk disk' (Err why) × (w' ≡ w))
+    ⊎ ((none : IsUnchecked d disk disk') × (status ≡ failed)
     × IsTold e e' (opening_words none.refused.why) × (w' ≡ w))))
 
 -- no call of the disk has failed
@@ -207,20 +212,22 @@ FileCreationOutcome d units w w' e e' status =
     ⊎ ((fault : FileFault) × IsOfMake fault × (status ≡ failed) × IsTold e e' (file_words fault)
     × (w' ≡ w))
 
--- a check of the store in a file
+-- a check of the store in a file, and what it left of that
 pub record IsFileCheck {D : Type 0} (d : Ghosts D) (w w' e e' : Option (List ℕ)) (status : ℕ)
     : Type 0 where
   pub file : D
   pub fresh : IsFresh d file
   pub long : IsDiskLength (length (d.content file))
-  pub check : CheckOutcome d file w w' e e' status
+  pub left : D
+  pub check : CheckOutcome d file left w w' e e' status
 
--- WHAT A CHECK CAME TO WITH A FILE
+-- WHAT A CHECK CAME TO WITH A FILE: where the file is no disk, it is for a fault of opening one.
 abbrev pub FileCheckOutcome : {D : Type 0} → Ghosts D → Option (List ℕ) → Option (List ℕ)
     → Option (List ℕ) → Option (List ℕ) → ℕ → Type 0
 FileCheckOutcome d w w' e e' status =
     IsFileCheck d w w' e e' status
-    ⊎ ((fault : FileFault) × (status ≡ failed) × IsTold e e' (file_words fault) × (w' ≡ w))
+    ⊎ ((fault : FileFault) × IsOfOpening fault × (status ≡ failed) × IsTold e e' (file_words fault)
+    × (w' ≡ w))
 
 -- a command that was asked for came to this, by the disk that a creation writes and a check reads,
 -- and the disk that a session is on

@@ -7,8 +7,9 @@ returns-in-Ok g c = inl (record {
   file = c.in-Ok.disk;
   fresh = record { reads = c.in-Ok.ensures.reads; writes = c.in-Ok.ensures.writes };
   long = c.in-Ok.ensures.size;
-  check = c.check_on.ensures;
+  left = c.check_on-status.result.1;
+  check = c.check_on-status.ensures;
 })
 
 pub returns-in-Err : goal.returns-in-Err
-returns-in-Err g c = inr (c.in-Err.fault, c.fail.ensures.status, rw c.file_reason.ensures at c.fail.ensures.told, refl)
+returns-in-Err g c = inr (c.in-Err.fault, c.in-Err.ensures.fault, c.fail.ensures.status, rw c.file_reason.ensures at c.fail.ensures.told, refl)

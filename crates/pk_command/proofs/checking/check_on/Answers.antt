@@ -5,33 +5,33 @@ use Rattle.pk_command.proofs.checking.check_on.Goals as goal
 
 pub returns-in-Ok-writeln : goal.returns-in-Ok-writeln
 returns-in-Ok-writeln g c = inl (
-  c.in-Ok-check.checked,
+  c.in-Ok-answered.checked,
   refl,
   refl,
-  checked g.D.Disk (λ honest x image. g.met.D.Disk.only_now x image honest) (λ honest x t image. g.met.D.Disk.counts_now x t image honest) c.args.disk c.in-Ok.store c.check.new.self (Ok c.in-Ok-check.checked) c.in-Ok.ensures c.in-Ok-check.ensures,
+  checked g.D.Disk (λ honest x image. g.met.D.Disk.only_now x image honest) (λ honest x t image. g.met.D.Disk.counts_now x t image honest) c.args.disk c.close-disk.result c.in-Ok.store c.check-answered.new.self (Ok c.in-Ok-answered.checked) c.in-Ok.ensures c.in-Ok-answered.ensures c.close-disk.ensures,
   c.in-Ok-writeln.ensures.bytes,
 )
 
 pub returns : goal.returns
 returns g c = inr (inl (
-  c.in-Ok-check.checked,
+  c.in-Ok-answered.checked,
   c.fail-in-Err-writeln.ensures.status,
   c.fail-in-Err-writeln.ensures.told,
-  checked g.D.Disk (λ honest x image. g.met.D.Disk.only_now x image honest) (λ honest x t image. g.met.D.Disk.counts_now x t image honest) c.args.disk c.in-Ok.store c.check.new.self (Ok c.in-Ok-check.checked) c.in-Ok.ensures c.in-Ok-check.ensures,
+  checked g.D.Disk (λ honest x image. g.met.D.Disk.only_now x image honest) (λ honest x t image. g.met.D.Disk.counts_now x t image honest) c.args.disk c.close-disk.result c.in-Ok.store c.check-answered.new.self (Ok c.in-Ok-answered.checked) c.in-Ok.ensures c.in-Ok-answered.ensures c.close-disk.ensures,
 ))
 
-pub returns-in-Err-check : goal.returns-in-Err-check
-returns-in-Err-check g c = inr (inr (inl (
-  c.in-Err-check.why,
-  c.fail-in-Err-check.ensures.status,
-  rw c.checking_reason.ensures at c.fail-in-Err-check.ensures.told,
-  checked g.D.Disk (λ honest x image. g.met.D.Disk.only_now x image honest) (λ honest x t image. g.met.D.Disk.counts_now x t image honest) c.args.disk c.in-Ok.store c.check.new.self (Err c.in-Err-check.why) c.in-Ok.ensures c.in-Err-check.ensures,
+pub returns-in-Err-answered : goal.returns-in-Err-answered
+returns-in-Err-answered g c = inr (inr (inl (
+  c.in-Err-answered.why,
+  c.fail-in-Err-answered.ensures.status,
+  rw c.checking_reason.ensures at c.fail-in-Err-answered.ensures.told,
+  checked g.D.Disk (λ honest x image. g.met.D.Disk.only_now x image honest) (λ honest x t image. g.met.D.Disk.counts_now x t image honest) c.args.disk c.close-disk.result c.in-Ok.store c.check-answered.new.self (Err c.in-Err-answered.why) c.in-Ok.ensures c.in-Err-answered.ensures c.close-disk.ensures,
   refl,
 )))
 
 pub returns-in-Err : goal.returns-in-Err
 returns-in-Err g c = inr (inr (inr (
-  record { refused = c.in-Err.refused; opens = c.in-Err.ensures; answered = none_held g.D.Disk (λ honest x image. g.met.D.Disk.only_now x image honest) (λ honest x t image. g.met.D.Disk.counts_now x t image honest) c.args.disk c.in-Err.refused c.in-Err.refused.why refl c.in-Err.ensures; extends = unopened g.D.Disk (λ honest x image. g.met.D.Disk.only_now x image honest) (λ honest x t image. g.met.D.Disk.counts_now x t image honest) c.args.disk c.in-Err.refused c.in-Err.ensures },
+  record { refused = c.in-Err.refused; opens = c.in-Err.ensures; answered = none_held g.D.Disk (λ honest x image. g.met.D.Disk.only_now x image honest) (λ honest x t image. g.met.D.Disk.counts_now x t image honest) c.args.disk c.in-Err.refused c.in-Err.refused.why refl c.in-Err.ensures; handed = refl; extends = unopened g.D.Disk (λ honest x image. g.met.D.Disk.only_now x image honest) (λ honest x t image. g.met.D.Disk.counts_now x t image honest) c.args.disk c.in-Err.refused c.in-Err.ensures },
   c.fail.ensures.status,
   rw c.opening_reason.ensures at c.fail.ensures.told,
   refl,
