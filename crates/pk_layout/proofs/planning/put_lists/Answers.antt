@@ -1,5 +1,5 @@
 -- One list more, where a deletion is pending: it is that of a posting list with a number.
-use Rattle.std.proofs.Common.{◌≡◌, ◌∙◌, ◌++◌, ◌∷◌, [], List, ℕ, Vec, Global, ap, append_assoc, map, subst, sym, take}
+use Rattle.std.proofs.Common.{◌∙◌, ◌++◌, ◌∷◌, [], List, ℕ, Vec, Global, ap, append_assoc, map, subst, sym, take}
 use Rattle.std.proofs.lemmas.List.{map-append}
 use Rattle.pk_posting.specs.Spelling.{spelling}
 use Rattle.pk_layout.specs.Plan.{CanBeWritten, new_lists}
