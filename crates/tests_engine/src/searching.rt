@@ -1,4 +1,5 @@
-//! Finds over a segment of kind 1, two of kind 2 and the buffer. Each answer is told from the texts.
+//! Finds over a segment of kind 1, two of kind 2 and the buffer: before a commit, after it, with a
+//! deletion, and after a merge. Each answer is told from the texts.
 
 use crate::script::play_in_each_setting;
 use std::alloc::{AllocError, Global};
@@ -74,9 +75,9 @@ fn satisfies(place: usize, n: u32) -> bool {
     }
 }
 
-/// Whether there is a document of this number.
-fn is_there(n: u32) -> bool {
-    (n == 1 || n == 3 || n >= 7) && n != 380
+/// Whether there is a document of this number, up to the last one; 380 is deleted in the end.
+fn is_there(n: u32, last: u32) -> bool {
+    (n == 1 || n == 3 || n >= 7) && n <= last && (n != 380 || last < LAST)
 }
 
 /// Adds a document with its words.
@@ -92,34 +93,34 @@ fn add(script: &mut String, n: u32) -> Result<(), AllocError> {
 }
 
 /// Whether the query at a place finds the document.
-fn is_found(place: usize, n: u32) -> bool {
-    is_there(n) && satisfies(place, n)
+fn is_found(place: usize, n: u32, last: u32) -> bool {
+    is_there(n, last) && satisfies(place, n)
 }
 
 /// How many documents the query at a place finds.
-fn count_found(place: usize) -> u32 {
+fn count_found(place: usize, last: u32) -> u32 {
     let mut count = 0u32;
-    for n in 1..=LAST {
-        count = count.saturating_add(u32::from(is_found(place, n)));
+    for n in 1..=last {
+        count = count.saturating_add(u32::from(is_found(place, n, last)));
     }
     count
 }
 
-/// Asks a query.
-fn ask(script: &mut String, place: usize, query: &str) -> Result<(), AllocError> {
-    write!(script, "find {query} => found {}:", count_found(place))?;
-    for n in 1..=LAST {
-        if is_found(place, n) {
+/// Asks a query over the documents up to the last one.
+fn ask(script: &mut String, place: usize, query: &str, last: u32) -> Result<(), AllocError> {
+    write!(script, "find {query} => found {}:", count_found(place, last))?;
+    for n in 1..=last {
+        if is_found(place, n, last) {
             write!(script, " {n}")?;
         }
     }
     script.push_str("\n")
 }
 
-/// Asks all queries.
-fn ask_all(script: &mut String) -> Result<(), AllocError> {
+/// Asks all queries over the documents up to the last one.
+fn ask_all(script: &mut String, last: u32) -> Result<(), AllocError> {
     for (place, query) in QUERIES.iter().enumerate() {
-        ask(script, place, query)?;
+        ask(script, place, query, last)?;
     }
     Ok(())
 }
@@ -130,13 +131,15 @@ pub fn session(alloc: Global) -> Result<String, AllocError> {
     for n in 7..=LAST {
         add(&mut script, n)?;
         if n == 310 || n == 400 {
+            ask_all(&mut script, n)?;
             script.push_str("commit => committed\n")?;
+            ask_all(&mut script, n)?;
         }
     }
     script.push_str("delete 380 => deleted 380\n")?;
-    ask_all(&mut script)?;
+    ask_all(&mut script, LAST)?;
     script.push_str("merge => merged\n")?;
-    ask_all(&mut script)?;
+    ask_all(&mut script, LAST)?;
     Ok(script)
 }
 
