@@ -12,8 +12,8 @@ returns-in-Ok-writeln g c = inl (
   c.in-Ok-writeln.ensures.bytes,
 )
 
-pub returns : goal.returns
-returns g c = inr (inl (
+pub returns-in-Err-writeln : goal.returns-in-Err-writeln
+returns-in-Err-writeln g c = inr (inl (
   c.in-Ok-answered.checked,
   c.fail-in-Err-writeln.ensures.status,
   c.fail-in-Err-writeln.ensures.told,
