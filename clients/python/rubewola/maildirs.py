@@ -5,6 +5,7 @@ from __future__ import annotations
 import os
 from collections import Counter
 from collections.abc import Iterator
+from contextlib import suppress
 from pathlib import Path
 from typing import NamedTuple
 
@@ -26,11 +27,11 @@ class Wanted(NamedTuple):
 
 def _raw(path: str) -> bytes | None:
     """The bytes of a mail, whose flags may have changed since its folder was looked at."""
-    for now in (path, Places().path_at(place_of(path))):
-        try:
-            return Path(now or path).read_bytes()
-        except FileNotFoundError:
-            pass
+    with suppress(FileNotFoundError):
+        return Path(path).read_bytes()
+    with suppress(FileNotFoundError):
+        now = Places().path_at(place_of(path))
+        return Path(now).read_bytes() if now else None
     return None
 
 

@@ -5,8 +5,9 @@ import os
 import random
 import shutil
 import unittest
+from unittest import mock
 
-from rubewola import loading
+from rubewola import loading, maildirs
 from rubewola.places import place_of
 
 from support import Stores, mail
@@ -173,6 +174,13 @@ class Maildirs(Stores):
         (self.top / "new/1001.a.h").unlink()
         self.assertEqual(loading.load(str(self.store), source).documents, 2)
         self.assert_found({"wort0": [1], "wort1": [], "wort2": [2]})
+
+    def test_no_folder_is_looked_at_for_each_mail(self):
+        for number in range(9):
+            self.deliver(f"100{number}.a.h", f"wort{number}")
+        with mock.patch.object(maildirs.Places, "path_at", side_effect=AssertionError):
+            source = loading.Maildirs(str(self.top))
+            self.assertEqual(loading.load(str(self.store), source, jobs=1).documents, 9)
 
     def test_places(self):
         for path, place in [("/m/new/a", "/m/cur/a"), ("/m/cur/a:2,S", "/m/cur/a"),
