@@ -13,13 +13,13 @@ import sys
 import threading
 import time
 from collections import deque
-from collections.abc import Iterable, Iterator
+from collections.abc import Callable, Iterable, Iterator
 from concurrent.futures import BrokenExecutor, Future, ProcessPoolExecutor, TimeoutError
 from contextlib import closing, contextmanager, suppress
 from itertools import chain, islice
 from multiprocessing import active_children, connection
 from multiprocessing.process import BaseProcess
-from typing import NamedTuple, Union
+from typing import Any, NamedTuple, Union
 
 from .documents import KINDS, earlier
 from .entries import Journals, JsonLines
@@ -118,12 +118,12 @@ def in_order(tasks: Iterator[Task], jobs: int) -> Iterator[list[Entry]]:
     try:
         for task in chain(first, tasks):
             with _no_interrupt():
-                waiting.append(pool.submit(*task))
+                waiting.append(pool.submit(_columns, *task))
             own.update(set(active_children()) - others)
             if len(waiting) > AHEAD:
-                yield _result(waiting.popleft(), own)
+                yield [*map(Entry._make, zip(*_result(waiting.popleft(), own)))]
         while waiting:
-            yield _result(waiting.popleft(), own)
+            yield [*map(Entry._make, zip(*_result(waiting.popleft(), own)))]
     except BrokenExecutor:
         is_broken = True
         for process in own:
@@ -133,7 +133,12 @@ def in_order(tasks: Iterator[Task], jobs: int) -> Iterator[list[Entry]]:
         pool.shutdown(wait=not is_broken, cancel_futures=True)
 
 
-def _result(future: Future[list[Entry]], processes: set[BaseProcess]) -> list[Entry]:
+def _columns(function: Callable[..., list[Entry]], *given: Any) -> list[tuple[Any, ...]]:
+    """What a task gives, by columns, which are handed over twice as fast as entries."""
+    return [*zip(*function(*given))]
+
+
+def _result(future: Future[list[Any]], processes: set[BaseProcess]) -> list[Any]:
     """What a task gives. The library waits for ever where a process is killed while it hands its
     result over, so now and then they are looked at."""
     while True:

@@ -12,11 +12,8 @@ from collections.abc import Callable, Iterable, Iterator
 from contextlib import AbstractContextManager, suppress
 from typing import NamedTuple
 
-# Bytes that may be in a pipe at once. So few fit into every pipe: neither side comes to wait for
-# the other, which may itself be waiting for its replies to be read. A command without a long reply
-# counts as its reply, which waits to be read; any other as itself, which waits to be answered.
-IN_FLIGHT = 4_096
-SHORT_REPLY = 64
+# Bytes that fit into every pipe, and what no reply to an `add` is longer than.
+LEAST_PIPE, SHORT_REPLY = 4_096, 32
 
 # Seconds after which a store that nobody has is no longer tried, and after which a wait is told.
 LAST_TRY, LONG_WAIT = 1, 1
@@ -104,6 +101,7 @@ class Store(AbstractContextManager["Store"]):
         turn = _Turn(path, begin + wait, waiting)
         while True:
             self._process = _start("run", path)
+            self._in_flight = _in_flight(self._process)
             try:
                 self.count()
                 return
@@ -141,15 +139,18 @@ class Store(AbstractContextManager["Store"]):
         return self._ask_all(map(_line, commands), len)
 
     def _ask_all(self, lines: Iterable[bytes], weight: Callable[[bytes], int]) -> Iterator[str]:
+        # So much is on its way as fits into the pipes: neither side comes to wait for the other,
+        # which may itself be waiting for its replies to be read. A command with a short reply
+        # counts as that, which waits to be read; another as itself, which waits to be answered.
         if self._busy or self._process.returncode is not None:
             raise Failed("busy" if self._busy else "closed")
         self._busy, sent, total = True, deque(), 0
         try:
             for line in lines:
                 size = weight(line)
-                if sent and total + size > IN_FLIGHT:
+                if sent and total + size > self._in_flight:
                     self._flush()
-                    while sent and total + size > IN_FLIGHT // 2:
+                    while sent and total + size > self._in_flight // 2:
                         total -= sent.popleft()
                         yield self._reply()
                 # Where the program has ended, the reply that does not come tells why.
@@ -228,6 +229,15 @@ class Store(AbstractContextManager["Store"]):
     def count(self) -> Counts:
         """How many documents live, and the number of the next."""
         return Counts(*map(int, re.findall(r"\d+", self.ask("count"))))
+
+
+def _in_flight(process: subprocess.Popen[bytes]) -> int:
+    """How many bytes the pipes to and from a process take, in whatever pieces they come."""
+    try:
+        return min(fcntl.fcntl(pipe, fcntl.F_GETPIPE_SZ) for pipe in
+                   (process.stdin, process.stdout)) // 2
+    except (AttributeError, OSError):  # Not every system tells.
+        return LEAST_PIPE // 2
 
 
 class _Turn:
