@@ -1,8 +1,9 @@
 """Measures a first load of a maildir, its disk, finds, a kill in its midst and a second writer.
 
-    measure.py DATA MAILS [shards | log]
+    measure.py DATA MAILS [shards | log | once]
 
-With `shards` or `log` it measures these alone. DATA/mails/maildir has the mails, DATA/log a syslog.
+With `shards` or `log` it measures these alone, with `once` one load of each, its disk and finds.
+DATA/mails/maildir has the mails, DATA/log a syslog.
 Each system is a command line that loads all of them, one that counts those with a word, and a
 folder that it keeps; absent ones are skipped. Systems take turns in loading. Times are of whole
 processes, with the files in the system's cache.
@@ -28,6 +29,7 @@ from rubewola.mails import mail
 LOADS = 3
 ASKED = 9
 SHARDS = 4
+WORDS = ["zymotic", "water"]
 FTS = [sys.executable, os.path.abspath(__file__), "fts"]
 RUBEWOLA = [sys.executable, "-m", "rubewola"]
 
@@ -107,8 +109,9 @@ def fts(what, path, argument):
     base.execute("CREATE VIRTUAL TABLE IF NOT EXISTS mails USING fts5(text, detail=none)")
     done = base.execute("SELECT count(*) FROM mails").fetchone()[0]
     texts = mail_texts(argument, done) if what == "load" else open(argument, encoding="utf-8")
-    while batch := list(itertools.islice(texts, 4_096)):
+    for text in texts:
         base.execute("BEGIN")
+        batch = itertools.chain([text], itertools.islice(texts, 4_095))
         base.executemany("INSERT INTO mails VALUES (?)", ((text,) for text in batch))
         base.execute("COMMIT")
 
@@ -239,10 +242,19 @@ def shards(data, word):
     return f"Rubewola, {SHARDS} shards side by side: {'; '.join(told)}"
 
 
+def once(data, words):
+    """A table of one load of each system, and of finds."""
+    print("| | first load | disk | find " + " | find ".join(words) + " |\n|---|---|---|---|---|")
+    for system in systems(data):
+        row = [f"{load(system):.1f} s", f"{system.disk() / 1e6:.1f} MB",
+               *(timed(system, word) for word in words)]
+        print(f"| {system.name} | " + " | ".join(row) + f" | load {os.getloadavg()[0]:.1f}", flush=True)
+
+
 def main():
     """Measures, and prints a table."""
     data, count = pathlib.Path(sys.argv[1]).absolute(), int(sys.argv[2])
-    words = ["zymotic", "water"]
+    words = WORDS
     bytes_of = sum(path.stat().st_size for path in (data / "mails" / "maildir").rglob("*:2,*"))
     model = [line.split(":")[1].strip() for line in open("/proc/cpuinfo") if "model name" in line]
     print(f"{count:,} mails, {bytes_of / 1e6:.1f} MB; the best of {LOADS} loads, medians of "
@@ -270,6 +282,8 @@ if __name__ == "__main__":
         fts(*sys.argv[2:])
     elif sys.argv[3:] == ["log"]:
         print(logs(pathlib.Path(sys.argv[1]).absolute()))
+    elif sys.argv[3:] == ["once"]:
+        once(pathlib.Path(sys.argv[1]).absolute(), WORDS)
     elif sys.argv[3:]:
         print(shards(pathlib.Path(sys.argv[1]).absolute(), "water"))
     else:

@@ -119,9 +119,9 @@ def shell(given: argparse.Namespace) -> None:
 
 def _some(text: str) -> int:
     """A number of at least one."""
-    if (number := int(text)) < 1:
-        raise ValueError
-    return number
+    if not text.isdecimal() or not int(text):
+        raise argparse.ArgumentTypeError("wants a number of at least 1")
+    return int(text)
 
 
 def parser() -> argparse.ArgumentParser:

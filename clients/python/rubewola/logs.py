@@ -169,21 +169,24 @@ class Logs:
     def _with_earlier(self, store: Store, source: Input) -> Iterator[_File]:
         """A log, and before it the rest of what it was when it was loaded last."""
         file = self._known(store, source)
-        if not file.begin and source.grows:
-            yield from self._earlier(store, source)
+        if source.grows:
+            yield from self._earlier(store, file)
         yield file
 
-    def _earlier(self, store: Store, source: Input) -> Iterator[_File]:
-        """What a log was rotated to, if the store has another file of its name."""
+    def _earlier(self, store: Store, file: _File) -> Iterator[_File]:
+        """What a log was rotated to, if the store has more of a file of its name."""
+        source = file.source
         known = _marks(store, self.kind, asked("file", source.name))[:1]
-        if not known or any(_begins_with(one, known) for one in self.inputs):
+        if not known or known[0].size <= file.begin:
+            return
+        if any(_begins_with(one, known) for one in self.inputs):
             return
         beside = _rotated(source)
         at = next((at for at, one in enumerate(beside) if _begins_with(one, known)), None)
         if at is None:
-            self.notes.append(f"{source.path} is another file than at its last load, and what that "
-                              "was rotated to is not beside it: name it too, or what it had more "
-                              "is not stored")
+            self.notes.append(f"{source.path} is not what it was at its last load, and what that was "
+                              "rotated to is not beside it: name it too, or what it had more is not "
+                              "stored; lines that both have may be there twice")
             return
         named_too = {one.name for one in self.inputs}
         for one in beside[at:]:

@@ -94,9 +94,31 @@ class Logs(Stores):
         self.append("a1\n")
         self.load()
         self.log.write_text("b1\n")
-        self.assertIn("is another file than at its last load", self.load())
+        self.assertIn("is not what it was at its last load", self.load())
         self.assertEqual(self.lines(), ["a1", "b1"])
-        self.assertNotIn("another file", self.load())
+        self.assertNotIn("is not what it was", self.load())
+
+    def test_a_log_that_was_made_shorter(self):
+        self.append("a1\n")
+        self.load()
+        self.append("a2\na3\n")
+        self.load()
+        os.truncate(self.log, 6)
+        self.append("b1\n")
+        self.assertIn("may be there twice", self.load())
+        self.assertEqual(self.lines(), ["a1", "a2", "a3", "a2", "b1"])
+        self.loaded(0, "load-log", self.log)
+
+    def test_rotated_logs_that_begin_alike(self):
+        self.append("#Fields: time host\n")
+        self.load()
+        self.append("a1\n")
+        self.load()
+        self.append("a2\n")
+        self.log.rename(self.folder / "log.1")
+        self.append("#Fields: time host\nb1\n")
+        self.assertIn("log.1 is loaded first", self.load())
+        self.assertEqual(self.lines()[1:], ["a1", "a2", "b1"])
 
     def test_several_logs_in_one_store(self):
         self.append("a1\n")
