@@ -27,6 +27,8 @@ _CHANGING = re.compile(rb"^(?:Status|X-Status|X-Keywords|X-UID|X-IMAP|X-IMAPbase
                        rb"[ \t]*:.*\n(?:[ \t].*\n)*", re.IGNORECASE | re.MULTILINE)
 _ID = re.compile(rb"^Message-ID[ \t]*:\s*(.*(?:\r?\n[ \t].*)*)", re.IGNORECASE | re.MULTILINE)
 _BLANK = re.compile(rb"^\r?\n", re.MULTILINE)
+# Texts whose long lines go on behind a space.
+_FOLDED = ("text/calendar", "text/vcard", "text/x-vcard", "text/directory")
 # What HTML may have more of than the plain text beside it: five times its words.
 _RICHER = 5
 
@@ -84,33 +86,36 @@ def _is_long(message: Message) -> bool:
 
 
 class _Body:
-    """What the parts of a mail hold: the `texts` to show, more `words` of alternatives that are not
-    shown, and the `names` of attached files."""
+    """What the parts of a mail hold: the `texts` to show, those `behind` all parts among them; `more`
+    of alternatives that are not shown; and the `names` of attached files."""
 
     def __init__(self, message: Message) -> None:
         self.names: list[str] = []
         self.more: list[str] = []
-        self.texts = list(self._texts(message, True))
+        self.behind: list[str] = []
+        self.texts = [*self._texts(message, True), *self.behind]
 
     def _texts(self, top: Message, is_mail: bool = False) -> Iterator[str]:
         waiting = [top]  # No recursion: parts may stand in one another a thousand deep.
         while waiting:
             part = waiting.pop()
             kind = part.get_content_type()
-            shown = part.get_content_maintype() == "text" and _is_shown(part)
+            is_text, is_attached = part.get_content_maintype() == "text", _is_attached(part)
+            is_whole = is_mail and part is top  # Of a mail of one part that is the text.
             name = part.get_filename()
-            if name and not (shown and is_mail and part is top):
+            if name and (is_attached or not is_text or not is_whole):
                 self.names.append(one_line(_unfolded(name)))
-            if not part.is_multipart():
-                if shown or kind.startswith("multipart/"):
-                    yield _part_text(part, kind)
-                continue
-            inner = part.get_payload()
-            yield from _heads(inner, kind)
-            if kind == "multipart/alternative":
-                yield from self._chosen(inner)
-            else:
-                waiting.extend(reversed(inner))
+            if part.is_multipart():
+                inner = part.get_payload()
+                yield from _heads(inner, kind)
+                if kind == "multipart/alternative":
+                    yield from self._chosen(inner)
+                else:
+                    waiting.extend(reversed(inner))
+                if part.epilogue and part.epilogue.strip():
+                    self.behind.append(part.epilogue)
+            elif kind.startswith("multipart/") or is_text and (is_whole or not is_attached):
+                yield _part_text(part, kind)
 
     def _chosen(self, inner: list[Message]) -> Iterator[str]:
         """Of alternatives the plain ones, and the others too where they have many more words."""
@@ -125,9 +130,9 @@ class _Body:
             self.more.extend(rich)
 
 
-def _is_shown(part: Message) -> bool:
-    return part.get_content_disposition() != "attachment" and part.get_content_subtype() not in (
-        "x-amp-html", "calendar-request")
+def _is_attached(part: Message) -> bool:
+    return part.get_content_disposition() == "attachment" or (
+        part.get_content_type() == "text/x-amp-html")
 
 
 def _heads(inner: list[Message], kind: str) -> Iterator[str]:
@@ -150,6 +155,8 @@ def _part_text(part: Message, kind: str) -> str:
     if kind == "text/html":
         charset = charset or charset_of(data)
     text = decoded(data, charset).replace("\r\n", "\n")
+    if kind in _FOLDED:
+        text = re.sub(r"\n[ \t]", "", text)
     if str(part.get_param("delsp", "")).lower() == "yes":
         text = re.sub(r" \n(?!>)", "", text)
     return page_text(text) if kind == "text/html" else text

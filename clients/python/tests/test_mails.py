@@ -184,6 +184,27 @@ TABLE = [
      ["naïve", "été", "foobar"], ["nbsp"]),
     ("an attribute with a sign", whole('<a title="x > y" href="h">linkwort</a>', PAGE),
      ["linkwort"], ["title"]),
+    # Parts that are put otherwise than most.
+    ("a mail that is one attached text", whole("nurtext", 'text/plain; name="n.txt"',
+                                               HEAD + b"Content-Disposition: attachment\n"),
+     ["nurtext", "attachment:n.txt"], []),
+    ("text behind the last part", parted("mixed", part("innen")) + b"\nangehaengt\n",
+     ["innen angehaengt"], []),
+    ("a boundary that does not come", parted("mixed", part("verpasst")).replace(b"--=_m", b"--=_x"),
+     ["verpasst"], []),
+    ("an end that does not come", parted("mixed", part("offen")).partition(b"--=_mark--")[0],
+     ["offen"], []),
+    ("an invitation with folded lines", whole("BEGIN:VCALENDAR\nSUMMARY: jahres\n treffen",
+                                              "text/calendar"), ["jahrestreffen"], []),
+    ("an invitation for a phone's page", parted("alternative", part("plain"), part(
+        "<p>ampwort</p>", "text/x-amp-html")), ["plain"], ["ampwort"]),
+    # Heads that are not encoded.
+    ("UTF-8 in a head", "From: Jürgen <j@x>\nSubject: Grüße\n\n".encode(),
+     ["from:jürgen subject:grüße"], []),
+    ("Latin-1 in a head", "From: Jürgen <j@x>\nSubject: Grüße\n\n".encode("latin-1"),
+     ["from:jürgen subject:grüße"], []),
+    ("encoded words cut in a character", headed(
+        "From: a@x", "Subject: =?utf-8?q?Gr=C3?=", " =?utf-8?q?=BC=C3=9Fe?="), ["subject:grüße"], []),
     # Attached mails and failed deliveries.
     ("an attached mail", parted("mixed", part("weitergeleitet"), part(INNER, "message/rfc822")),
      ["weitergeleitet", "innersubject", "inner z.org", "innerbody"],
