@@ -57,20 +57,21 @@ class Loaded(NamedTuple):
         return f"{self.documents} documents" + (f" ({more})" if more else "")
 
 
-def _complain_of_waiting() -> None:
-    print("rubewola: the store is in use; waiting", file=sys.stderr)
-
-
 class Shared:
     """A store that other programs have in between. Once one of them has changed it, `changed`."""
 
     def __init__(self, path: str) -> None:
-        self._path, self._left, self.changed = path, None, False
+        self._path, self._left, self.changed, self._told = path, None, False, False
+
+    def _tell_of_waiting(self) -> None:
+        if not self._told:
+            print("rubewola: the store is in use; waiting", file=sys.stderr)
+        self._told = True
 
     @contextmanager
     def session(self) -> Iterator[Store]:
         """The store, open."""
-        with Store(self._path, WAIT, _complain_of_waiting) as store:
+        with Store(self._path, WAIT, self._tell_of_waiting) as store:
             counts = store.count()
             self.changed |= self._left not in (None, counts)
             yield store

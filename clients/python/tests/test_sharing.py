@@ -28,20 +28,19 @@ class Sharing(Stores):
             time.sleep(0.01)
 
     def test_eight_searches_beside_a_load(self):
-        box = self.box()
+        box, rounds = self.box(), []
+        Store.create(self.store, 131_072).close()
         loader = self.start("load-mbox", "--jobs", "2", box)
-        self.wait_for(lambda: self.store.exists() or loader.poll() is not None)
-        answered = []
-        while loader.poll() is None or not answered:
+        while loader.poll() is None or not rounds:
             running = [self.start("search", "--count", "gleich") for _ in range(8)]
-            for one in running:
-                told, errors = one.communicate()
-                self.assertIn(one.returncode, (0, 1), errors)
-                answered.append(int(told))
+            ends = [(*one.communicate(timeout=LONG), one.returncode) for one in running]
+            for told, errors, status in ends:
+                self.assertEqual(status, 0 if int(told) else 1, errors)
+            rounds.append([int(told) for told, *_ in ends])
         self.assertEqual(loader.wait(), 0, loader.communicate())
-        # They see whole commits, and did so in the midst of the load.
-        self.assertEqual(answered[-8:-7] and self.found("gleich")[-1:], [MAILS])
-        self.assertGreater(len(answered), 8)
+        for before, after in zip(rounds, rounds[1:]):
+            self.assertGreaterEqual(min(after), max(before))
+        self.assertEqual(len(self.found("gleich")), MAILS)
 
     def test_a_search_waits_and_says_so(self):
         with Store.create(self.store, 64) as store:
@@ -70,8 +69,12 @@ class Sharing(Stores):
         running = [self.start(*words) for words in commands]
         ends = [(*one.communicate(timeout=LONG), one.returncode) for one in running]
         for told, errors, status in ends:
-            self.assertEqual((told, errors.count("\n")), ("", 1), errors)
-            self.assertEqual(status, 0 if errors.startswith("loaded ") else 2)
+            # On a busy machine one may have to wait long enough to say so.
+            lines = errors.replace("rubewola: the store is in use; waiting\n", "", 1).splitlines()
+            self.assertEqual((told, len(lines)), ("", 1), errors)
+            self.assertEqual(status, 0 if lines[0].startswith("loaded ") else 2)
+            if status:
+                self.assertIn("run it again", lines[0])
         return ends
 
     def test_two_loaders_of_the_same_mails(self):
