@@ -16,7 +16,7 @@ from .files import Input, InputRefused
 from .logs import Line, Logs, Read, entries_of
 from .sources import Entry, Named
 from .store import Store
-from .words import SIGN, asked, digest, field_name, field_words, has_word, named
+from .words import asked, digest, field_name, field_words, has_word, named
 
 # The names under which entries tell their time, the surest first.
 _TIMES = ("@timestamp", "timestamp", "time", "ts", "datetime", "date", "t", "asctime", "created",

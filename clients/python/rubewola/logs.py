@@ -18,7 +18,7 @@ from typing import BinaryIO, NamedTuple
 from . import days
 from .charsets import decoded
 from .documents import document, earlier, split
-from .files import Input, InputRefused
+from .files import Input
 from .sources import CHUNK_BYTES, CHUNK_ITEMS, Entry, Task, has_kind
 from .store import NoSuchDocument, Store, StoreError
 from .words import SIGN, asked, digest, named

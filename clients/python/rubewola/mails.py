@@ -7,7 +7,7 @@ are those of its fields, its days, its message id and its checksum.
 from __future__ import annotations
 
 import re
-from collections.abc import Iterable, Iterator
+from collections.abc import Iterator
 from contextlib import suppress
 from email import errors, header, message_from_bytes
 from email.message import Message
@@ -86,8 +86,8 @@ def _is_long(message: Message) -> bool:
 
 
 class _Body:
-    """What the parts of a mail hold: the `texts` to show, those `behind` all parts among them; `more`
-    of alternatives that are not shown; and the `names` of attached files."""
+    """What the parts of a mail hold: the `texts` to show, with those `behind` all parts; `more` of
+    alternatives that are not shown; and the `names` of attached files."""
 
     def __init__(self, message: Message) -> None:
         self.names: list[str] = []
