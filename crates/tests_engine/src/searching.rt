@@ -108,7 +108,11 @@ fn count_found(place: usize, last: u32) -> u32 {
 
 /// Asks a query over the documents up to the last one.
 fn ask(script: &mut String, place: usize, query: &str, last: u32) -> Result<(), AllocError> {
-    write!(script, "find {query} => found {}:", count_found(place, last))?;
+    write!(
+        script,
+        "find {query} => found {}:",
+        count_found(place, last)
+    )?;
     for n in 1..=last {
         if is_found(place, n, last) {
             write!(script, " {n}")?;
