@@ -1,5 +1,6 @@
 """Several programs with one store: searches beside a load, two loaders, and what a kill leaves."""
 
+import contextlib
 import json
 import os
 import signal
@@ -125,12 +126,23 @@ class Sharing(Stores):
             self.assertEqual([len(store.find(f"wort{number}")) for number in range(0, MAILS, 500)],
                              [1] * (MAILS // 500))
 
+    def stopped(self, box, stop):
+        """A loader that was stopped in its midst, with what it told. One that was done by then is
+        started again, on a new store."""
+        for _ in range(20):
+            loader = self.start("load-mbox", "--jobs", "2", box)
+            self.wait_for(lambda: len(processes_of(loader.pid)) > 2 or loader.poll() is not None)
+            with contextlib.suppress(ProcessLookupError):
+                stop(loader.pid)
+            told, errors = loader.communicate(timeout=LONG)
+            if loader.returncode != 0:
+                return loader, told, errors
+            self.store.unlink()
+        return self.fail("each loader was done before it was stopped")
+
     def test_an_interrupt_ends_all(self):
         box = self.box()
-        loader = self.start("load-mbox", "--jobs", "3", box)
-        self.wait_for(lambda: len(processes_of(loader.pid)) > 2 or loader.poll() is not None)
-        os.killpg(loader.pid, signal.SIGINT)
-        told, errors = loader.communicate(timeout=LONG)
+        loader, told, errors = self.stopped(box, lambda pid: os.killpg(pid, signal.SIGINT))
         self.assertEqual((told, loader.returncode), ("", 130), errors)
         self.assertNotIn("Traceback", errors)
         self.assertEqual(processes_of(loader.pid), [])
@@ -138,9 +150,10 @@ class Sharing(Stores):
         self.assertEqual(len(self.found("gleich")), MAILS)
 
     def test_a_process_that_is_ended_is_told(self):
-        loader = self.start("load-mbox", "--jobs", "2", self.box())
-        self.wait_for(lambda: len(processes_of(loader.pid)) > 2 or loader.poll() is not None)
-        os.kill(max(processes_of(loader.pid)), signal.SIGKILL)
-        _, errors = loader.communicate(timeout=LONG)
+        def end_another(pid):
+            for other in sorted(set(processes_of(pid)) - {pid})[-1:]:
+                os.kill(other, signal.SIGKILL)
+
+        loader, _, errors = self.stopped(self.box(), end_another)
         self.assertEqual(loader.returncode, 2, errors)
         self.assertNotIn("Traceback", errors)
