@@ -110,7 +110,7 @@ class Commands(Stores):
 
     def test_a_bar_on_a_terminal(self):
         terminal, other = os.openpty()
-        self.write("box", mbox(mail("eins " * 300_000), mail("zwei")))
+        self.write("box", mbox(*(mail(f"wort{number} " * 99) for number in range(6_000))))
         line = [*RUBEWOLA, "load-mbox", self.store, self.folder / "box"]
         subprocess.run(line, stderr=other, check=True)
         self.assertRegex(os.read(terminal, 65_536), rb"\r\[[#.]{24}\] .* MB/s .* left")
