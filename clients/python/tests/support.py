@@ -55,8 +55,11 @@ class Stores(unittest.TestCase):
         return ran
 
     def start(self, command, *words):
+        """A process with a session of its own, which heeds an interrupt also where these tests run
+        in the background of a shell, whose processes ignore it."""
         return subprocess.Popen([*RUBEWOLA, command, self.store, *words], stdout=subprocess.PIPE,
-                                stderr=subprocess.PIPE, encoding="utf-8", start_new_session=True)
+                                stderr=subprocess.PIPE, encoding="utf-8", start_new_session=True,
+                                preexec_fn=lambda: signal.signal(signal.SIGINT, signal.SIG_DFL))
 
     def loaded(self, count, command, *words):
         self.run_line(rf"(?m)^loaded {count} documents\b", command, *words)
