@@ -49,15 +49,17 @@ const RUN_ABOUT: &str = "Answers commands from standard input, with the store in
 
 const RUN_HELP: &str = "\
 Commands, one on each line, each answered by one line:
-  add TEXT     adds a document and tells its number
-  delete N     deletes document N
-  find QUERY   tells the documents that satisfy the query
-  show N       tells the text of document N
-  commit       writes what was added and deleted since the last commit to the file
-  merge        writes the committed documents that are left anew, together, and frees the old places
-  tidy         does so with eight neighbouring segments, those that have the least bytes together
-  count        tells how many documents live, and the next number
-  quit         ends the session
+  add TEXT     adds a document: `added N`, its number
+  delete N     deletes document N: `deleted N`
+  find QUERY   finds the documents that satisfy the query: `found K:` and the K numbers
+  show N       tells the text of document N: `text T`, a line feed as `\\n`, a backslash as `\\\\`
+  commit       writes what was added and deleted since the last commit to the file: `committed`
+  merge        writes the committed documents that are left anew, together, and frees the old
+               places: `merged`
+  tidy         does so with eight neighbouring segments, those that have the least bytes together:
+               `tidied`
+  count        tells how many documents live, and the next number: `count D next N`
+  quit         ends the session: `bye`
 
 What was added or deleted since the last commit is undone when the session ends, be it by `quit`,
 by the end of the input or by a kill, and when the machine stops. What is committed stays:
@@ -69,8 +71,15 @@ A query is words, joined by AND, OR, NOT and brackets: red (apple OR pear) NOT g
 Words side by side are joined by AND. Case does not matter in a word; AND, OR and NOT are written
 in capitals.
 
-A line that is not done is answered `refused` and why. After `refused reopen` end the session and
-run the program again: what was committed before is there, and of what was not, all or nothing.";
+A line that is not done is answered `refused` and why:
+  the line     `line too long`, `not text`, `unknown`
+  the query    `query too long`, `query too deep`, `query no word at P`, `query unexpected at P`,
+               `query unclosed at P`, where P counts bytes of the query from 0
+  the store    `reopen`, `text too long`, `buffer full`, `numbers used up`, `no such document`,
+               `too many segments`, `segment too large`, `full need A largest B` (in units),
+               `memory`, `damaged`, `disk`
+After `refused reopen` end the session and run the program again: what was committed before is
+there, and of what was not, all or nothing.";
 
 const CHECK_ABOUT: &str = "Reads all that is committed in the store of a file, and compares it";
 
