@@ -5,11 +5,13 @@ ghost use Rattle.std.specs.List.Sorted.{IsStrictlyIncreasing};
 ghost use Rattle.pk_model.specs.Collection.{numbers_of};
 ghost use Rattle.pk_segment.specs.Spelling.{docs_of};
 
-use crate::segment::{document, documents, has_numbers, has_text, sound, sound_texts};
+use crate::segment::{
+    document, documents, has_numbers, has_text, sound, sound_documents, sound_texts,
+};
 use pk_dict::Entry;
 use pk_model::Document;
-use pk_posting::{ByteSource, ListPlace, SliceSource, decode};
-use pk_segment::{ReadFault, Segment, build, size_of};
+use pk_posting::{ByteSource, ListPlace, SliceSource, SourceFault, decode};
+use pk_segment::{Directory, ReadFault, Segment, build, size_of};
 use std::alloc::{AllocError, Global};
 use std::process::Abort;
 use std::test::Fail;
@@ -174,7 +176,7 @@ fn its_texts_are_read(rt: HostRuntime) -> Result<(), Fail> {
     Ok(())
 }
 
-// How many of three words' look-ups are answered.
+// How many of three words' look-ups are answered, by pivots too.
 fn sound_words<S: ByteSource>(
     alloc: Global,
     segment: &Segment,
@@ -183,36 +185,87 @@ fn sound_words<S: ByteSource>(
     let mut answered = 0u32;
     for word in ["a", "b", "c"] {
         answered = answered.saturating_add(sound(segment.list_of(alloc, source, word.as_bytes()))?);
+        let near = segment.list_near(source, &mut [1; 4], word.as_bytes());
+        answered = answered.saturating_add(sound(near)?);
     }
     Ok(answered)
 }
 
+// How many of the numbers 0 to 3 are answered to be there or not.
+fn sound_numbers<S: ByteSource>(segment: &Segment, source: &mut S) -> Result<u32, ReadFault> {
+    let mut answered = 0u32;
+    for number in 0..4u32 {
+        answered = answered.saturating_add(u32::from(segment.contains(source, number).is_ok()));
+    }
+    Ok(answered)
+}
+
+// How many of the first three documents are answered by a directory in memory.
+fn sound_documents_in<S: ByteSource>(
+    alloc: Global,
+    segment: &Segment,
+    source: &mut S,
+    directory: &Directory,
+) -> Result<u32, ReadFault> {
+    let mut answered = 0u32;
+    for i in 0..directory.len().min(3) {
+        let (_, long) = directory.text_place(i);
+        match segment.document_in(alloc, source, directory, i) {
+            Ok(document) => {
+                let same = document.number.0 == directory.number(i)
+                    && document.text.len() == long as usize;
+                answered = answered.saturating_add(u32::from(same));
+            }
+            Err(fault) => {
+                sound::<()>(Err(fault))?;
+            }
+        }
+    }
+    Ok(answered)
+}
+
+// How many documents are answered by a directory, and one for the directory.
+fn sound_directory<S: ByteSource>(
+    alloc: Global,
+    segment: &Segment,
+    source: &mut S,
+) -> Result<u32, ReadFault> {
+    match segment.directory(alloc, source) {
+        Ok(directory) => {
+            let documents = sound_documents_in(alloc, segment, source, &directory)?;
+            Ok(documents.saturating_add(1))
+        }
+        Err(fault) => sound::<()>(Err(fault)),
+    }
+}
+
+// How many calls of the row's readers are answered: the numbers, a directory with two documents, two
+// documents, four texts, whether four numbers are there, the terms, and three words by two ways.
+const ALL: u32 = 1 + 3 + 2 + 4 + 4 + 1 + 6;
+
 // Calls every reader, and tells how many of them answered.
 fn survey<S: ByteSource>(alloc: Global, source: &mut S) -> Result<u32, ReadFault> {
     let segment = Segment::open(source, 78, 2)?;
-    let numbers = sound(segment.numbers(alloc, source))?;
-    let terms = sound(segment.terms(alloc, source))?;
-    let words = sound_words(alloc, &segment, source)?;
-    let texts = sound_texts(alloc, &segment, source)?;
-    Ok(
-        numbers
-            .saturating_add(terms)
-            .saturating_add(words)
-            .saturating_add(texts),
-    )
+    let mut answered = sound(segment.numbers(alloc, source))?;
+    answered = answered.saturating_add(sound(segment.terms(alloc, source))?);
+    answered = answered.saturating_add(sound_words(alloc, &segment, source)?);
+    answered = answered.saturating_add(sound_texts(alloc, &segment, source)?);
+    answered = answered.saturating_add(sound_numbers(&segment, source)?);
+    answered = answered.saturating_add(sound_documents(alloc, &segment, source)?);
+    Ok(answered.saturating_add(sound_directory(alloc, &segment, source)?))
 }
 
 // Whether not every reader answered, and none anything but damage.
 fn is_damaged(told: Result<u32, ReadFault>) -> bool {
     match told {
-        Ok(answered) => answered < 9,
+        Ok(answered) => answered < ALL,
         Err(fault) => fault == ReadFault::Damaged,
     }
 }
 
 #[test]
 fn every_prefix_is_damaged(rt: HostRuntime) {
-    assert!(rt; survey(rt.alloc(), &mut SliceSource::new(&ROW)) == Ok(9));
+    assert!(rt; survey(rt.alloc(), &mut SliceSource::new(&ROW)) == Ok(ALL));
     for n in 0..78usize {
         let result = survey(rt.alloc(), &mut SliceSource::new(&ROW[..n]));
         assert!(rt; is_damaged(result), "{n} bytes");
@@ -231,6 +284,31 @@ fn every_changed_byte_is_survived(rt: HostRuntime) {
                 result.is_ok() || result == Err(ReadFault::Damaged),
                 "at {at}"
             );
+        }
+    }
+}
+
+// The dictionary of `new` and `newt`, which is shorter than a segment's header.
+const DICTIONARY: [u8; 17] = [
+    0x00, 0x00, 0x00, 0x00, 0x83, 0x6E, 0x65, 0x77, 0x81, 0x80, 0x85, 0x83, 0x81, 0x74, 0x81, 0x85,
+    0x85,
+];
+
+// It and each of its prefixes is damaged as a segment of either kind, and so it is with a byte changed.
+#[test]
+fn bytes_of_no_header_are_damaged(rt: HostRuntime) {
+    for n in 0..=17usize {
+        for kind in [1, 2] {
+            let opened = Segment::open(&mut SliceSource::new(&DICTIONARY[..n]), n as u32, kind);
+            assert!(rt; opened.err() == Some(SourceFault::Damaged), "{n} bytes");
+        }
+    }
+    for at in 0..17usize {
+        for value in [0x00u8, 0xFF] {
+            let mut bytes = DICTIONARY;
+            bytes[at] = value;
+            let opened = Segment::open(&mut SliceSource::new(&bytes), 17, 2);
+            assert!(rt; opened.err() == Some(SourceFault::Damaged), "at {at}");
         }
     }
 }

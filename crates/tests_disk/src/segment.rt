@@ -165,7 +165,7 @@ pub(crate) fn sound_texts<S: ByteSource>(
 }
 
 // How many of the first three documents are answered.
-fn sound_documents<S: ByteSource>(
+pub(crate) fn sound_documents<S: ByteSource>(
     alloc: Global,
     segment: &Segment,
     source: &mut S,

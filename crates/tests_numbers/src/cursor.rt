@@ -4,8 +4,9 @@
 ghost use Rattle.std.specs.Prelude.{◌<◌, ◌^◌, IfOk, length};
 
 use crate::checks::{equal, equal_of};
+use crate::dict::ROW as DICTIONARY;
 use crate::failing::Failing;
-use crate::made::{amid, apart, uneven};
+use crate::made::{amid, apart, damages, uneven};
 use crate::plain::plain_encode;
 use pk_cursor::Cursor;
 use pk_posting::{ByteSource, ListPlace, SliceSource, SourceFault};
@@ -346,24 +347,29 @@ fn each_call_returns(
     Ok(())
 }
 
-#[test]
-fn over_changed_bytes_each_call_returns(rt: HostRuntime) -> Result<(), Fail> {
-    let mut bytes = short_list(&rt, rt.alloc())?;
-    let place = place_at(0, &bytes);
-    for i in 0..bytes.len() {
-        let kept = bytes[i];
-        for new in [0x00, 0xFF] {
-            bytes[i] = new;
-            assert!(rt; bytes.len() < 4096);
-            each_call_returns(&rt, rt.alloc(), &bytes, place)?;
-        }
-        bytes[i] = kept;
+// They do over each prefix of bytes, and over them with a byte changed.
+fn over_damage_each_call_returns(
+    rt: &impl Abort,
+    alloc: Global,
+    bytes: &[u8],
+    place: ListPlace,
+) -> Result<(), AllocError> {
+    for damaged in &damages(alloc, bytes)? {
+        assert!(rt; damaged.len() < 4096);
+        each_call_returns(rt, alloc, damaged, place)?;
     }
     Ok(())
 }
 
+#[test]
+fn over_changed_bytes_each_call_returns(rt: HostRuntime) -> Result<(), Fail> {
+    let bytes = short_list(&rt, rt.alloc())?;
+    over_damage_each_call_returns(&rt, rt.alloc(), &bytes, place_at(0, &bytes))?;
+    Ok(())
+}
+
 // The segment of documents 1 `a b` and 2 `a`.
-const SEGMENT: [u8; 78] = [
+pub const SEGMENT: [u8; 78] = [
     2, 0, 0, 0, 2, 0, 0, 0, 4, 0, 0, 0, 11, 0, 0, 0, 15, 0, 0, 0, 2, 0, 0, 0, // header
     1, 0, 0, 0, 0, 0, 0, 0, 3, 0, 0, 0, 2, 0, 0, 0, 3, 0, 0, 0, 1, 0, 0, 0, // directory
     0x61, 0x20, 0x62, 0x61, // texts
@@ -378,18 +384,25 @@ static PLACES: [ListPlace; 3] = [
     ListPlace { at: 63, bytes: 15 },
 ];
 
-// A prefix of a segment, and a segment with a byte changed.
+// Where a dictionary of 17 bytes lies, and where the two lists lie that it speaks of.
+static PLACES_OF_TERMS: [ListPlace; 3] = [
+    ListPlace { at: 0, bytes: 17 },
+    ListPlace { at: 0, bytes: 5 },
+    ListPlace { at: 5, bytes: 5 },
+];
+
 #[test]
 fn over_a_changed_segment_each_call_returns(rt: HostRuntime) -> Result<(), Fail> {
     for place in PLACES {
-        for i in 0..78usize {
-            each_call_returns(&rt, rt.alloc(), &SEGMENT[..i], place)?;
-            for new in [0x00, 0xFF] {
-                let mut bytes = SEGMENT;
-                bytes[i] = new;
-                each_call_returns(&rt, rt.alloc(), &bytes, place)?;
-            }
-        }
+        over_damage_each_call_returns(&rt, rt.alloc(), &SEGMENT, place)?;
+    }
+    Ok(())
+}
+
+#[test]
+fn over_a_changed_dictionary_each_call_returns(rt: HostRuntime) -> Result<(), Fail> {
+    for place in PLACES_OF_TERMS {
+        over_damage_each_call_returns(&rt, rt.alloc(), &DICTIONARY, place)?;
     }
     Ok(())
 }

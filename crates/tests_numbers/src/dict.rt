@@ -4,8 +4,9 @@
 ghost use Rattle.std.specs.Prelude.{◌<◌, ◌^◌, IfOk, length};
 
 use crate::checks::equal;
+use crate::cursor::SEGMENT;
 use crate::failing::Failing;
-use crate::made::amid;
+use crate::made::{amid, damages};
 use pk_dict::{
     Dict, DictFault, DictPlace, DictWriter, EntriesFault, Entry, Windows, entries_in, look_up_in,
     look_up_near,
@@ -20,7 +21,7 @@ use std::vec::Vec;
 type Items = Vec<(Vec<u8>, Entry)>;
 
 // The dictionary of `new` (frequency 1, a list of 5 bytes at 0) and `newt` (1, 5 bytes at 5).
-const ROW: [u8; 17] = [
+pub const ROW: [u8; 17] = [
     0x00, 0x00, 0x00, 0x00, 0x83, 0x6E, 0x65, 0x77, 0x81, 0x80, 0x85, 0x83, 0x81, 0x74, 0x81, 0x85,
     0x85,
 ];
@@ -341,36 +342,91 @@ fn a_prefix_lists_its_terms(rt: HostRuntime) -> Result<(), Fail> {
     Ok(())
 }
 
-// That a look-up answers over any bytes, and refuses none for want of memory.
+// That a look-up in memory answers over any bytes, and refuses none for want of memory.
 fn looks_up_anyhow(rt: &impl Abort, dict: Dict<'_>) {
-    for term in ["", "ne", "new", "newt", "newts", "o"] {
-        let answer = dict.look_up(term.as_bytes());
+    for term in TERMS {
+        let answer = dict.look_up(term);
         assert!(rt; !matches!(answer, Err(DictFault::Memory)));
     }
 }
 
 // That a list of two terms at most is answered over any bytes, or that they are damaged.
-fn lists_anyhow(rt: &impl Abort, alloc: Global, dict: Dict<'_>, prefix: &[u8]) {
-    match dict.entries_with_prefix(alloc, prefix) {
-        Ok(found) => assert!(rt; found.len() <= 2),
-        Err(fault) => equal(rt, fault, DictFault::Damaged),
+fn lists_anyhow(rt: &impl Abort, alloc: Global, dict: Dict<'_>) {
+    for prefix in TERMS {
+        match dict.entries_with_prefix(alloc, prefix) {
+            Ok(found) => assert!(rt; found.len() <= 2),
+            Err(fault) => equal(rt, fault, DictFault::Damaged),
+        }
     }
 }
 
-// Each byte of the row set to 00 and to FF: each call answers, and what it refuses is damage.
-#[test]
-fn changed_bytes_are_answered(rt: HostRuntime) {
-    for at in 0..ROW.len() {
-        for byte in [0x00, 0xFF] {
-            let mut bytes = ROW;
-            bytes[at] = byte;
-            let dict = Dict::open(&bytes, 2);
-            looks_up_anyhow(&rt, dict);
-            for prefix in [b"".as_slice(), b"new", b"o"] {
-                lists_anyhow(&rt, rt.alloc(), dict, prefix);
-            }
+// Terms that are there, and some that are not.
+const TERMS: [&[u8]; 8] = [b"", b"a", b"b", b"ne", b"new", b"newt", b"newts", b"o"];
+
+// That a look-up in a source answers over any bytes, by pivots too; no read of it fails.
+fn looks_up_in_anyhow<S: ByteSource>(rt: &impl Abort, source: &mut S, place: DictPlace) {
+    for term in TERMS {
+        assert_ne!(rt; look_up_in(source, place, term), Err(SourceFault::Disk));
+        let near = look_up_near(source, place, &mut [1; 16], term);
+        assert_ne!(rt; near, Err(SourceFault::Disk));
+    }
+}
+
+// That a source is listed: two terms at most, or damage.
+fn lists_in_anyhow<S: ByteSource>(
+    rt: &impl Abort,
+    alloc: Global,
+    source: &mut S,
+    place: DictPlace,
+) {
+    for prefix in TERMS {
+        match entries_in(alloc, source, place, prefix) {
+            Ok(found) => assert!(rt; found.len() <= 2),
+            Err(fault) => equal(rt, fault, EntriesFault::Damaged),
         }
     }
+}
+
+// That each way of reading a dictionary of two terms answers over any bytes, where they lie.
+fn is_read_anyhow(rt: &impl Abort, alloc: Global, bytes: &[u8], place: DictPlace)
+    requires { length bytes.now < 2 ^ 32 }
+{
+    let mut source = SliceSource::new(bytes);
+    looks_up_in_anyhow(rt, &mut source, place);
+    lists_in_anyhow(rt, alloc, &mut source, place);
+    let mut windows = Windows::on(&mut source, place);
+    looks_up_in_anyhow(rt, &mut windows, place);
+    lists_in_anyhow(rt, alloc, &mut windows, place);
+}
+
+// That each way of reading does over each prefix of bytes, and over them with a byte changed.
+fn is_read_over_damage(
+    rt: &impl Abort,
+    alloc: Global,
+    bytes: &[u8],
+    place: DictPlace,
+) -> Result<(), Fail> {
+    for damaged in &damages(alloc, bytes)? {
+        assert!(rt; damaged.len() < 4096);
+        is_read_anyhow(rt, alloc, damaged, place);
+        let dict = Dict::open(damaged, place.terms);
+        looks_up_anyhow(rt, dict);
+        lists_anyhow(rt, alloc, dict);
+    }
+    Ok(())
+}
+
+// Where the dictionary of `a` and `b` lies in their segment.
+const IN_SEGMENT: DictPlace = DictPlace {
+    at: 63,
+    bytes: 15,
+    terms: 2,
+};
+
+#[test]
+fn damaged_bytes_are_answered(rt: HostRuntime) -> Result<(), Fail> {
+    is_read_over_damage(&rt, rt.alloc(), &ROW, whole(&ROW, 2))?;
+    is_read_over_damage(&rt, rt.alloc(), &SEGMENT, IN_SEGMENT)
 }
 
 // The row cut short anywhere is damage to whoever reads what is missing.

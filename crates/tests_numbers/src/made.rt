@@ -61,3 +61,30 @@ pub fn mixed(bits: u32) -> [u32; 128]
 pub fn amid(alloc: Global, bytes: &[u8]) -> Result<Vec<u8>, AllocError> {
     [[9u8; 7].as_slice(), bytes, &[9; 3]].concat(alloc)
 }
+
+/// Puts the bytes up to a place behind others, and the bytes with 00 and with FF at it.
+fn push_damages(
+    alloc: Global,
+    bytes: &[u8],
+    at: usize,
+    all: &mut Vec<Vec<u8>>,
+) -> Result<(), AllocError> {
+    all.push(bytes.get(..at).unwrap_or(&[]).to_vec(alloc)?)?;
+    for byte in [0x00, 0xFF] {
+        let mut changed = bytes.to_vec(alloc)?;
+        if let Some(place) = changed.get_mut(at) {
+            *place = byte;
+        }
+        all.push(changed)?;
+    }
+    Ok(())
+}
+
+/// Each shorter prefix of bytes, and the bytes with each single one set to 00 and to FF.
+pub fn damages(alloc: Global, bytes: &[u8]) -> Result<Vec<Vec<u8>>, AllocError> {
+    let mut all = Vec::new(alloc);
+    for at in 0..bytes.len() {
+        push_damages(alloc, bytes, at, &mut all)?;
+    }
+    Ok(all)
+}
