@@ -6,8 +6,9 @@
 Each of 50 runs makes a store in a new file, plays one fixed script of 200 commands over a pipe and
 is killed with SIGKILL at its own point: either after so many replies, with the whole script sent, or
 in the middle of a commit, with the script sent up to that commit. The file is then opened again. It
-has to hold what it held after the last commit that was answered, or after the one under way. One
-run more, without a kill, shows that the script is answered as it should be.
+has to hold what it held after the last commit that was answered, or after the one under way, and a
+check has to tell the same. One run more, without a kill, shows that the script is answered as it
+should be.
 
 It prints one line, and ends with 1 where a run failed; why is told on standard error.
 """
@@ -89,6 +90,14 @@ def session(program, path, commands):
     return ran.stdout.splitlines()
 
 
+def is_sound(program, path, mark):
+    """Whether a check of the store tells that it holds so many documents, and this next number."""
+    ran = subprocess.run([program, "check", path], capture_output=True, text=True, timeout=30,
+                         check=False)
+    wanted = f"ok {len(mark[0])} documents next {mark[1]} segments "
+    return ran.returncode == 0 and ran.stdout.startswith(wanted)
+
+
 def killed_session(program, path, commands, after, pause):
     """The replies that got out of a session that is killed once so many of them were read."""
     ran = subprocess.Popen([program, "run", path], stdin=subprocess.PIPE, stdout=subprocess.PIPE)
@@ -130,8 +139,11 @@ def fault_of(program, path, commands, point, wanted):
         allowed.append(marks[len(got)])
     numbers = range(1, max(mark[1] for mark in marks) + 3)
     left = session(program, path, check(allowed[0], numbers)[0])
-    if all(left != check(mark, numbers)[1] for mark in allowed):
+    held = [mark for mark in allowed if left == check(mark, numbers)[1]]
+    if not held:
         return f"after {len(got)} replies the file holds something else: {left[:3]}"
+    if not is_sound(program, path, held[0]):
+        return f"after {len(got)} replies a check does not tell what the file holds"
     return None
 
 
