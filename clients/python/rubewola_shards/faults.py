@@ -1,0 +1,33 @@
+"""What comes in place of an answer, told in a line."""
+
+from __future__ import annotations
+
+from rubewola import StoreError
+from rubewola.files import InputRefused
+
+
+class ShardsError(Exception):
+    """What is wrong with an archive, its shards, or what is asked of them."""
+
+
+class ArchiveError(ShardsError):
+    """The file of an archive says what cannot be."""
+
+
+class Missing(ShardsError):
+    """Shards that gave no answer, each with its reason."""
+
+    def __init__(self, reasons: dict[str, str]) -> None:
+        told = "; ".join(f"{name} ({reason})" for name, reason in reasons.items())
+        super().__init__(f"shards are missing: {told}")
+        self.reasons = reasons
+
+
+class OtherInput(ShardsError):
+    """An input is not the one that the shards hold the beginning of."""
+
+    def __init__(self, told: str) -> None:
+        super().__init__(f"other input: {told}; nothing was stored")
+
+
+FAULTS = (OSError, StoreError, UnicodeError, InputRefused, ShardsError)
