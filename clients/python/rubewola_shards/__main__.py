@@ -4,6 +4,7 @@ import argparse
 import importlib.util
 import os
 import sys
+import traceback
 
 from .faults import FAULTS
 
@@ -98,6 +99,9 @@ def main() -> int:
         return 0
     except FAULTS as error:
         tell(str(error))
+        return 2
+    except Exception:  # Python's own status, 1, would say that nothing was found.
+        traceback.print_exc()
         return 2
     except KeyboardInterrupt:
         print("\nrubewola-shards: stopped; what is committed stays", file=sys.stderr)

@@ -16,8 +16,8 @@ from .faults import Missing
 from .session import NoAnswer, Session
 
 PAUSE = 0.05  # Seconds before a shard is asked again whose worker is lost.
-# Seconds for an answer: to what is asked, to a piece of a load with its worker's return, and to
-# what goes through a whole store, where a worker is there in the time of a piece.
+# Seconds for an answer: to what is asked, to a batch of a load with its worker's return, and to
+# what goes through a whole store, where a worker is there in the time of a batch.
 ASKED, LOADED, WHOLE = 10, 60, 86_400
 WAITS = {"load": LOADED, "ask": WHOLE, "check": WHOLE}
 

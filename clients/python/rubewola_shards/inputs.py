@@ -72,15 +72,15 @@ def tasks_of(source: Lines | Mails, items: list[Item], with_parts: bool) -> list
             for written, some in groupby(items, lambda item: item[1])]
 
 
-def pieces(archive: Archive, source: Lines | Mails, start: int) -> Iterator[tuple[int, list[Item]]]:
+def batches(archive: Archive, source: Lines | Mails, start: int) -> Iterator[tuple[int, list[Item]]]:
     """The items from a number on, each time so many in a row as a shard commits at once, with the
     number of the first."""
     items, number = islice(source.items(), start - 1, None), start
     while True:
         row, begin = archive.row(number), number
-        for piece in portions(islice(items, row), BATCH_DOCUMENTS, _size, BATCH_BYTES):
-            yield number, piece
-            number += len(piece)
+        for batch in portions(islice(items, row), BATCH_DOCUMENTS, _size, BATCH_BYTES):
+            yield number, batch
+            number += len(batch)
         if number < begin + row:
             return
 

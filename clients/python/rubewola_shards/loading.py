@@ -12,9 +12,9 @@ from typing import NamedTuple
 from .archive import Archive, Shard
 from .faults import Missing, OtherInput
 from .fleet import Fleet
-from .inputs import Lines, Mails, known_by, pieces, tasks_of
+from .inputs import Lines, Mails, batches, known_by, tasks_of
 
-ON_THEIR_WAY = 2  # Pieces of a shard: one that it takes, and the next.
+ON_THEIR_WAY = 2  # Batches of a shard: one that it takes, and the next.
 
 
 class Loaded(NamedTuple):
@@ -57,9 +57,9 @@ def _judge(source: Lines | Mails, last: dict[int, tuple[Shard, str]]) -> None:
 
 def _packed(archive: Archive, source: Lines | Mails, nexts: dict[Shard, int], with_parts: bool
             ) -> Iterator[tuple[Shard, int, bytes]]:
-    """What shards lack: for each piece the shard, the number there of the first document, and the
+    """What shards lack: for each batch the shard, the number there of the first document, and the
     tasks as one string of bytes. Of a list Dask would send each item by itself."""
-    for number, items in pieces(archive, source, archive.complete(nexts) + 1):
+    for number, items in batches(archive, source, archive.complete(nexts) + 1):
         shard, local = archive.place(number)
         if local + len(items) > nexts[shard]:
             tasks = tasks_of(source, items, with_parts)
@@ -68,7 +68,7 @@ def _packed(archive: Archive, source: Lines | Mails, nexts: dict[Shard, int], wi
 
 def _feed(fleet: Fleet, nexts: dict[Shard, int], packed: Iterable[tuple[Shard, int, bytes]]
           ) -> dict[str, str]:
-    """Sends pieces to the shards, to each one after the other, until one is missing; gives those
+    """Sends batches to the shards, to each one after the other, until one is missing; gives those
     that are. What a shard has committed is told in `nexts`."""
     threads = {shard: ThreadPoolExecutor(1) for shard in nexts}
     waiting = {shard: deque[Future[int]]() for shard in nexts}

@@ -13,7 +13,7 @@ from support import Stores, mail, mbox
 if sys.version_info >= (3, 11):
     from rubewola_shards.archive import NO_END, Archive, _archive
     from rubewola_shards.faults import ArchiveError
-    from rubewola_shards.inputs import Lines, Mails, pieces, tasks_of
+    from rubewola_shards.inputs import Lines, Mails, batches, tasks_of
 
 SCHEDULER = "tcp://127.0.0.1:8786"
 TLS = {"ca": "ca.pem", "cert": "node.pem", "key": "node.key"}
@@ -138,7 +138,7 @@ shards = [ {{ name = "a", disk = "disk-a", path = "/srv/a" }} ]
 
 @unittest.skipIf(sys.version_info < (3, 11), "the archive's file wants Python 3.11 for tomllib")
 class Inputs(Stores):
-    """What is loaded, in pieces that go to one shard each."""
+    """What is loaded, in batches that go to one shard each."""
 
     def lines(self, *paths):
         source = Lines(*map(str, paths))
@@ -153,12 +153,12 @@ class Inputs(Stores):
         packed = self.write("log.gz", gzip.compress(b"b1\n\nb3"))
         self.assertEqual(self.lines(first, packed), ([*told, b"b3\n"], []))
 
-    def test_pieces_are_the_items_in_a_row(self):
+    def test_batches_are_the_items_in_a_row(self):
         archive = _archive(table((1, "ab"), (12_001, "c"), block=5_000), self.folder)
         log = self.write("log", "".join(f"line {n}\n" for n in range(1, 20_001)))
         for start in (1, 5_000, 12_001, 20_000, 20_001):
             at = start
-            for number, items in pieces(archive, Lines(str(log)), start):
+            for number, items in batches(archive, Lines(str(log)), start):
                 self.assertEqual(number, at)
                 # A commit takes 4,096 documents, and the places in one store end with the block.
                 self.assertLessEqual(len(items), min(4_096, archive.row(number)))

@@ -1,0 +1,160 @@
+"""Measures loads and searches of a log over 1, 2 and 4 workers, beside one store and the plain way.
+
+    measure.py DATA ROUNDS
+
+DATA/log is the log. Each round loads it into one store, into four stores side by side by xargs, and
+by an engine over 1, 2 and 4 workers on loopback; times are of whole commands. The first round then
+asks: each shard alone over a pipe, and all through the engine. Each line begins with the load that the
+system tells of, since other work makes times longer.
+"""
+
+import logging
+import os
+import shutil
+import statistics
+import subprocess
+import sys
+import time
+from pathlib import Path
+
+from machines import SHARDS, Machines
+from rubewola import Store
+from rubewola_shards import answers
+from rubewola_shards.archive import Archive
+from rubewola_shards.fleet import Fleet
+
+RUBEWOLA = [sys.executable, "-m", "rubewola"]
+QUERIES = ["64999", "root AND accepted", "dhcprequest"]
+UNITS, ASKED, COMMANDS, LAST = 1_048_576, 101, 5, 10
+
+
+def say(*words):
+    """Prints a line, with the system's load."""
+    print(f"[load {os.getloadavg()[0]:4.1f}]", *words, flush=True)
+
+
+def emptied(folder):
+    """A folder, with nothing in it."""
+    shutil.rmtree(folder, ignore_errors=True)
+    folder.mkdir(parents=True)
+    return folder
+
+
+def seconds(*line):
+    """How long a command takes; its output where something was found or done."""
+    begin = time.perf_counter()
+    ran = subprocess.run([*map(str, line)], capture_output=True, encoding="utf-8", check=False)
+    taken = time.perf_counter() - begin
+    if ran.returncode:
+        sys.exit(f"{line}: {ran.stderr}")
+    return taken
+
+
+def milliseconds(call):
+    """The median of many calls."""
+    taken = []
+    for _ in range(ASKED):
+        begin = time.perf_counter()
+        call()
+        taken.append(time.perf_counter() - begin)
+    return statistics.median(taken) * 1e3
+
+
+def command_time(*line):
+    """The median seconds of a whole command."""
+    return statistics.median(seconds(*line) for _ in range(COMMANDS))
+
+
+def one_store(data, jobs):
+    """The plain loader, in so many processes."""
+    folder = emptied(data / f"one-{jobs}")
+    taken = seconds(*RUBEWOLA, "load-log", "--jobs", jobs, folder / "s", data / "log")
+    say(f"one store, --jobs {jobs}: load {taken:.1f} s")
+    return taken
+
+
+def four_stores(data):
+    """The plain way: four parts of the log, loaded side by side."""
+    parts, stores = emptied(data / "parts"), emptied(data / "four")
+    seconds("split", "-n", "l/4", data / "log", parts / "part")
+    line = f"{sys.executable} -m rubewola load-log --jobs 1 {stores}/$(basename $1) $1"
+    taken = seconds("sh", "-c", f"ls {parts}/* | xargs -P 4 -I@ sh -c '{line}' sh @")
+    say(f"four stores by xargs: load {taken:.1f} s")
+    return taken
+
+
+def by_workers(data, count, asks):
+    """The engine, with so many workers of a shard each; where it `asks`, searches too."""
+    folder = emptied(data / f"workers-{count}")
+    machines = Machines(folder, "abcd"[:count])
+    try:
+        begin = time.perf_counter()
+        machines.settle()
+        up = time.perf_counter() - begin
+        line = [*SHARDS, machines.file]
+        seconds(*line, "create", "--units", UNITS)
+        taken = seconds(*line, "load-log", data / "log")
+        say(f"{count} workers: up in {up:.1f} s, load {taken:.1f} s")
+        if asks:
+            ask(machines, line)
+        return taken
+    finally:
+        machines.stop()
+
+
+def ask(machines, line):
+    """Searches of each shard alone, and of all."""
+    alone = {query: [] for query in QUERIES}
+    for name in machines.names:
+        with Store(machines.folder / name, wait=9) as store:
+            for query in QUERIES:
+                alone[query].append(milliseconds(lambda: store.find(query)))
+    with Fleet(Archive.read(machines.file)) as fleet:
+        for query in QUERIES:
+            found = answers.find(fleet, query, LAST, say)
+            taken = milliseconds(lambda: answers.find(fleet, query, LAST, say))
+            slowest = max(alone[query])
+            say(f"{len(machines.names)} workers: {query!r}, {found.count} found: slowest shard "
+                f"{slowest:.2f} ms, engine {taken:.2f} ms, {taken - slowest:.2f} ms more")
+            shown = milliseconds(lambda: answers.texts(fleet, found.numbers))
+            say(f"{len(machines.names)} workers: their last {len(found.numbers)} texts "
+                f"{shown:.2f} ms")
+    seconds(*line, "open")
+    say(f"{len(machines.names)} workers: a whole search of {QUERIES[0]!r} "
+        f"{command_time(*line, 'search', '--limit', LAST, QUERIES[0]):.2f} s")
+
+
+def ask_plainly(data):
+    """The same searches of one store, and of four by xargs."""
+    path = next(data.glob("one-*")) / "s"
+    with Store(path) as store:
+        for query in QUERIES:
+            say(f"one store: {query!r}: {milliseconds(lambda: store.find(query)):.2f} ms by a pipe")
+    whole = command_time(*RUBEWOLA, "search", "--limit", LAST, path, QUERIES[0])
+    say(f"one store: a whole search of {QUERIES[0]!r} {whole:.2f} s")
+    found = f"{sys.executable} -m rubewola search --limit {LAST} $1 {QUERIES[0]} || [ $? = 1 ]"
+    whole = command_time("sh", "-c", f"ls {data}/four/* | xargs -P 4 -I@ sh -c '{found}' sh @")
+    say(f"four stores by xargs: a whole search of {QUERIES[0]!r} {whole:.2f} s")
+
+
+def main():
+    """Takes all measurements in turn."""
+    for name in ("distributed", "asyncio", "tornado"):
+        logging.getLogger(name).setLevel(logging.CRITICAL + 1)
+    data, rounds, loads = Path(sys.argv[1]), int(sys.argv[2]), {}
+    for at in range(rounds):
+        taken = {"one store": one_store(data, os.cpu_count()), "one store, --jobs 1": one_store(data, 1),
+                 "four stores": four_stores(data)}
+        if at == 0:
+            ask_plainly(data)
+        taken |= {f"{count} workers": by_workers(data, count, at == 0) for count in (1, 2, 4)}
+        for name, value in taken.items():
+            loads.setdefault(name, []).append(value)
+    for name, values in loads.items():
+        ratios = [f"{one / value:.2f}" for one, value in zip(loads["1 workers"], values)]
+        say(f"{name}: {', '.join(f'{value:.1f}' for value in values)} s; "
+            f"as fast as 1 worker: {', '.join(ratios)}")
+
+
+if __name__ == "__main__":
+    main()
