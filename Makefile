@@ -10,7 +10,8 @@ UNITS = 4096
 
 # A Python that has distributed, with the client, its tests and the program.
 SHARDS = PYTHONPATH=$(CURDIR)/clients/python:$(CURDIR)/clients/python/tests \
-    RUBEWOLA_PROGRAM=$(CURDIR)/$(PROGRAM) $${RUBEWOLA_PYTHON:-/usr/bin/python3} -W ignore
+    RUBEWOLA_PROGRAM=$(CURDIR)/$(PROGRAM) \
+    $(or $(RUBEWOLA_PYTHON),$(wildcard /usr/bin/python3),python3) -W ignore
 
 PREFIX = /usr/local
 BIN = $(DESTDIR)$(PREFIX)/bin

@@ -56,8 +56,7 @@ class Soak:
         sort, name = self.chance.choice(SORTS), self.chance.choice(NAMES)
         try:
             if sort == "session":
-                for pid in self.machines.sessions(name):
-                    os.kill(pid, signal.SIGKILL)
+                os.kill(self.machines.sessions(name)[0], signal.SIGKILL)
             elif sort == "worker":
                 os.kill(self.machines.worker(name), signal.SIGKILL)
             elif sort == "loader":

@@ -8,7 +8,6 @@ asks: each shard alone over a pipe, and all through the engine. Each line begins
 system tells of, since other work makes times longer.
 """
 
-import logging
 import os
 import shutil
 import statistics
@@ -139,8 +138,6 @@ def ask_plainly(data):
 
 def main():
     """Takes all measurements in turn."""
-    for name in ("distributed", "asyncio", "tornado"):
-        logging.getLogger(name).setLevel(logging.CRITICAL + 1)
     data, rounds, loads = Path(sys.argv[1]), int(sys.argv[2]), {}
     for at in range(rounds):
         taken = {"one store": one_store(data, os.cpu_count()), "one store, --jobs 1": one_store(data, 1),

@@ -6,7 +6,7 @@ import os
 import sys
 import traceback
 
-from .faults import FAULTS
+from .faults import FAULTS, tell
 
 EXAMPLES = """examples:
   $ rubewola-shards shards.toml scheduler
@@ -17,11 +17,6 @@ EXAMPLES = """examples:
 """
 ABSENT = "wants Python 3.11 and distributed: apt-get install python3-distributed"
 DAEMONS = ("scheduler", "worker")
-
-
-def tell(text: str) -> None:
-    """Says something that is no result."""
-    print(f"rubewola-shards: {text}", file=sys.stderr)
 
 
 def _some(text: str) -> int:

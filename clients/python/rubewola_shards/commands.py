@@ -13,17 +13,12 @@ from rubewola import documents, queries
 
 from . import answers, inputs, loading
 from .archive import Archive
-from .faults import FAULTS, Missing, ShardsError
+from .faults import FAULTS, Missing, ShardsError, tell
 from .fleet import Fleet
 
 LOADERS = {"load-log": inputs.Lines, "load-mbox": inputs.Mails}
 EACH = ("create", "commit", "tidy", "merge", "check", "close")  # Each shard tells what it did.
 LAST = 20  # What a find at the prompt shows.
-
-
-def tell(text: str) -> None:
-    """Says something that is no result."""
-    print(f"rubewola-shards: {text}", file=sys.stderr)
 
 
 def load(fleet: Fleet, given: argparse.Namespace) -> int:
@@ -158,8 +153,7 @@ COMMANDS = {"search": search, "counts": counts, "delete": delete, "open": keep_o
 
 def carry_out(archive: Archive, given: argparse.Namespace) -> int:
     """Connects, and does what a command line says of the shards."""
-    for name in ("distributed", "asyncio", "tornado"):  # What they log is told once, as a refusal.
-        logging.getLogger(name).setLevel(logging.CRITICAL + 1)
+    logging.disable()  # What Dask logs of a shard is told once, as a refusal.
     partial = given.command in EACH or getattr(given, "partial", False)
     with Fleet(archive, given.wait, partial) as fleet:
         return COMMANDS[given.command](fleet, given)

@@ -2,6 +2,8 @@
 
 from __future__ import annotations
 
+import sys
+
 from rubewola import StoreError
 from rubewola.files import InputRefused
 
@@ -31,3 +33,8 @@ class OtherInput(ShardsError):
 
 
 FAULTS = (OSError, StoreError, UnicodeError, InputRefused, ShardsError)
+
+
+def tell(text: str) -> None:
+    """Says something that is no result."""
+    print(f"rubewola-shards: {text}", file=sys.stderr)

@@ -1,12 +1,16 @@
 """Numbers of an archive over many stores, and what is loaded into which. These need no Dask."""
 
+import contextlib
 import gzip
+import io
 import random
 import sys
 import unittest
 from itertools import islice
+from unittest import mock
 
 from rubewola import searching
+from rubewola_shards import __main__
 
 from support import Stores, mail, mbox
 
@@ -134,6 +138,18 @@ shards = [ {{ name = "a", disk = "disk-a", path = "/srv/a" }} ]
         relative = table(one)
         relative["group"][0]["shards"][0]["path"] = "a"
         self.assertRaisesRegex(ValueError, "begins with /", _archive, relative, self.folder)
+
+
+class Absent(unittest.TestCase):
+    """Where Dask is absent, that is said in a line."""
+
+    def test_the_package_is_named(self):
+        told = io.StringIO()
+        with mock.patch.object(sys, "argv", ["rubewola-shards", "shards.toml", "counts"]), \
+                mock.patch("importlib.util.find_spec", return_value=None), \
+                contextlib.redirect_stderr(told):
+            self.assertEqual(__main__.main(), 2)
+        self.assertRegex(told.getvalue(), "^rubewola-shards: wants .* python3-distributed\n$")
 
 
 @unittest.skipIf(sys.version_info < (3, 11), "the archive's file wants Python 3.11 for tomllib")

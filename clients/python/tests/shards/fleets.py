@@ -1,14 +1,11 @@
 """What the tests over real schedulers and workers share: machines, and an archive for each test."""
 
-import asyncio
 import atexit
 import contextlib
 import functools
 import io
-import logging
-import os
+import re
 import shutil
-import signal
 import subprocess
 import sys
 import tempfile
@@ -37,8 +34,6 @@ def need_distributed():
         print(f"skipped: the tests over real schedulers and workers want {PACKAGE} (apt-get install "
               f"{PACKAGE})", file=sys.stderr)
         raise unittest.SkipTest(f"wants {PACKAGE}")
-    for name in ("distributed", "asyncio", "tornado"):
-        logging.getLogger(name).setLevel(logging.CRITICAL + 1)
 
 
 @functools.lru_cache(maxsize=None)
@@ -64,8 +59,7 @@ class Shards(Stores):
         self.file = self.folder / "shards.toml"
 
     def started(self):
-        """The machines, all there."""
-        shared().settle()
+        """The machines, all there. A test that ends one of them settles them at its end."""
         return shared()
 
     @staticmethod
@@ -100,8 +94,9 @@ class Shards(Stores):
 
     def run_line(self, told, *words, status=0, **settings):
         ran = self.ran(*words, **settings)
-        self.assertRegex(ran.stdout + ran.stderr, told)
-        self.assertEqual(ran.returncode, status, ran.stdout[-300:] + ran.stderr[-900:])
+        said = ran.stdout[-300:] + ran.stderr[-900:]
+        self.assertTrue(re.search(told, ran.stdout + ran.stderr), f"{told} is not in {said}")
+        self.assertEqual(ran.returncode, status, said)
         return ran
 
     def load(self, log=None):
@@ -113,8 +108,8 @@ class Shards(Stores):
         lines = lines or self.LINES
         self.run_line(f"(?m)^count {lines} complete to {lines}$", "counts")
         shown = self.run_line("^", "search", "line").stdout.splitlines()
-        wanted = [f"{n}: {self.line(n).strip()}" for n in range(1, lines + 1)]
-        self.assertEqual([line.strip() for line in shown], wanted)
+        wanted = [f"{n}: {self.line(n)[:-1]}" for n in range(1, lines + 1)]
+        self.assertTrue(shown == wanted, f"{len(shown)} lines, {set(wanted) ^ set(shown)}"[:900])
 
     def places(self, name):
         """The numbers that a shard of the one group has, counted out by hand."""

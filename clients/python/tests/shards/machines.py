@@ -1,5 +1,6 @@
 """A scheduler and workers as processes on loopback, and the file of an archive over them."""
 
+import logging
 import os
 import signal
 import socket
@@ -40,6 +41,7 @@ class Machines:
     def __init__(self, folder, names, tls=None):
         self.folder, self.names, self.tls = Path(folder), names, tls
         self.processes = {}
+        logging.disable()  # Dask logs each connection that fails.
         with socket.socket() as free:
             free.bind(("127.0.0.1", 0))
             port = free.getsockname()[1]

@@ -1,16 +1,19 @@
 """What an archive's user sees where a session, a worker, a machine, a scheduler or a loader dies, and
 that nothing that was acknowledged is lost: a test for each row of the table in docs/MACHINES.md."""
 
+import contextlib
 import os
 import resource
 import signal
+import tempfile
 import threading
 import time
 import unittest
+from pathlib import Path
 
 from rubewola import Store
 
-from fleets import Shards, need_distributed, shared
+from fleets import Shards, need_distributed
 from support import LONG
 
 
@@ -32,6 +35,7 @@ class Loads(Shards):
         self.make("abc")
         loader = self.start_load()
         os.kill(self.machines.worker("b"), signal.SIGKILL)
+        self.addCleanup(self.machines.settle)
         self.assert_loads(loader)
 
     def test_the_loader_killed(self):
@@ -56,12 +60,19 @@ class Loads(Shards):
 
 
 class Searches(Shards):
-    """An archive that is searched, one whose load is done."""
+    """An archive that is searched. All tests have the same one, and leave it whole."""
+
+    @classmethod
+    def setUpClass(cls):
+        super().setUpClass()
+        cls.kept = Path(cls.enterClassContext(tempfile.TemporaryDirectory())).resolve()
 
     def setUp(self):
         super().setUp()
-        self.make("abc")
-        self.load()
+        self.folder, self.file = self.kept, self.kept / "shards.toml"
+        if not self.file.exists():
+            self.make("abc")
+            self.load()
 
     def test_a_session_killed(self):
         self.run_line("^", "open")
@@ -79,21 +90,30 @@ class Searches(Shards):
         def kill_two():
             for _ in range(2):
                 time.sleep(0.3)
-                os.kill(self.machines.worker("b"), signal.SIGKILL)
-                self.machines.settle()
+                self.kill_worker("b")
 
-        killer, counts, ends = threading.Thread(target=kill_two), [], time.monotonic() + LONG
-        with Fleet(Archive.read(self.file)) as fleet:
+        killer, told, ends = threading.Thread(target=kill_two), [], time.monotonic() + LONG
+        with Fleet(Archive.read(self.file), wait=LONG) as fleet:
             killer.start()
-            while killer.is_alive() and time.monotonic() < ends:
-                counts.append(answers.find(fleet, "line", 9, self.fail))
+            while (killer.is_alive() or len(told) < 20) and time.monotonic() < ends:
+                told.append(answers.find(fleet, "line", 9, self.fail))
             killer.join()
-        self.assertGreater(len(counts), 10)
         wanted = [*range(self.LINES - 8, self.LINES + 1)]
-        for found in counts:
+        for found in told:
             self.assertEqual(found, (self.LINES, wanted))
 
+    def kill_worker(self, name):
+        """Kills a worker, and waits until its nanny has started another."""
+        killed, ends = self.machines.worker(name), time.monotonic() + LONG
+        os.kill(killed, signal.SIGKILL)
+        while time.monotonic() < ends:
+            with contextlib.suppress(LookupError, OSError):
+                if self.machines.worker(name) != killed:
+                    return
+            time.sleep(0.01)
+
     def test_a_machine_gone(self):
+        self.addCleanup(self.machines.settle)
         self.machines.kill("b")
         self.run_line(r"shards are missing: b \(no worker has disk-b\)", "--wait", 3, "search",
                       "--count", "line", status=2)
@@ -128,6 +148,7 @@ class Searches(Shards):
         self.assert_whole()
 
     def test_the_scheduler_killed(self):
+        self.addCleanup(self.machines.settle)
         self.machines.kill("scheduler")
         self.run_line("(?i)scheduler|connect", "--wait", 2, "search", "line", status=2)
         self.machines.settle()
@@ -142,22 +163,35 @@ class Searches(Shards):
         self.assert_whole()
 
     def test_shards_in_another_order(self):
+        self.addCleanup(self.write_groups, (1, "abc"))
         self.write_groups((1, "bac"))
         self.run_line(f"b .the store is shard 2 of 3 from 1 by {self.BLOCK}, and shard 1 of 3",
                       "search", "line", status=2)
-        (self.folder / "c.shard").unlink()
+        self.write_groups((1, "abc"))
+        told = self.folder / "c.shard"
+        self.addCleanup(told.write_text, told.read_text())
+        told.unlink()
         self.run_line("c .no file .*c.shard tells", "search", "line", status=2)
         self.run_line("c .no file .*c.shard tells", "create", "--units", 64, status=2)
 
     def test_a_damaged_shard(self):
+        at = 34 * 512  # Where the first segment may begin.
         with open(self.folder / "b", "r+b") as store:
-            store.seek(34 * 512)  # Where the first segment may begin.
-            store.write(b"\xff" * 65_536)
+            store.seek(at)
+            before = store.read(65_536)
+            store.seek(at)
+            store.write(b"\xff" * len(before))
+        self.addCleanup(self.put_back, at, before)
         self.run_line(r"missing: b \(damaged\)", "search", "line", status=2)
         ran = self.run_line(r"missing: b \(damaged\)", "check", status=2)
         self.assertRegex(ran.stdout, "^a: ok [0-9]+ documents next [0-9]+ segments [0-9]+\nc: ok ")
         self.assertNotIn("b:", ran.stdout)
         self.run_line("b is missing .damaged", "search", "--partial", "line", status=3)
+
+    def put_back(self, at, data):
+        with open(self.folder / "b", "r+b") as store:
+            store.seek(at)
+            store.write(data)
 
     def test_a_session_without_memory(self):
         self.run_line("^", "open")
@@ -186,7 +220,6 @@ class Full(Shards):
         self.run_line(f"(?m)^count {before} complete to {before}$", "counts")
         self.assertRegex(self.load().stderr, f"^loaded {self.LINES - before} ")
         self.assert_whole()
-        self.assertEqual(shared(), self.machines)
 
 
 if __name__ == "__main__":
