@@ -20,7 +20,10 @@ class Missing(ShardsError):
     """Shards that gave no answer, each with its reason."""
 
     def __init__(self, reasons: dict[str, str]) -> None:
-        told = "; ".join(f"{name} ({reason})" for name, reason in reasons.items())
+        names: dict[str, list[str]] = {}
+        for name, reason in reasons.items():
+            names.setdefault(reason, []).append(name)
+        told = "; ".join(f"{', '.join(some)} ({reason})" for reason, some in names.items())
         super().__init__(f"shards are missing: {told}")
         self.reasons = reasons
 

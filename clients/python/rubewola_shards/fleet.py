@@ -42,8 +42,12 @@ class Fleet(AbstractContextManager["Fleet"]):
         `partial` answers are wanted, those that do not are noted in `missing`."""
         self.archive, self.partial, self.missing = archive, partial, dict[str, str]()
         self._wait, self._is_open = wait, True
-        self._client = Client(archive.scheduler, security=security(archive), timeout=wait or ASKED,
-                              direct_to_workers=True)
+        try:
+            self._client = Client(archive.scheduler, security=security(archive),
+                                  timeout=wait or ASKED, direct_to_workers=True)
+        except OSError as error:
+            reason = f"no scheduler at {archive.scheduler}: {error}"
+            raise Missing({shard.name: reason for shard in archive.shards}) from error
         self._futures = {shard: self._submitted(shard) for shard in archive.shards}
         self._actors: dict[Shard, Any] = {}
         self._threads = ThreadPoolExecutor(len(self._futures))

@@ -150,7 +150,8 @@ class Searches(Shards):
     def test_the_scheduler_killed(self):
         self.addCleanup(self.machines.settle)
         self.machines.kill("scheduler")
-        self.run_line("(?i)scheduler|connect", "--wait", 2, "search", "line", status=2)
+        self.run_line(rf"missing: a, b, c .no scheduler at {self.machines.address}: ", "--wait", 2,
+                      "search", "--partial", "line", status=2)
         self.machines.settle()
         self.assert_whole()
 

@@ -127,13 +127,13 @@ class Certificates(Ports):
         self.assert_whole()
         told = self.file.read_text()
         self.use(self.tls, self.strangers)  # A certificate of another CA.
-        self.run_line("(?i)certificate|connect", "--wait", "2", "search", "line", status=2)
+        self.run_line("missing: a, b .no scheduler at ", "--wait", "2", "search", "line", status=2)
         self.file.write_text(told)
         self.use({"cert": "node.pem", "key": "node.key"}, self.strangers)  # Of another, by our CA.
-        self.run_line("(?i)certificate|connect", "--wait", "2", "search", "line", status=2)
+        self.run_line("missing: a, b .no scheduler at ", "--wait", "2", "search", "line", status=2)
         clear = re.sub(r"(?m)^\[tls\]\n(?:\w+ = .*\n){3}", "", told).replace("tls://", "tcp://")
         self.file.write_text(clear)
-        self.run_line("(?i)connect", "--wait", "2", "search", "line", status=2)
+        self.run_line("missing: a, b .no scheduler at ", "--wait", "2", "search", "line", status=2)
         self.file.write_text(told)
         self.assert_whole()
 
