@@ -7,6 +7,7 @@ import pickle
 import signal
 import unittest
 from array import array
+from pathlib import Path
 
 from rubewola import QueryRefused, Store
 from rubewola.loading import Logs
@@ -23,6 +24,16 @@ def lines(first, last):
     """The packed tasks of a log's lines."""
     data = "".join(f"line {n} w{n % 3}\n" for n in range(first, last + 1)).encode()
     return pickle.dumps([(Logs.read_chunk, Read(data, [], "", 0, None), True)])
+
+
+def programs_of(store):
+    """The programs that this process has started for a store."""
+    found = []
+    for task in Path("/proc/self/task").iterdir():
+        for pid in (task / "children").read_text().split():
+            if os.fsencode(store) in Path(f"/proc/{pid}/cmdline").read_bytes().split(b"\0"):
+                found.append(int(pid))
+    return found
 
 
 def entries_of(texts):
@@ -80,7 +91,8 @@ class Sessions(Stores):
     def test_a_program_that_is_killed(self):
         self.ask("load", 1, lines(1, 9))
         for _ in range(2):
-            os.kill(self.session.opened()._process.pid, signal.SIGKILL)
+            own, = programs_of(self.store)
+            os.kill(own, signal.SIGKILL)
             self.assertEqual(self.found("w0"), (3, [3, 6, 9]))
 
     def test_what_is_behind_the_end_of_a_group(self):
