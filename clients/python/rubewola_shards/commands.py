@@ -27,7 +27,7 @@ def load(fleet: Fleet, given: argparse.Namespace) -> int:
     loaded = loading.load(fleet, source, not given.no_parts)
     for note in source.notes:
         tell(note)
-    print(f"loaded {loaded.documents} documents in {time.monotonic() - begin:.1f} s, complete to "
+    print(f"loaded {loaded.added} in {time.monotonic() - begin:.1f} s, complete to "
           f"{loaded.complete}", file=sys.stderr)
     if loaded.missing:
         raise Missing(loaded.missing)

@@ -13,7 +13,7 @@ from rubewola import QueryRefused
 
 from .archive import Archive, Shard
 from .faults import Missing
-from .session import NoAnswer, Session
+from .session import NoAnswer, Session, Taken
 
 PAUSE = 0.05  # Seconds before a shard is asked again whose worker is lost.
 # Seconds for an answer: to what is asked, to a batch of a load with its worker's return, and to
@@ -83,6 +83,8 @@ class Fleet(AbstractContextManager["Fleet"]):
                 return getattr(actor, method)(*given).result(_left(ends))
             except QueryRefused:
                 raise
+            except Taken as error:
+                reason = str(error)
             except NoAnswer as error:
                 raise Missing({shard.name: str(error)}) from None
             except TimeoutError:

@@ -4,24 +4,27 @@ from __future__ import annotations
 
 import pickle
 from collections import deque
-from collections.abc import Iterable, Iterator
+from collections.abc import Iterator
 from concurrent.futures import Future, ThreadPoolExecutor
 from itertools import islice
 from typing import NamedTuple
+
+from rubewola import loading
 
 from .archive import Archive, Shard
 from .faults import Missing, OtherInput
 from .fleet import Fleet
 from .inputs import Lines, Mails, batches, known_by, tasks_of
+from .session import Added
 
 ON_THEIR_WAY = 2  # Batches of a shard: one that it takes, and the next.
 
 
 class Loaded(NamedTuple):
-    """What a load did: how many documents it added, up to which number all are committed now, and
-    the shards that went missing."""
+    """What a load did: what it added, up to which number all documents are committed now, and the
+    shards that went missing."""
 
-    documents: int
+    added: loading.Loaded
     complete: int
     missing: dict[str, str]
 
@@ -34,9 +37,16 @@ def load(fleet: Fleet, source: Lines | Mails, with_parts: bool = True) -> Loaded
     nexts = {shard: min(following, shard.most + 1) for shard, (following, *_) in states.items()}
     _judge(source, {shard.number(local): (shard, text)
                     for shard, (_, local, text) in states.items() if local})
-    before = sum(nexts.values())
-    missing = _feed(fleet, nexts, _packed(archive, source, nexts, with_parts))
-    return Loaded(sum(nexts.values()) - before, archive.complete(nexts), missing)
+    before, feed = sum(nexts.values()), _Feed(fleet, nexts)
+    try:
+        for shard, *batch in _lacking(archive, source, nexts, with_parts):
+            feed.put(shard, *batch)
+            if feed.missing:
+                break
+    finally:
+        feed.end()
+    added = loading.Loaded(sum(nexts.values()) - before, feed.cut, feed.unreadable)
+    return Loaded(added, archive.complete(nexts), feed.missing)
 
 
 def _judge(source: Lines | Mails, last: dict[int, tuple[Shard, str]]) -> None:
@@ -55,39 +65,45 @@ def _judge(source: Lines | Mails, last: dict[int, tuple[Shard, str]]) -> None:
         at = number
 
 
-def _packed(archive: Archive, source: Lines | Mails, nexts: dict[Shard, int], with_parts: bool
-            ) -> Iterator[tuple[Shard, int, bytes]]:
-    """What shards lack: for each batch the shard, the number there of the first document, and the
-    tasks as one string of bytes. Of a list Dask would send each item by itself."""
+def _lacking(archive: Archive, source: Lines | Mails, nexts: dict[Shard, int], with_parts: bool
+             ) -> Iterator[tuple[Shard, int, int, bytes]]:
+    """What shards lack: for each batch the shard, the number there of the first document, how many
+    they are, and their tasks as one string of bytes. Of a list Dask would send each item by
+    itself."""
     for number, items in batches(archive, source, archive.complete(nexts) + 1):
         shard, local = archive.place(number)
         if local + len(items) > nexts[shard]:
             tasks = tasks_of(source, items, with_parts)
-            yield shard, local, pickle.dumps(tasks, pickle.HIGHEST_PROTOCOL)
+            yield shard, local, len(items), pickle.dumps(tasks, pickle.HIGHEST_PROTOCOL)
 
 
-def _feed(fleet: Fleet, nexts: dict[Shard, int], packed: Iterable[tuple[Shard, int, bytes]]
-          ) -> dict[str, str]:
-    """Sends batches to the shards, to each one after the other, until one is missing; gives those
-    that are. What a shard has committed is told in `nexts`."""
-    threads = {shard: ThreadPoolExecutor(1) for shard in nexts}
-    waiting = {shard: deque[Future[int]]() for shard in nexts}
-    missing: dict[str, str] = {}
+class _Feed:
+    """Batches on their way to the shards, to each one after the other. `nexts` follows what each
+    has committed, and `missing` tells which went missing, and why."""
 
-    def wait_for(shard: Shard, most: int) -> None:
-        while len(waiting[shard]) > most:
+    def __init__(self, fleet: Fleet, nexts: dict[Shard, int]) -> None:
+        self._fleet, self._nexts, self.missing = fleet, nexts, dict[str, str]()
+        self._threads = {shard: ThreadPoolExecutor(1) for shard in nexts}
+        self._waiting = {shard: deque[Future[Added]]() for shard in nexts}
+        self.cut = self.unreadable = 0
+
+    def put(self, shard: Shard, *batch: object) -> None:
+        """Sends a batch, and waits where too many of its shard are on their way."""
+        sent = self._threads[shard].submit(self._fleet.ask, shard, "load", *batch)
+        self._waiting[shard].append(sent)
+        self._wait_for(shard, ON_THEIR_WAY - 1)
+
+    def end(self) -> None:
+        """Waits for all that is on its way."""
+        for shard, thread in self._threads.items():
+            self._wait_for(shard, 0)
+            thread.shutdown()
+
+    def _wait_for(self, shard: Shard, most: int) -> None:
+        while len(self._waiting[shard]) > most:
             try:
-                nexts[shard] = waiting[shard].popleft().result()
+                self._nexts[shard], cut, unreadable = self._waiting[shard].popleft().result()
             except Missing as error:
-                missing.setdefault(shard.name, error.reasons[shard.name])
-    try:
-        for shard, local, data in packed:
-            waiting[shard].append(threads[shard].submit(fleet.ask, shard, "load", local, data))
-            wait_for(shard, ON_THEIR_WAY - 1)
-            if missing:
-                break
-    finally:
-        for shard in nexts:
-            wait_for(shard, 0)
-            threads[shard].shutdown()
-    return missing
+                self.missing.setdefault(shard.name, error.reasons[shard.name])
+            else:
+                self.cut, self.unreadable = self.cut + cut, self.unreadable + unreadable

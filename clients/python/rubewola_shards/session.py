@@ -11,20 +11,34 @@ from bisect import bisect_right
 from collections.abc import Callable, Coroutine
 from concurrent.futures import ThreadPoolExecutor
 from functools import wraps
-from typing import Any
+from typing import Any, NamedTuple
 
-from rubewola import Counts, Failed, NoSuchDocument, QueryRefused, Store, StoreError
+from rubewola import Counts, Failed, InUse, NoSuchDocument, QueryRefused, Store, StoreError
 from rubewola.loading import BATCH_BYTES, BATCH_DOCUMENTS, commit
 from rubewola.sources import Entry, Task, portions
 from rubewola.store import make
 from rubewola.words import NAMING
 
 ALL = f"NOT {NAMING}none"  # All documents: no loader writes this word, and no text holds it.
-WAIT = 2  # Seconds for a store that another program has.
+WAIT = 1  # Seconds for a store that another program has, before it is asked for again.
 
 
 class NoAnswer(Exception):
     """Why a session gives no answer."""
+
+
+class Taken(NoAnswer):
+    """Another program has the store, and may let it go: that of a worker that was lost does so at
+    the end of its command."""
+
+
+class Added(NamedTuple):
+    """What a load left: the next number; of the documents that it added some were cut, and some
+    could not be read."""
+
+    next: int
+    cut: int
+    unreadable: int
 
 
 def _in_turn(method: Callable[..., Any]) -> Callable[..., Coroutine[Any, Any, Any]]:
@@ -41,6 +55,8 @@ def _answer(method: Callable[..., Any], *given: Any) -> Any:
         return method(*given)
     except QueryRefused:
         raise
+    except InUse as error:
+        raise Taken(str(error)) from None
     except Exception as error:  # Whatever it is, it is told in a word that can be sent.
         raise NoAnswer(str(error) or type(error).__name__) from None
 
@@ -143,21 +159,22 @@ class Session:
         return following, 0, ""
 
     @_with_store
-    def load(self, store: Store, at: int, packed: bytes) -> int:
-        """Adds and commits the documents of packed tasks, the first of which has the number `at`,
-        as far as the store lacks them, and gives its next number. So what is sent twice is added
-        once."""
+    def load(self, store: Store, at: int, count: int, packed: bytes) -> Added:
+        """Adds and commits the documents of packed tasks, `count` from the number `at` on, as far as
+        the store lacks them. So what is sent twice is added once."""
         tasks: list[Task] = pickle.loads(packed)
         following = store.count().next
-        if at > following:
-            raise StoreError(f"documents from {at} on come where {following} is the next")
         entries = [entry for function, *given in tasks for entry in function(*given)]
+        if at > following or len(entries) != count:
+            raise StoreError(f"{len(entries)} documents from {at} on come where {following} is the "
+                             f"next, and {count} are told")
         lacking = entries[following - at:]
         for batch in portions(lacking, BATCH_DOCUMENTS, _size, BATCH_BYTES):
             for _ in store.add_all(entry.data for entry in batch):
                 pass
             commit(store)
-        return store.count().next
+        return Added(store.count().next, sum(entry.cut for entry in lacking),
+                     sum(entry.unreadable for entry in lacking))
 
     @_with_store
     def find(self, store: Store, query: str, limit: int, most: int) -> tuple[int, bytes]:

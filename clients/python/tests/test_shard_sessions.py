@@ -10,7 +10,7 @@ from array import array
 from pathlib import Path
 
 from rubewola import QueryRefused, Store
-from rubewola.loading import Logs
+from rubewola.loading import Logs, Mailboxes
 from rubewola.logs import Read
 from rubewola.sources import Entry
 from rubewola_shards.session import NoAnswer, Session
@@ -56,6 +56,9 @@ class Sessions(Stores):
     def ask(self, method, *given):
         return asyncio.run(getattr(self.session, method)(*given))
 
+    def load(self, first, last):
+        return self.ask("load", first, last - first + 1, lines(first, last))
+
     def refused(self, told, method, *given):
         self.assertRaisesRegex(NoAnswer, told, self.ask, method, *given)
 
@@ -64,39 +67,45 @@ class Sessions(Stores):
         return count, [*array("I", numbers)]
 
     def test_what_is_sent_twice_is_added_once(self):
-        for batch, following in [((1, 10), 11), ((1, 10), 11), ((1, 15), 16), ((4, 9), 16),
-                                 ((16, 20), 21)]:
-            self.assertEqual(self.ask("load", batch[0], lines(*batch)), following)
-        self.refused("documents from 22 on come where 21 is the next", "load", 22, lines(22, 23))
+        for first, last, following in [(1, 10, 11), (1, 10, 11), (1, 15, 16), (4, 9, 16),
+                                       (16, 20, 21)]:
+            self.assertEqual(self.load(first, last), (following, 0, 0))
+        self.refused("documents from 22 on come where 21 is the next", "load", 22, 2, lines(22, 23))
+        self.refused("2 documents from 21 on .* and 3 are told", "load", 21, 3, lines(21, 22))
         self.assertEqual(self.found("line"), (20, [*range(1, 21)]))
         for number in range(1, 21):
             self.assertEqual(self.found(str(number)), (1, [number]))
 
     def test_a_load_that_fails_leaves_nothing_uncommitted(self):
-        self.ask("load", 1, lines(1, 3))
+        self.load(1, 3)
         bad = pickle.dumps([(entries_of, ["good", "good", "x" * 1_048_577])])
-        self.refused("text too long", "load", 4, bad)
-        self.refused("ValueError|invalid", "load", 4, pickle.dumps([(int, "none")]))
+        self.refused("text too long", "load", 4, 3, bad)
+        self.refused("invalid literal", "load", 4, 1, pickle.dumps([(int, "none")]))
         self.assertEqual(self.ask("counts", 99), (3, 4))
         self.assertEqual(self.found("good"), (0, []))
 
+    def test_what_was_cut_is_told(self):
+        mails = [b"From: ada\n\n" + b"x " * 600_000, b"From: ada\n\ny\n"]
+        self.assertEqual(self.ask("load", 1, 2, pickle.dumps([(Mailboxes.read_chunk, mails, True)])),
+                         (3, 1, 0))
+
     def test_commands_queue(self):
         async def both():
-            return await asyncio.gather(self.session.load(1, lines(1, 500)),
+            return await asyncio.gather(self.session.load(1, 500, lines(1, 500)),
                                         self.session.find("line", 0, 999),
-                                        self.session.load(501, lines(501, 600)),
+                                        self.session.load(501, 100, lines(501, 600)),
                                         self.session.find("line", 0, 999))
-        self.assertEqual(asyncio.run(both()), [501, (500, b""), 601, (600, b"")])
+        self.assertEqual(asyncio.run(both()), [(501, 0, 0), (500, b""), (601, 0, 0), (600, b"")])
 
     def test_a_program_that_is_killed(self):
-        self.ask("load", 1, lines(1, 9))
+        self.load(1, 9)
         for _ in range(2):
             own, = programs_of(self.store)
             os.kill(own, signal.SIGKILL)
             self.assertEqual(self.found("w0"), (3, [3, 6, 9]))
 
     def test_what_is_behind_the_end_of_a_group(self):
-        self.ask("load", 1, lines(1, 30))
+        self.load(1, 30)
         self.assertEqual(self.found("line", limit=2, most=20), (20, [19, 20]))
         self.assertEqual(self.found("w0", limit=0), (10, []))
         self.assertEqual(self.found("line", limit=0, most=0), (0, []))
@@ -105,7 +114,7 @@ class Sessions(Stores):
         self.assertEqual(self.ask("last", 0), (31, 0, ""))
 
     def test_deletions(self):
-        self.ask("load", 1, lines(1, 9))
+        self.load(1, 9)
         self.assertEqual(self.ask("delete", [3, 8, 9]), [True] * 3)
         self.assertEqual(self.ask("delete", [3, 4, 50]), [False, True, False])
         self.ask("close")  # What was deleted is committed.
@@ -135,7 +144,7 @@ class Sessions(Stores):
             self.refused("no file .*s.shard tells which shard this is", *call)
 
     def test_refusals_and_checks(self):
-        self.ask("load", 1, lines(1, 9))
+        self.load(1, 9)
         self.assertRaises(QueryRefused, self.ask, "find", "a AND", 9, 9)
         self.refused("unknown", "ask", "unheard")
         self.assertEqual(self.ask("check"), "ok 9 documents next 10 segments 1")

@@ -144,7 +144,7 @@ class Searches(Shards):
 
     def test_a_store_that_another_program_has(self):
         with Store(self.folder / "a", wait=LONG):
-            self.run_line(r"missing: a \(in use ", "search", "line", status=2)
+            self.run_line(r"missing: a \(in use ", "--wait", 2, "search", "line", status=2)
         self.assert_whole()
 
     def test_the_scheduler_killed(self):
