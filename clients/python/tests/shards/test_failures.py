@@ -136,7 +136,7 @@ class Searches(Shards):
         still = self.machines.worker("b")
         os.kill(still, signal.SIGSTOP)
         try:
-            self.run_line(r"missing: b \(no answer in 2 s\)", "--wait", 2, "search", "line", status=2)
+            self.run_line(r"missing: b \(no answer in 6 s\)", "--wait", 6, "search", "line", status=2)
         finally:
             os.kill(still, signal.SIGCONT)
         self.assert_whole()
@@ -156,6 +156,7 @@ class Searches(Shards):
         self.assert_whole()
 
     def test_a_shard_lost_is_loaded_again(self):
+        self.run_line("b: closed", "close")
         (self.folder / "b").unlink()
         self.run_line(r"missing: b \(missing ", "search", "line", status=2)
         made = self.run_line("b: created", "create", "--units", self.UNITS).stdout
@@ -169,6 +170,7 @@ class Searches(Shards):
         self.run_line(f"b .the store is shard 2 of 3 from 1 by {self.BLOCK}, and shard 1 of 3",
                       "search", "line", status=2)
         self.write_groups((1, "abc"))
+        self.run_line("c: closed", "close")
         told = self.folder / "c.shard"
         self.addCleanup(told.write_text, told.read_text())
         told.unlink()
@@ -176,6 +178,7 @@ class Searches(Shards):
         self.run_line("c .no file .*c.shard tells", "create", "--units", 64, status=2)
 
     def test_a_damaged_shard(self):
+        self.run_line("b: closed", "close")
         at = 34 * 512  # Where the first segment may begin.
         with open(self.folder / "b", "r+b") as store:
             store.seek(at)
