@@ -4,10 +4,11 @@
     tools/shards_soak.py [LINES [KILLS [SEED]]]
 
 A scheduler and three workers on loopback, a load of LINES lines (40,000) into three shards, and up to
-KILLS kills (30) with SIGKILL while it runs: of a session, a worker, a worker with its nanny and
-sessions, the scheduler, or the loader, drawn with SEED (2). What has ended is started again, as systemd
-would, and the same load is run again until it ends well. At each count between, nothing may be missing
-that an earlier `complete to` told; in the end each line has to be there once, under its own number.
+KILLS kills (30) with SIGKILL, each once a shard has taken something since the last: of a session, a
+worker, a worker with its nanny and sessions, the scheduler, or the loader, drawn with SEED (2). What has
+ended is started again, as systemd would, and the same load is run again until it ends well. At each count
+between, nothing may be missing that an earlier `complete to` told; in the end each line has to be there
+once, under its own number.
 
 PYTHONPATH names the client and its tests, RUBEWOLA_PROGRAM the program; `make soak` does. It prints one
 line, and ends with 1 where something was missing; what was killed is told on standard error.
@@ -70,17 +71,26 @@ class Soak:
 
     def load(self):
         """One run of the loader with kills in its midst: its status and what it told."""
-        loader = subprocess.Popen([*SHARDS, self.machines.file, "--wait", "20", "load-log", self.log],
+        loader = subprocess.Popen([*SHARDS, self.machines.file, "--wait", "30", "load-log", self.log],
                                   stdout=subprocess.DEVNULL, stderr=subprocess.PIPE,
                                   encoding="utf-8")
-        ends = time.monotonic() + LONG
+        ends, before = time.monotonic() + LONG, self.written()
         while loader.poll() is None and self.left and time.monotonic() < ends:
-            time.sleep(self.chance.uniform(0.2, 2.5))
+            if self.written() == before:
+                time.sleep(0.05)
+                self.machines.up()  # Workers end some seconds after their scheduler.
+                continue
+            time.sleep(self.chance.uniform(0, 0.5))
             if loader.poll() is None:
                 self.kill_one(loader)
-                time.sleep(0.5)
-                self.machines.up()
+            time.sleep(0.5)
+            self.machines.up()
+            before = self.written()
         return loader.communicate(timeout=LONG)[1], loader.returncode
+
+    def written(self):
+        """What changes whenever a shard has taken something."""
+        return [(self.log.parent / name).stat().st_mtime_ns for name in NAMES]
 
     def judge(self, told):
         """Ends where something is missing that was told as complete."""

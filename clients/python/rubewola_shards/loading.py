@@ -7,7 +7,7 @@ from collections import deque
 from collections.abc import Iterator
 from concurrent.futures import Future, ThreadPoolExecutor
 from itertools import islice
-from typing import NamedTuple
+from typing import Any, NamedTuple
 
 from rubewola import loading
 
@@ -84,13 +84,12 @@ class _Feed:
     def __init__(self, fleet: Fleet, nexts: dict[Shard, int]) -> None:
         self._fleet, self._nexts, self.missing = fleet, nexts, dict[str, str]()
         self._threads = {shard: ThreadPoolExecutor(1) for shard in nexts}
-        self._waiting = {shard: deque[Future[Added]]() for shard in nexts}
+        self._waiting = {shard: deque[Future[Any]]() for shard in nexts}
         self.cut = self.unreadable = 0
 
     def put(self, shard: Shard, *batch: object) -> None:
         """Sends a batch, and waits where too many of its shard are on their way."""
-        sent = self._threads[shard].submit(self._fleet.ask, shard, "load", *batch)
-        self._waiting[shard].append(sent)
+        self._waiting[shard].append(self._threads[shard].submit(self._send, shard, *batch))
         self._wait_for(shard, ON_THEIR_WAY - 1)
 
     def end(self) -> None:
@@ -99,11 +98,16 @@ class _Feed:
             self._wait_for(shard, 0)
             thread.shutdown()
 
+    def _send(self, shard: Shard, *batch: object) -> Added | None:
+        if shard.name not in self.missing:  # Else what comes behind would wait for nothing.
+            try:
+                return self._fleet.ask(shard, "load", *batch)
+            except Missing as error:
+                self.missing.update(error.reasons)
+        return None
+
     def _wait_for(self, shard: Shard, most: int) -> None:
         while len(self._waiting[shard]) > most:
-            try:
-                self._nexts[shard], cut, unreadable = self._waiting[shard].popleft().result()
-            except Missing as error:
-                self.missing.setdefault(shard.name, error.reasons[shard.name])
-            else:
-                self.cut, self.unreadable = self.cut + cut, self.unreadable + unreadable
+            if added := self._waiting[shard].popleft().result():
+                self._nexts[shard] = added.next
+                self.cut, self.unreadable = self.cut + added.cut, self.unreadable + added.unreadable
