@@ -41,7 +41,7 @@ class Soak:
     def __init__(self, folder, lines, kills, seed):
         self.chance, self.left, self.done = random.Random(seed), kills, Counter()
         self.lines = [f"line {n} {self.chance.randrange(10**6)}" for n in range(1, lines + 1)]
-        self.log, self.acknowledged = folder / "log", 0
+        self.log, self.loader, self.acknowledged = folder / "log", None, 0
         self.log.write_text("".join(f"{line}\n" for line in self.lines))
         self.machines = Machines(folder, NAMES)
         self.machines.write(self.machines.file, [
@@ -71,9 +71,9 @@ class Soak:
 
     def load(self):
         """One run of the loader with kills in its midst: its status and what it told."""
-        loader = subprocess.Popen([*SHARDS, self.machines.file, "--wait", "30", "load-log", self.log],
-                                  stdout=subprocess.DEVNULL, stderr=subprocess.PIPE,
-                                  encoding="utf-8")
+        line = [*SHARDS, self.machines.file, "--wait", "30", "load-log", self.log]
+        loader = self.loader = subprocess.Popen(line, stdout=subprocess.DEVNULL,
+                                                stderr=subprocess.PIPE, encoding="utf-8")
         ends, before = time.monotonic() + LONG, self.written()
         while loader.poll() is None and self.left and time.monotonic() < ends:
             if self.written() == before:
@@ -119,6 +119,13 @@ class Soak:
                   file=sys.stderr)
         sys.exit(f"the load was not whole after {RUNS} runs")
 
+    def stop(self):
+        """Ends all that it started."""
+        if self.loader and self.loader.poll() is None:
+            self.loader.kill()
+            self.loader.wait()
+        self.machines.stop()
+
     def fault(self):
         """What is wrong with the shards, if anything."""
         self.machines.settle()
@@ -138,7 +145,7 @@ def main():
             runs = soak.until_whole()
             fault = soak.fault()
         finally:
-            soak.machines.stop()
+            soak.stop()
     killed = ", ".join(f"{count} {sort}" for sort, count in sorted(soak.done.items()))
     print(f"shards soak: {lines} lines, {runs} runs, killed: {killed}; {fault or 'whole'}")
     sys.exit(1 if fault else 0)

@@ -3,12 +3,14 @@
     measure.py DATA ROUNDS
 
 DATA/log is the log. Each round loads it into one store, into four stores side by side by xargs, and
-by an engine over 1, 2 and 4 workers on loopback; times are of whole commands. The first round then
-asks: each shard alone over a pipe, and all through the engine. Each line begins with the load that the
+by an engine over 1, 2 and 4 workers on loopback; times are of whole commands. Of the engine it prints
+the processor time of each process too: the busiest one bounds a load where processors are free. The
+first round then asks: each shard alone over a pipe, and all through the engine. Each line begins with the load that the
 system tells of, since other work makes times longer.
 """
 
 import os
+import resource
 import shutil
 import statistics
 import subprocess
@@ -24,7 +26,7 @@ from rubewola_shards.fleet import Fleet
 
 RUBEWOLA = [sys.executable, "-m", "rubewola"]
 QUERIES = ["64999", "root AND accepted", "dhcprequest"]
-UNITS, ASKED, COMMANDS, LAST = 1_048_576, 101, 5, 10
+UNITS, ASKED, COMMANDS, LAST = 1_048_576, 101, 3, 10
 
 
 def say(*words):
@@ -64,11 +66,10 @@ def command_time(*line):
     return statistics.median(seconds(*line) for _ in range(COMMANDS))
 
 
-def one_store(data, jobs):
-    """The plain loader, in so many processes."""
-    folder = emptied(data / f"one-{jobs}")
-    taken = seconds(*RUBEWOLA, "load-log", "--jobs", jobs, folder / "s", data / "log")
-    say(f"one store, --jobs {jobs}: load {taken:.1f} s")
+def one_store(data):
+    """The plain loader, which decodes in as many processes as there are processors."""
+    taken = seconds(*RUBEWOLA, "load-log", emptied(data / "one") / "s", data / "log")
+    say(f"one store: load {taken:.1f} s")
     return taken
 
 
@@ -92,8 +93,15 @@ def by_workers(data, count, asks):
         up = time.perf_counter() - begin
         line = [*SHARDS, machines.file]
         seconds(*line, "create", "--units", UNITS)
+        seconds(*line, "open")
+        before, loader = processor_times(machines), resource.getrusage(resource.RUSAGE_CHILDREN)
         taken = seconds(*line, "load-log", data / "log")
-        say(f"{count} workers: up in {up:.1f} s, load {taken:.1f} s")
+        spent = [after - first for first, after in zip(before, processor_times(machines))]
+        spent.append(sum(resource.getrusage(resource.RUSAGE_CHILDREN)[:2]) - sum(loader[:2]))
+        say(f"{count} workers: up in {up:.1f} s, load {taken:.1f} s; processor time of each worker "
+            f"{' '.join(f'{value:.1f}' for value in spent[:count])}, of each session "
+            f"{' '.join(f'{value:.1f}' for value in spent[count:-1])}, of the loader {spent[-1]:.1f}, "
+            f"of the busiest {max(spent):.1f} s")
         if asks:
             ask(machines, line)
         return taken
@@ -101,8 +109,17 @@ def by_workers(data, count, asks):
         machines.stop()
 
 
+def processor_times(machines):
+    """Seconds of processor time that each worker and then each session has taken."""
+    pids = [machines.worker(name) for name in machines.names]
+    pids += [machines.sessions(name)[0] for name in machines.names]
+    told = [Path(f"/proc/{pid}/stat").read_text().rpartition(")")[2].split() for pid in pids]
+    return [(int(fields[11]) + int(fields[12])) / os.sysconf("SC_CLK_TCK") for fields in told]
+
+
 def ask(machines, line):
     """Searches of each shard alone, and of all."""
+    seconds(*line, "close")
     alone = {query: [] for query in QUERIES}
     for name in machines.names:
         with Store(machines.folder / name, wait=9) as store:
@@ -125,7 +142,7 @@ def ask(machines, line):
 
 def ask_plainly(data):
     """The same searches of one store, and of four by xargs."""
-    path = next(data.glob("one-*")) / "s"
+    path = data / "one" / "s"
     with Store(path) as store:
         for query in QUERIES:
             say(f"one store: {query!r}: {milliseconds(lambda: store.find(query)):.2f} ms by a pipe")
@@ -140,8 +157,7 @@ def main():
     """Takes all measurements in turn."""
     data, rounds, loads = Path(sys.argv[1]), int(sys.argv[2]), {}
     for at in range(rounds):
-        taken = {"one store": one_store(data, os.cpu_count()), "one store, --jobs 1": one_store(data, 1),
-                 "four stores": four_stores(data)}
+        taken = {"one store": one_store(data), "four stores": four_stores(data)}
         if at == 0:
             ask_plainly(data)
         taken |= {f"{count} workers": by_workers(data, count, at == 0) for count in (1, 2, 4)}
