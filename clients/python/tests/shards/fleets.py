@@ -17,13 +17,14 @@ from unittest import mock
 from rubewola_shards import __main__
 
 from machines import SHARDS, Machines
-from support import LONG, Stores
+from support import Stores
 
 try:
     import distributed
 except ImportError:
     distributed = None
 
+LONG = 300  # Seconds that nothing here takes, also on a machine that has much other work.
 PACKAGE = "python3-distributed"
 DISKS = "abc"
 

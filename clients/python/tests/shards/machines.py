@@ -10,7 +10,7 @@ import time
 from pathlib import Path
 
 SHARDS = [sys.executable, "-m", "rubewola_shards"]
-START = 60  # Seconds in which workers are there, also on a machine that has other work.
+START = 300  # Seconds in which workers are there, also on a machine that has much other work.
 
 
 def write_archive(file, scheduler, groups, block, tls=None):

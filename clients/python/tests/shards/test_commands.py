@@ -11,8 +11,8 @@ from unittest import mock
 
 from rubewola import Store, __main__ as plain
 
-from fleets import Shards, need_distributed
-from support import LONG, mail, mbox
+from fleets import LONG, Shards, need_distributed
+from support import mail, mbox
 
 QUERIES = ["from:ada", "subject:plan NOT from:ada", "date:2010-05..", "wort3 OR wort77", "fuell1",
            "NOT wort1", "nothing", "id:<7@x>"]

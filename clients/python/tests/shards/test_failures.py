@@ -13,8 +13,7 @@ from pathlib import Path
 
 from rubewola import Store
 
-from fleets import Shards, need_distributed
-from support import LONG
+from fleets import LONG, Shards, need_distributed
 
 
 def setUpModule():
@@ -115,16 +114,16 @@ class Searches(Shards):
     def test_a_machine_gone(self):
         self.addCleanup(self.machines.settle)
         self.machines.kill("b")
-        self.run_line(r"shards are missing: b \(no worker has disk-b\)", "--wait", 3, "search",
+        self.run_line(r"shards are missing: b \(no worker has disk-b\)", "--wait", 5, "search",
                       "--count", "line", status=2)
-        ran = self.run_line("^", "--wait", 3, "search", "--partial", "line", status=3)
+        ran = self.run_line("^", "--wait", 5, "search", "--partial", "line", status=3)
         self.assertRegex(ran.stderr, r"partial answer: b is missing \(no worker has disk-b\)")
         gone = set(self.places("b"))
         shown = [int(line.partition(":")[0]) for line in ran.stdout.splitlines()]
         self.assertEqual(shown, [n for n in range(1, self.LINES + 1) if n not in gone])
-        ran = self.run_line("b is missing", "--wait", 3, "counts", "--partial", status=3)
+        ran = self.run_line("b is missing", "--wait", 5, "counts", "--partial", status=3)
         self.assertNotIn("complete", ran.stdout)
-        self.run_line(r"b \(no worker has disk-b\)", "--wait", 3, "load-log", self.log, status=2)
+        self.run_line(r"b \(no worker has disk-b\)", "--wait", 5, "load-log", self.log, status=2)
         # The disk is put into another machine.
         self.machines.start("other", "worker", "--folder", self.machines.folder, "disk-b")
         self.addCleanup(self.machines.kill, "other")
@@ -136,7 +135,9 @@ class Searches(Shards):
         still = self.machines.worker("b")
         os.kill(still, signal.SIGSTOP)
         try:
-            self.run_line(r"missing: b \(no answer in 6 s\)", "--wait", 6, "search", "line", status=2)
+            # On a machine that has much other work another may be as slow.
+            self.run_line(r"missing: .*\bb\b.* \(no answer in 6 s\)", "--wait", 6, "search", "line",
+                          status=2)
         finally:
             os.kill(still, signal.SIGCONT)
         self.assert_whole()
