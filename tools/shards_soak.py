@@ -136,6 +136,7 @@ class Soak:
 
 def main():
     """Runs it all."""
+    signal.signal(signal.SIGTERM, lambda *_: sys.exit("it was ended"))  # And all that it started.
     lines, kills, seed = [*map(int, sys.argv[1:]), *[40_000, 30, 2][len(sys.argv) - 1:]]
     with tempfile.TemporaryDirectory() as folder:
         soak = Soak(Path(folder), lines, kills, seed)

@@ -10,8 +10,10 @@ system tells of, since other work makes times longer.
 """
 
 import os
+import pickle
 import resource
 import shutil
+import signal
 import statistics
 import subprocess
 import sys
@@ -21,8 +23,9 @@ from pathlib import Path
 from machines import SHARDS, Machines
 from rubewola import Store
 from rubewola_shards import answers
-from rubewola_shards.archive import Archive
+from rubewola_shards.archive import Archive, _archive
 from rubewola_shards.fleet import Fleet
+from rubewola_shards.inputs import Lines, batches, tasks_of
 
 RUBEWOLA = [sys.executable, "-m", "rubewola"]
 QUERIES = ["64999", "root AND accepted", "dhcprequest"]
@@ -109,6 +112,22 @@ def by_workers(data, count, asks):
         machines.stop()
 
 
+def shares(data):
+    """What of a load is the loader's own, and what its workers do, by processor time in one process."""
+    archive = _archive({"scheduler": "tcp://127.0.0.1:1", "group": [
+        {"first": 1, "shards": [{"name": "a", "disk": "a", "path": "/a"}]}]}, data)
+    source, count, own, decoding = Lines(str(data / "log")), 0, 0.0, 0.0
+    begin = time.process_time()
+    for _, items in batches(archive, source, 1):
+        tasks = tasks_of(source, items, True)
+        pickle.dumps(tasks, pickle.HIGHEST_PROTOCOL)
+        packed = time.process_time()
+        count += sum(len(function(*given)) for function, *given in tasks)
+        own, decoding = own + packed - begin, decoding + time.process_time() - packed
+        begin = time.process_time()
+    say(f"{count} lines: processor time of the loader {own:.2f} s, of decoding {decoding:.2f} s")
+
+
 def processor_times(machines):
     """Seconds of processor time that each worker and then each session has taken."""
     pids = [machines.worker(name) for name in machines.names]
@@ -155,7 +174,9 @@ def ask_plainly(data):
 
 def main():
     """Takes all measurements in turn."""
+    signal.signal(signal.SIGTERM, lambda *_: sys.exit("it was ended"))  # And all that it started.
     data, rounds, loads = Path(sys.argv[1]), int(sys.argv[2]), {}
+    shares(data)
     for at in range(rounds):
         taken = {"one store": one_store(data), "four stores": four_stores(data)}
         if at == 0:

@@ -6,6 +6,7 @@ import functools
 import io
 import re
 import shutil
+import signal
 import subprocess
 import sys
 import tempfile
@@ -38,13 +39,20 @@ def need_distributed():
 
 
 @functools.lru_cache(maxsize=None)
-def shared():
-    """The machines that all tests share: a scheduler, and a worker for each of the disks."""
+def _machines():
     folder = tempfile.mkdtemp()
     machines = Machines(folder, DISKS)
     atexit.register(shutil.rmtree, folder, ignore_errors=True)
     atexit.register(machines.stop)
-    machines.settle()
+    signal.signal(signal.SIGTERM, lambda *_: sys.exit("the tests were ended"))  # And all they started.
+    return machines
+
+
+def shared():
+    """The machines that all tests share: a scheduler, and a worker for each of the disks."""
+    machines = _machines()
+    if not machines.processes:
+        machines.settle()
     return machines
 
 
