@@ -9,9 +9,9 @@ from collections.abc import Iterator
 from concurrent.futures import BrokenExecutor
 from contextlib import suppress
 
-from . import documents, loading, queries, searching
+from . import commits, documents, loading, queries, searching
 from .files import InputRefused
-from .store import Refused, Store, StoreError
+from .store import Failed, Refused, Store, StoreError
 
 LOADERS = {"load-mbox": loading.Mailboxes, "load-maildir": loading.Maildirs,
            "load-log": loading.Logs, "load-json": loading.JsonLines,
@@ -29,6 +29,7 @@ EXAMPLES = """examples:
   $ rubewola search --limit 9 archive from:bdale date:2010-05..2010-07
   $ rubewola search lines 'failed date:2026..'
   $ rubewola search service level:error
+  $ rubewola check archive
 """
 
 
@@ -37,9 +38,14 @@ def tell(text: str) -> None:
     print(f"rubewola: {text}", file=sys.stderr)
 
 
+def waits() -> None:
+    """Says that a store is waited for."""
+    tell("the store is in use; waiting")
+
+
 def opened(path: str) -> Store:
     """A store, waited for where another program has it."""
-    return Store(path, WAIT, lambda: tell("the store is in use; waiting"))
+    return Store(path, WAIT, waits)
 
 
 def load(given: argparse.Namespace) -> None:
@@ -62,6 +68,19 @@ def search(given: argparse.Namespace) -> int:
     for line in results.lines(given.format) if results else [len(numbers)]:
         print(line)
     return 0 if numbers else 1
+
+
+def check(given: argparse.Namespace) -> int:
+    """Prints what a sound store has. The status of one that is not sound is 1."""
+    try:
+        found = Store.check(given.store, WAIT, waits)
+    except Failed as failed:
+        if failed.reason != "damaged":
+            raise
+        tell(f"{failed}")
+        return 1
+    print(f"ok {found.documents} documents next {found.next} segments {found.segments}")
+    return 0
 
 
 def typed_lines() -> Iterator[str]:
@@ -114,7 +133,7 @@ def shell(given: argparse.Namespace) -> None:
                 print(answer(store, line))
             except (Refused, ValueError) as refused:
                 print(f"refused {refused}")
-        loading.commit(store)
+        commits.commit(store)
 
 
 def _some(text: str) -> int:
@@ -145,6 +164,8 @@ def parser() -> argparse.ArgumentParser:
     finder.add_argument("--limit", type=int, default=sys.maxsize, help="only the last so many")
     finder.add_argument("--count", action="store_true", help="only how many")
     finder.add_argument("--format", choices=searching.FORMATS, default="text")
+    checker = commands.add_parser("check", help="see whether each byte is as it was written")
+    checker.add_argument("store")
     commands.add_parser("shell", help="a prompt").add_argument("store")
     return top
 
@@ -152,7 +173,7 @@ def parser() -> argparse.ArgumentParser:
 def main() -> int:
     """Does what the command line says, and gives the status."""
     given = parser().parse_args()
-    run = {"search": search, "shell": shell}.get(given.command, load)  # All others are loaders.
+    run = {"search": search, "shell": shell, "check": check}.get(given.command, load)
     sys.stdout.reconfigure(encoding="utf-8", errors="surrogateescape")
     try:
         return run(given) or 0

@@ -9,7 +9,8 @@ from __future__ import annotations
 import re
 from collections.abc import Iterable
 
-from .words import NAMING, SIGN, clean, guarded, meant, parts, unguarded
+from .joined import parts
+from .words import NAMING, SIGN, clean, guarded, meant, unguarded
 
 MOST_BYTES, MOST_TAIL_BYTES = 1_048_576, 524_288
 CUT, MARK = "\n[cut]", "\n\x1d"

@@ -21,14 +21,14 @@ from multiprocessing import active_children, connection
 from multiprocessing.process import BaseProcess
 from typing import Any, NamedTuple, Union
 
+from .commits import add, commit
 from .documents import KINDS, earlier
 from .entries import Journals, JsonLines
 from .logs import Logs
 from .mailboxes import Mailboxes
 from .maildirs import Maildirs
 from .sources import Entry, Task
-from .store import (LAST_TRY, Failed, Full, NoSuchDocument, Store, StoreError, TooManySegments,
-                    make)
+from .store import LAST_TRY, Failed, Full, NoSuchDocument, Store, StoreError, make
 from .words import SIGN
 
 BATCH_DOCUMENTS, BATCH_BYTES = 4_096, 16_777_216  # A commit comes after so many.
@@ -178,26 +178,13 @@ def _with_bar(chunks: Iterator[list[Entry]], source: Source) -> Iterator[list[En
             sys.stderr.write("\r\x1b[K")
 
 
-def commit(store: Store) -> None:
-    """Commits, with room made where there was none."""
-    try:
-        store.commit()
-    except TooManySegments:
-        store.tidy()
-        commit(store)
-    except Full:
-        store.merge()
-        store.commit()
-
-
 def _add(store: Store, entries: list[Entry]) -> Loaded:
     """Adds entries and commits them, and so what they take the place of is deleted."""
     for number in filter(None, (entry.replaces for entry in entries)):
         with suppress(NoSuchDocument):  # Another program has deleted it.
             store.delete(number)
-    added = sum(1 for _ in store.add_all(entry.data for entry in entries))
     try:
-        commit(store)
+        added = add(store, [entry.data for entry in entries])
     except Full as full:
         raise StoreError(f"the store has no room for more: {full.need * 512:,} bytes in a row are "
                          f"wanted, and {full.largest * 512:,} are free; what was committed before "

@@ -32,7 +32,9 @@ class Examples(Stores):
         return re.sub(r" in \d+\.\d s$", " in 0.1 s", ran.stdout, flags=re.MULTILINE)
 
     def run_document(self, name):
-        blocks = re.findall(r"```console\n(.*?)```", (TOP / name).read_text("utf-8"), re.DOTALL)
+        text = (TOP / name).read_text("utf-8")
+        self.assertNotRegex(text, r"```text\n(?:\$ .*\n)*\$ rubewola ")
+        blocks = re.findall(r"```console\n(.*?)```", text, re.DOTALL)
         self.assertTrue(blocks)
         for block in blocks:
             for command, wanted in re.findall(r"(?m)^\$ (.*)\n((?:(?!\$ ).*\n)*)", block):
@@ -45,13 +47,23 @@ class Examples(Stores):
     def test_guide(self):
         self.run_document("docs/GUIDE.md")
 
+    @staticmethod
+    def script(which):
+        """A program that the guide shows."""
+        text = (TOP / "docs/GUIDE.md").read_text("utf-8")
+        return re.findall("```python\n(.*?)```", text, re.DOTALL)[which]
+
+    def test_the_guide_from_python(self):
+        ran = subprocess.run([sys.executable, "-c", self.script(1)], cwd=self.folder, check=True,
+                             capture_output=True, encoding="utf-8")
+        self.assertIn(f"It prints `{ran.stdout.strip()}`.", (TOP / "docs/GUIDE.md").read_text("utf-8"))
+
     def test_the_guide_carries_a_store_over(self):
         with Store.create(self.folder / "old", 256) as store:
             list(store.add_all(["one\ntwo", "\\", "three"]))
             store.delete(2)
             store.commit()
-        script = (TOP / "docs/GUIDE.md").read_text("utf-8").split("```python\n")[1].split("```")[0]
-        line = [sys.executable, "-c", script, self.folder / "old", self.store, "512"]
+        line = [sys.executable, "-c", self.script(0), self.folder / "old", self.store, "512"]
         subprocess.run(line, check=True)
         self.assert_found({"one two": [1], "NOT one": [3]})
 
