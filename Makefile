@@ -12,6 +12,8 @@ PREFIX = /usr/local
 BIN = $(DESTDIR)$(PREFIX)/bin
 LIB = $(DESTDIR)$(PREFIX)/lib/rubewola
 MAN = $(DESTDIR)$(PREFIX)/share/man/man1
+# The interpreter that runs the installed client: a real one, and no version manager's shim.
+PYTHON = $(shell python3 -c 'import sys; print(sys.base_prefix + "/bin/python3")')
 
 .PHONY: demo try test seals mutants client memory check fmt bench install uninstall
 
@@ -70,12 +72,14 @@ $(PROGRAM):
 	cd crates/pk_find && rt run -- --version
 
 # make install PREFIX=~/.local: the program, the client as `rubewola`, the Python package below
-# lib/rubewola, and the manuals. Python finds the package with PYTHONPATH=PREFIX/lib/rubewola.
+# lib/rubewola, compiled, and the manuals. Python finds the package with PYTHONPATH=PREFIX/lib/rubewola.
 install: $(PROGRAM)
 	install -d $(BIN) $(LIB)/rubewola $(MAN)
 	install -m 755 $(PROGRAM) $(BIN)/pk_find
-	install -m 755 clients/python/rubewola.sh $(BIN)/rubewola
+	sed '1s|.*|#!$(PYTHON) -SI|' clients/python/entry.py > $(BIN)/rubewola
+	chmod 755 $(BIN)/rubewola
 	install -m 644 clients/python/rubewola/*.py $(LIB)/rubewola
+	$(PYTHON) -m compileall -q -s "$(DESTDIR)" $(LIB)/rubewola
 	install -m 644 man/pk_find.1 man/rubewola.1 $(MAN)
 
 # Takes away what install put there.

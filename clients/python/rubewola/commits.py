@@ -9,8 +9,9 @@ store: a document of each commit has it as a word.
 
 from __future__ import annotations
 
-from .documents import MOST_BYTES, split
+from .documents import MOST_BYTES
 from .store import Full, Refused, Store, TooManySegments
+from .stored import split
 from .words import SIGN, named
 
 MERGED = 8  # Segments of which a tidy makes one.

@@ -13,10 +13,8 @@ from datetime import date, timedelta, timezone
 from email import utils
 from functools import lru_cache
 
+from .ranges import EARLIER, LATER, RANGED
 from .words import SIGN
-
-RANGED = (1970, 2099)  # The first and the last year that a range may name.
-EARLIER, LATER = SIGN + "0", SIGN + "9"
 
 _MONTHS = "Jan Feb Mar Apr May Jun Jul Aug Sep Oct Nov Dec".split()
 _MONTH = f"(?P<month>{'|'.join(_MONTHS)})"

@@ -22,13 +22,13 @@ from multiprocessing.process import BaseProcess
 from typing import Any, NamedTuple, Union
 
 from .commits import add, commit
-from .documents import KINDS, earlier
 from .entries import Journals, JsonLines
 from .logs import Logs
 from .mailboxes import Mailboxes
 from .maildirs import Maildirs
 from .sources import Entry, Task
 from .store import LAST_TRY, Failed, Full, NoSuchDocument, Store, StoreError, make
+from .stored import KINDS, earlier
 from .words import SIGN
 
 BATCH_DOCUMENTS, BATCH_BYTES = 4_096, 16_777_216  # A commit comes after so many.

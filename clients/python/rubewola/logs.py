@@ -17,10 +17,11 @@ from typing import BinaryIO, NamedTuple
 
 from . import days
 from .charsets import decoded
-from .documents import document, earlier, split
+from .documents import document
 from .files import Input
 from .sources import CHUNK_BYTES, CHUNK_ITEMS, Entry, Task, has_kind
 from .store import NoSuchDocument, Store, StoreError
+from .stored import earlier, split
 from .words import SIGN, asked, digest, named
 
 _LINE_END = b"\n"

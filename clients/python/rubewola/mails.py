@@ -16,8 +16,8 @@ from typing import NamedTuple
 
 from . import days
 from .charsets import decoded
-from .documents import HEAD
 from .pages import charset_of, page_text
+from .stored import HEAD
 from .words import asked, clean, digest, field_words, named
 
 LONGEST_FIELD = 262_144

@@ -88,7 +88,10 @@ def asked(name: str, value: str | bytes) -> str:
 
 
 def meant(word: str) -> str:
-    """The value that was spelled, of what stands behind the name."""
+    """The value that was spelled, of what stands behind the name; what is no spelling, as it is."""
     plain, *spelled = word.split("_")
-    return os.fsdecode(plain.encode() + b"".join(bytes.fromhex(one[:2]) + one[2:].encode()
-                                                 for one in spelled))
+    try:
+        return os.fsdecode(plain.encode() + b"".join(bytes.fromhex(one[:2]) + one[2:].encode()
+                                                     for one in spelled))
+    except ValueError:
+        return word

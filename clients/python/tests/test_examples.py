@@ -69,8 +69,10 @@ class Examples(Stores):
 
     def run_lines(self, text):
         """Runs each command line that a text shows, in a home that has what they name."""
-        self.write("mail/devel.mbox", mbox(mail("freeze", From="bdale@x.org", Subject="schedule",
-                                                Date="Fri, 14 May 2010 23:30:00 +0000")))
+        self.write("mail/devel.mbox", mbox(
+            mail("freeze", From="bdale@x.org", Subject="schedule",
+                 Date="Fri, 14 May 2010 23:30:00 +0000"),
+            mail("all for nothing", From="eve@x.org", Subject="advertisement")))
         self.write("Mail/cur/1000.a.host:2,S", mail("schedule", From="ada@x.org"))
         self.write("syslog", "Nov 26 11:15:56 host sshd: failed\n")
         self.write("service.json", '{"level": "error", "time": "2026-11-26T11:15:56Z"}\n')
