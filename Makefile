@@ -12,6 +12,8 @@ PREFIX = /usr/local
 BIN = $(DESTDIR)$(PREFIX)/bin
 LIB = $(DESTDIR)$(PREFIX)/lib/rubewola
 MAN = $(DESTDIR)$(PREFIX)/share/man/man1
+BASH_COMPLETIONS = $(DESTDIR)$(PREFIX)/share/bash-completion/completions
+ZSH_COMPLETIONS = $(DESTDIR)$(PREFIX)/share/zsh/site-functions
 # The interpreter that runs the installed client: a real one, and no version manager's shim.
 PYTHON = $(shell python3 -c 'import sys; print(sys.base_prefix + "/bin/python3")')
 
@@ -72,17 +74,20 @@ $(PROGRAM):
 	cd crates/pk_find && rt run -- --version
 
 # make install PREFIX=~/.local: the program, the client as `rubewola`, the Python package below
-# lib/rubewola, compiled, and the manuals. Python finds the package with PYTHONPATH=PREFIX/lib/rubewola.
+# lib/rubewola, compiled, the manuals, and completions for bash and zsh. Python finds the package with PYTHONPATH=PREFIX/lib/rubewola.
 install: $(PROGRAM)
-	install -d $(BIN) $(LIB)/rubewola $(MAN)
+	install -d $(BIN) $(LIB)/rubewola $(MAN) $(BASH_COMPLETIONS) $(ZSH_COMPLETIONS)
 	install -m 755 $(PROGRAM) $(BIN)/pk_find
 	sed '1s|.*|#!$(PYTHON) -SI|' clients/python/entry.py > $(BIN)/rubewola
 	chmod 755 $(BIN)/rubewola
 	install -m 644 clients/python/rubewola/*.py $(LIB)/rubewola
 	$(PYTHON) -m compileall -q -s "$(DESTDIR)" $(LIB)/rubewola
 	install -m 644 man/pk_find.1 man/rubewola.1 $(MAN)
+	install -m 644 clients/completions/rubewola.bash $(BASH_COMPLETIONS)/rubewola
+	install -m 644 clients/completions/_rubewola $(ZSH_COMPLETIONS)/_rubewola
 
 # Takes away what install put there.
 uninstall:
 	rm -f $(BIN)/pk_find $(BIN)/rubewola $(MAN)/pk_find.1 $(MAN)/rubewola.1
+	rm -f $(BASH_COMPLETIONS)/rubewola $(ZSH_COMPLETIONS)/_rubewola
 	rm -rf $(LIB)

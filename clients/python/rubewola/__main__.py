@@ -11,6 +11,7 @@ from .store import StoreError
 from .told import InputRefused, Misused, tell
 
 HELP, VERSION = ("--help", "-h", "help"), ("--version", "-V")
+COMPLETE = "--complete"  # For the shells' completions: what the last word may become.
 
 
 def help_text() -> str:
@@ -29,6 +30,10 @@ def done(words: list[str]) -> int:
     if name in HELP or name in VERSION:
         actions.put([f"rubewola {commands.VERSION}" if name in VERSION else help_text().rstrip()])
         return 0 if words else 2
+    if name == COMPLETE:
+        from . import completing
+        actions.put(completing.candidates(rest))
+        return 0
     if name not in commands.COMMANDS:
         raise Misused(f"{name} is no command; `rubewola --help` names them")
     command = commands.COMMANDS[name]

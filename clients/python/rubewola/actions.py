@@ -59,7 +59,7 @@ def _lines(given: Given, results: searching.Results, words: list[str]) -> object
 
 def _columns() -> int:
     try:
-        return os.get_terminal_size(sys.stdout.fileno()).columns
+        return os.get_terminal_size(sys.stdout.fileno()).columns or WIDTH
     except OSError:
         return WIDTH
 

@@ -49,7 +49,7 @@ class Command(namedtuple("Command", ("name", "run", "words", "help", "options", 
         return f"rubewola {self.name}{options} {self.stores} {self.words}".rstrip()
 
 
-_STORE = Option("--store", "the store, in place of the first word", "STORE", "-s")
+STORE_OPTION = Option("--store", "the store, in place of the first word", "STORE", "-s")
 
 
 class Given:
@@ -57,7 +57,7 @@ class Given:
 
     def __init__(self, command: Command, words: list[str]) -> None:
         self.command, self.words, self.options = command, [], {}
-        known = {name: option for option in (*command.options, _STORE)
+        known = {name: option for option in (*command.options, STORE_OPTION)
                  for name in (option.name, option.short) if name}
         rest = iter(words)
         for word in rest:
@@ -81,7 +81,7 @@ class Given:
             self.options[option.key] = True
             return
         read = option.read(value if equals else self._next(option, rest))
-        if option is _STORE:
+        if option is STORE_OPTION:
             self.options.setdefault(option.key, []).append(read)
         else:
             self.options[option.key] = read
@@ -109,7 +109,7 @@ class Given:
 def help_of(command: Command) -> str:
     """The help of a command."""
     shown = [(f"{option.short}, {option}" if option.short else str(option), option.help)
-             for option in (*command.options, *([_STORE] if command.stores else []))]
+             for option in (*command.options, *([STORE_OPTION] if command.stores else []))]
     width = max((len(name) for name, _ in shown), default=0)
     lines = [f"  {name:{width}}  {told}" for name, told in shown]
     return "\n".join([f"usage: {command.usage}", "", command.help, *([""] if lines else []), *lines])

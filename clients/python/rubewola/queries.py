@@ -16,7 +16,7 @@ if TYPE_CHECKING:
 
 FIELDS = ("from", "to", "cc", "subject", "list", "attachment", "date", "id", "path")
 
-_OPERATORS = ("AND", "OR", "NOT")
+OPERATORS = ("AND", "OR", "NOT")
 _JOINERS = "\u200c\u200d"  # Within words of Persian and others; they steer nothing.
 
 
@@ -179,7 +179,7 @@ def _program_text(name: str, value: str, typed: str, place: int, today: datetime
 def _notes(token: Token, chunks: list[Token]) -> Iterator[Note]:
     """What a chunk does not mean, where it looks as if it did."""
     text, place = token.text, token.place
-    if text.upper() in _OPERATORS and text not in _OPERATORS:
+    if text.upper() in OPERATORS and text not in OPERATORS:
         is_first, is_last = token is chunks[0], token is chunks[-1]
         if not is_last and (not is_first or text.upper() == "NOT"):
             yield Note(f'"{text}" is a word here; the operator is {text.upper()}', place)
