@@ -1,8 +1,9 @@
 """Measures a first load of a maildir, its disk, finds, a kill in its midst and a second writer.
 
-    measure.py DATA MAILS [shards | log | once]
+    measure.py DATA MAILS [shards | log | starts | once]
 
-With `shards` or `log` it measures these alone, with `once` one load of each, its disk and finds.
+With `shards`, `log` or `starts` it measures these alone, with `once` one load of each, its disk and
+finds.
 DATA/mails/maildir has the mails, DATA/log a syslog.
 Each system is a command line that loads all of them, one that counts those with a word, and a
 folder that it keeps; absent ones are skipped. Systems take turns in loading. Times are of whole
@@ -30,8 +31,10 @@ LOADS = 3
 ASKED = 9
 SHARDS = 4
 WORDS = ["zymotic", "water"]
+STARTS = 21
 FTS = [sys.executable, os.path.abspath(__file__), "fts"]
-RUBEWOLA = [sys.executable, "-m", "rubewola"]
+# The installed client; RUBEWOLA names it.
+RUBEWOLA = [os.environ.get("RUBEWOLA", "rubewola")]
 
 
 class System:
@@ -133,6 +136,27 @@ def timed(system, word):
     return f"{statistics.median(times) * 1e3:.0f} ms ({number:,})"
 
 
+def starts(data, word):
+    """A table of whole processes that answer how many mails have a word, beside Python's start;
+    they take turns. The stores are those that are there."""
+    interpreter = open(shutil.which(RUBEWOLA[0]), encoding="utf-8").readline()[2:].split()
+    asked = {"Python alone, `-SI -c pass`": [*interpreter, "-c", "pass"]}
+    asked |= {system.name: [part.replace("WORD", word) for part in system.count]
+              for system in systems(data) if "jobs" not in system.name}
+    times = {name: [] for name in asked}
+    for _ in range(STARTS):
+        for name, line in asked.items():
+            start = time.perf_counter()
+            subprocess.run(line, check=False, capture_output=True)
+            times[name].append((time.perf_counter() - start) * 1e3)
+    floor = min(next(iter(times.values())))
+    rows = [f"| {name} | {min(taken):.1f} | {statistics.median(taken):.1f} "
+            f"| {min(taken) / floor:.2f} |" for name, taken in times.items()]
+    return "\n".join([f"Starts, `{word}`, whole processes in turns:", "",
+                      f"| | least of {STARTS}, ms | median | times Python's |",
+                      "|---|---|---|---|", *rows])
+
+
 def log_systems(data):
     """Those that load a log."""
     made, log = data / "stores", str(data / "log")
@@ -152,7 +176,8 @@ def logs(data):
     measured = log_systems(data)
     seconds = best_loads(measured)
     rows = [f"| {system.name} | {least:.1f} s | {count / least:,.0f} "
-            f"| {system.disk() / 1e6:.1f} MB | {timed(system, 'dhcprequest')} |" for system, least in zip(measured, seconds)]
+            f"| {system.disk() / 1e6:.1f} MB | {timed(system, 'dhcprequest')} |"
+            for system, least in zip(measured, seconds)]
     return "\n".join([f"A syslog of {count:,} lines, {size / 1e6:.1f} MB:", "",
                       "| | first load | lines a second | disk | find dhcprequest |",
                       "|---|---|---|---|---|", *rows])
@@ -273,8 +298,9 @@ def main():
         wanted = system.ask(words[1])
         asked = (system, seconds, words[1], wanted)
         row += [killed(*asked), second(*asked)]
-        print("| " + " | ".join(row) + " |", flush=True)
-    print(f"\n{note}\n{shards(data, words[1])}\n\n{logs(data)}\nload {os.getloadavg()[0]:.1f}")
+        print("| " + " | ".join(row) + f" | load {os.getloadavg()[0]:.1f}", flush=True)
+    print(f"\n{note}\n{shards(data, words[1])}", flush=True)
+    print(f"\n{logs(data)}\n\n{starts(data, words[0])}\nload {os.getloadavg()[0]:.1f}")
 
 
 if __name__ == "__main__":
@@ -282,6 +308,8 @@ if __name__ == "__main__":
         fts(*sys.argv[2:])
     elif sys.argv[3:] == ["log"]:
         print(logs(pathlib.Path(sys.argv[1]).absolute()))
+    elif sys.argv[3:] == ["starts"]:
+        print(starts(pathlib.Path(sys.argv[1]).absolute(), WORDS[0]))
     elif sys.argv[3:] == ["once"]:
         once(pathlib.Path(sys.argv[1]).absolute(), WORDS)
     elif sys.argv[3:]:

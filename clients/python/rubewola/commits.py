@@ -1,10 +1,10 @@
 """Commits, and the segments that they leave.
 
-Each commit of new documents leaves a segment, and a tidy makes one of eight. Behind each eighth
-commit of the loaders comes a tidy, behind each 64th another, and so on, as a number is carried whose
-digits are eights. So a store has as many segments as that number's digits have together, at most
-seven for each, and a text is written anew at most once for each digit. The number stays in the
-store: a document of each commit has it as a word.
+Each commit of new documents leaves a segment, and a tidy makes one of eight neighbours. So behind
+each eighth commit of the loaders comes one, which makes a segment of eight commits, behind each
+eighth of these one more, which makes one of 64, and so on. Where they are fewer than 16 of a size
+they are left: so there are at most 15 of each, and a text is written anew at most once for each size.
+The number of commits stays in the store: a document of each has it as a word.
 """
 
 from __future__ import annotations
@@ -37,7 +37,7 @@ def add(store: Store, texts: list[bytes]) -> int:
     added = sum(1 for _ in store.add_all(_marked(texts, number)))
     commit(store)
     if added:
-        _carry(store, number)
+        _tidy(store, number)
     return added
 
 
@@ -57,14 +57,14 @@ def _marked(texts: list[bytes], number: int) -> list[bytes]:
     return texts
 
 
-def _carry(store: Store, number: int) -> None:
-    """Tidies behind a commit of this number. Where there is no room for it, as many segments stay
-    as there are."""
-    while number % MERGED == 0:
+def _tidy(store: Store, number: int) -> None:
+    """Tidies behind a commit of this number as often as it is time. Where there is no room for it,
+    as many segments stay as there are."""
+    while number % MERGED == 0 and number >= 2 * MERGED:
         try:
             store.tidy()
         except Refused as refused:
             if isinstance(refused, Full) or refused.reason == "segment too large":
                 return
             raise
-        number //= MERGED
+        number = number // MERGED - 1  # How many segments of the next size there were.

@@ -135,15 +135,18 @@ class Commands(Stores):
         self.run_line("missing", "check", status=2)
 
     def test_segments_stay_few(self):
-        log, most = self.folder / "log", 0
+        log, counts = self.folder / "log", []
         with mock.patch.object(Store, "tidy", autospec=True, side_effect=Store.tidy) as tidy:
-            for number in range(1, 130):
+            for number in range(1, 146):
                 self.write("log", "".join(f"zeile{line}\n" for line in range(number)))
                 loading.load(str(self.store), loading.Logs(str(log)), jobs=1)
-                most = max(most, Store.check(self.store).segments)
-        # In eights 129 is 201, and of the numbers before it 177, which is 127, has the most.
-        self.assertEqual(Store.check(self.store), (129, 130, 3))
-        self.assertEqual((most, tidy.call_count), (15, 129 // 8 + 129 // 64))
+                counts.append(Store.check(self.store).segments)
+        # Behind the 16th commit eight become one, behind the 24th eight more, and so on. Behind the
+        # 136th there are 16 such, of which eight become one: 8, 8 and 1 are left.
+        self.assertEqual([counts[at - 1] for at in (15, 16, 24, 127, 135, 136, 144)],
+                         [15, 9, 10, 29, 30, 17, 18])
+        self.assertEqual((max(counts), tidy.call_count), (30, 144 // 8 - 1 + 1))
+        self.assertEqual(Store.check(self.store), (145, 146, 19))
 
     def test_a_bar_on_a_terminal(self):
         terminal, other = os.openpty()
