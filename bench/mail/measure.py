@@ -27,7 +27,7 @@ from rubewola.documents import document
 from rubewola.maildirs import Maildirs
 from rubewola.mails import mail
 
-LOADS = 3
+LOADS = int(os.environ.get("LOADS", "3"))
 ASKED = 9
 SHARDS = 4
 WORDS = ["zymotic", "water"]

@@ -1,4 +1,4 @@
-"""What the commands do. Each gives its status: 0, 1 where nothing was found, 2 where that was told."""
+"""What the commands do. Each gives its status, 0, or 1 where something was not found."""
 
 from __future__ import annotations
 

@@ -37,8 +37,7 @@ class Option(namedtuple("Option", ("name", "help", "value", "short"), defaults=(
         return f"{self.name} {self.value}".strip()
 
 
-class Command(namedtuple("Command", ("name", "run", "words", "help", "options", "stores"),
-                         defaults=((), "STORE"))):
+class Command(namedtuple("Command", ("name", "run", "words", "help", "options"), defaults=((),))):
     """A command: the function of `actions` that does it; what its words are, with `..` behind those
     of which there may be many, in brackets where there need be none; its options."""
 
@@ -46,7 +45,7 @@ class Command(namedtuple("Command", ("name", "run", "words", "help", "options", 
     def usage(self) -> str:
         """How it is written."""
         options = "".join(f" [{option}]" for option in self.options)
-        return f"rubewola {self.name}{options} {self.stores} {self.words}".rstrip()
+        return f"rubewola {self.name}{options} STORE {self.words}".rstrip()
 
 
 STORE_OPTION = Option("--store", "the store, in place of the first word", "STORE", "-s")
@@ -97,10 +96,8 @@ class Given:
         word."""
         stores = self.options.pop("store", None)
         stores = stores or [one for one in [os.environ.get(STORE)] if one]
-        if not stores and self.command.stores:
+        if not stores:
             stores, self.words = self.words[:1], self.words[1:]
-        if not self.command.stores:
-            return []
         if not stores or len(stores) > 1 and self.command.name != "search":
             raise Misused(f"usage: {self.command.usage}")
         return stores
@@ -109,7 +106,7 @@ class Given:
 def help_of(command: Command) -> str:
     """The help of a command."""
     shown = [(f"{option.short}, {option}" if option.short else str(option), option.help)
-             for option in (*command.options, *([STORE_OPTION] if command.stores else []))]
-    width = max((len(name) for name, _ in shown), default=0)
+             for option in (*command.options, STORE_OPTION)]
+    width = max(len(name) for name, _ in shown)
     lines = [f"  {name:{width}}  {told}" for name, told in shown]
-    return "\n".join([f"usage: {command.usage}", "", command.help, *([""] if lines else []), *lines])
+    return "\n".join([f"usage: {command.usage}", "", command.help, "", *lines])

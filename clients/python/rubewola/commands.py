@@ -24,7 +24,7 @@ _ALL = (
         Option("--count", "only how many"),
         Option("--format", "what is told of each (default: text)", "text|json|paths"),
         Option("--context", "with a line of the text round the words; so on a terminal"),
-        Option("--null", "a NUL in place of each line's end", short="-0")), "STORE"),
+        Option("--null", "a NUL in place of each line's end", short="-0"))),
     Command("show", "show", "N ..", "prints the texts of documents by their numbers"),
     Command("delete", "delete", "[N ..]", "deletes documents, and commits", (
         Option("--query", "those that satisfy a query", "QUERY"),)),

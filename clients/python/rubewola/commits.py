@@ -3,8 +3,8 @@
 Each commit of new documents leaves a segment, and a tidy makes one of eight neighbours. So behind
 each eighth commit of the loaders comes one, which makes a segment of eight commits, behind each
 eighth of these one more, which makes one of 64, and so on. Where they are fewer than 16 of a size
-they are left: so there are at most 15 of each, and a text is written anew at most once for each size.
-The number of commits stays in the store: a document of each has it as a word.
+they are left: so there are at most 15 of each, and a text is written anew at most once for each
+size. The number of commits stays in the store: a document of each has it as a word.
 """
 
 from __future__ import annotations

@@ -27,7 +27,8 @@ def of(store: Store) -> list[str]:
     counts = store.count()
     kinds = zip(KINDS, list(store.find_all(SIGN + kind for kind in KINDS)))
     told = ", ".join(f"{len(numbers):,} {kind}" for kind, numbers in kinds if numbers)
-    return [f"documents  {counts.live:,}{f' ({told})' if told else ''}, next number {counts.next:,}",
+    told = f" ({told})" if told else ""
+    return [f"documents  {counts.live:,}{told}, next number {counts.next:,}",
             f"days       {' to '.join(_days(store)) or 'none'}"]
 
 

@@ -13,7 +13,8 @@ _MAYBE_UNSEEN = re.compile("[\xad\u034f\u061c\u180e\u200c-\u200f\u202a-\u202e\u2
                            "\ufeff\ufff9-\ufffb]")
 # Letters that `_` joins to nothing: ideographs, hiragana, and writing without spaces as Thai.
 ALONE = ("[\u0e00-\u0eff\u1000-\u109f\u1780-\u17ff\u1950-\u19df\u1a20-\u1aaf"
-         "\u3005-\u3007\u3021-\u3029\u3031-\u309f\u3400-\u4dbf\u4e00-\u9fff\ua9e0-\ua9ff\uaa60-\uaadf"
+         "\u3005-\u3007\u3021-\u3029\u3031-\u309f\u3400-\u4dbf\u4e00-\u9fff"
+         "\ua9e0-\ua9ff\uaa60-\uaadf"
          "\uf900-\ufaff\U00011700-\U0001174f\U00016fe0-\U00018dff\U0001b000-\U0001b2ff"
          "\U00020000-\U0003ffff]")
 _ALONE = re.compile(ALONE)

@@ -45,8 +45,8 @@ class Progress:
                 loaded, seconds = loaded + len(chunk), time.monotonic() - self._begin
                 if self._is_seen and seconds > self._drawn + DRAWN:
                     self._drawn, (done, told) = seconds, self._told()
-                    bar = "#" * int(done * _WIDTH)
-                    sys.stderr.write(f"\r[{bar:.<{_WIDTH}}] {done:4.0%}  {loaded:,} loaded  {told} ")
+                    bar = f"{'#' * int(done * _WIDTH):.<{_WIDTH}}"
+                    sys.stderr.write(f"\r[{bar}] {done:4.0%}  {loaded:,} loaded  {told} ")
         finally:
             if self._drawn:
                 sys.stderr.write("\r\x1b[K")

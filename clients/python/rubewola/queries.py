@@ -158,7 +158,8 @@ def _field(token: Token, typed: str, has_field: Callable[[str], bool],
     return _program_text(name, value, typed, place, today)
 
 
-def _program_text(name: str, value: str, typed: str, place: int, today: datetime.date | None) -> str:
+def _program_text(name: str, value: str, typed: str, place: int,
+                  today: datetime.date | None) -> str:
     if name == "id":
         return asked("id", value.strip("<>"))
     if name == "path":

@@ -16,9 +16,8 @@ LONGEST_NAME = 1_024
 # The letters and digits of ASCII, folded; all else of it is a space.
 _FOLDED = {at: chr(at).lower() if chr(at).isalnum() else " " for at in range(128)}
 # How bytes stand in a name; a message id keeps its capitals, which count for nothing in it.
-_SPELLED = [chr(at) if chr(at).isalnum() and at < 128 and chr(at).lower() == chr(at) else f"_{at:02X}"
-            for at in range(256)]
 _SPELLED_ID = [chr(at) if chr(at).isalnum() and at < 128 else f"_{at:02X}" for at in range(256)]
+_SPELLED = [f"_{at:02X}" if chr(at).isupper() else kept for at, kept in enumerate(_SPELLED_ID)]
 
 
 def clean(text: str) -> str:

@@ -67,7 +67,7 @@ class Examples(Stores):
         subprocess.run(line, check=True)
         self.assert_found({"one two": [1], "NOT one": [3]})
 
-    def run_lines(self, text):
+    def run_lines(self, text, least=10):
         """Runs each command line that a text shows, in a home that has what they name."""
         self.write("mail/devel.mbox", mbox(
             mail("freeze", From="bdale@x.org", Subject="schedule",
@@ -78,7 +78,7 @@ class Examples(Stores):
         self.write("service.json", '{"level": "error", "time": "2026-11-26T11:15:56Z"}\n')
         self.write("journal", '{"__CURSOR": "c", "__REALTIME_TIMESTAMP": "1", "MESSAGE": "x"}\n')
         lines = re.findall(r"(?m)^ *\$ (.*)$", text)
-        self.assertGreater(len(lines), 7)
+        self.assertGreaterEqual(len(lines), least)
         for line in lines:
             with self.subTest(line):
                 self.said(line.replace("journalctl -o json", "cat journal"), status=0)
@@ -86,6 +86,11 @@ class Examples(Stores):
     def test_the_manual(self):
         told = (TOP / "man/rubewola.1").read_text("utf-8")
         self.run_lines(told[told.index(".Sh EXAMPLES"):])
+
+    def test_the_readme(self):
+        told = (TOP / "README.md").read_text("utf-8")
+        lines = re.findall(r"(?m)^\$ rubewola .*\n", told)
+        self.run_lines("".join(lines), least=4)
 
     def test_the_help(self):
         self.run_lines(self.said("rubewola --help", status=0))
