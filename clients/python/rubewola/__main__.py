@@ -37,7 +37,7 @@ def done(words: list[str]) -> int:
     if name not in commands.COMMANDS:
         raise Misused(f"{name} is no command; `rubewola --help` names them")
     command = commands.COMMANDS[name]
-    if any(word in HELP[:2] for word in rest[:1]):
+    if set(rest[:rest.index("--")] if "--" in rest else rest) & set(HELP[:2]):
         actions.put([help_of(command)])
         return 0
     return getattr(actions, command.run)(Given(command, rest))
@@ -60,7 +60,7 @@ def main() -> int:
         tell(str(error))
         return 2
     except KeyboardInterrupt:
-        print("\nrubewola: stopped; what is committed stays", file=sys.stderr)
+        tell("stopped; what is committed stays")
         return 130
 
 

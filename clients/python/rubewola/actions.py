@@ -50,11 +50,11 @@ def _lines(given: Given, results: searching.Results, words: list[str]) -> object
     them."""
     form, limit = given.options.get("format", "text"), given.options.get("limit", sys.maxsize)
     documents = results.newest(limit)
-    is_seen = form == "text" and sys.stdout.isatty() and "null" not in given.options
-    if not is_seen and "context" not in given.options:
+    is_seen = sys.stdout.isatty() and "null" not in given.options
+    if form != "text" or not is_seen and "context" not in given.options:
         return map(searching.FORMATS[form], documents)
     from . import marks
-    return marks.lines(documents, words, form, _columns() if is_seen else WIDTH, is_seen)
+    return marks.lines(documents, words, _columns() if is_seen else WIDTH, is_seen)
 
 
 def _columns() -> int:

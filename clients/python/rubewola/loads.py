@@ -32,5 +32,6 @@ def load(given: Given) -> int:
         os._exit(2)  # What waits for the process that was ended would wait for ever.
     for note in getattr(source, "notes", ()):
         tell(note)
-    print(f"loaded {loaded} in {time.monotonic() - begin:.1f} s", file=sys.stderr)
+    if sys.stderr:
+        print(f"loaded {loaded} in {time.monotonic() - begin:.1f} s", file=sys.stderr)
     return 0

@@ -6,7 +6,7 @@ import re
 
 from .letters import ALONE
 from .queries import plain
-from .searching import FORMATS
+from .searching import as_line
 from .words import clean
 
 TYPE_CHECKING = False
@@ -51,13 +51,13 @@ class Marks:
         return text[begin:begin + width]
 
 
-def lines(documents: Iterable[dict[str, Any]], typed: list[str], form: str, width: int,
+def lines(documents: Iterable[dict[str, Any]], typed: list[str], width: int,
           is_seen: bool) -> Iterator[str]:
     """A line for each document, and behind that of a mail one of its text; where they are seen by
     a person with the words marked."""
     marks = Marks(typed)
     show = marks.marked if is_seen else str
     for doc in documents:
-        yield show(FORMATS[form](doc))
+        yield show(as_line(doc))
         if "date" in doc and (line := marks.context(doc["text"], width - len(_INDENT))):
             yield _INDENT + show(line)

@@ -19,7 +19,8 @@ class Progress:
 
     def __init__(self, source: Any) -> None:
         self._source, self._begin, self._drawn = source, time.monotonic(), 0.0
-        self._is_seen, self._ahead, self._read = sys.stderr.isatty(), deque(), 0
+        self._is_seen = bool(sys.stderr) and sys.stderr.isatty()
+        self._ahead, self._read = deque(), 0
 
     def _told(self) -> tuple[float, str]:
         """Which part is read, and how fast, and what is left."""

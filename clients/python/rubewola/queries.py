@@ -136,7 +136,8 @@ def read(typed: str, has_field: Callable[[str], bool], today: datetime.date | No
         query.pieces.append((token.place, piece or guarded(token.text)))
         if not piece and token.is_chunk:
             query.notes.extend(_notes(token, chunks))
-            query.words.append(token.text)
+            if token.text not in OPERATORS:
+                query.words.append(token.text)
     return query
 
 

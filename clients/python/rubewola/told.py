@@ -14,8 +14,9 @@ class Misused(Exception):
 
 
 def tell(text: str) -> None:
-    """Says something that is no result."""
-    print(f"rubewola: {text}", file=sys.stderr)
+    """Says something that is no result, if there is where."""
+    if sys.stderr:
+        print(f"rubewola: {text}", file=sys.stderr)
 
 
 def waits() -> None:

@@ -1,7 +1,9 @@
 """The command line: what each command prints, tells, and gives as its status."""
 
 import contextlib
+import datetime
 import os
+import random
 import re
 import shutil
 import subprocess
@@ -9,7 +11,7 @@ import sys
 import unittest
 from unittest import mock
 
-from rubewola import Store, searching
+from rubewola import Store, days, documents, searching
 from rubewola.commands import COMMANDS, VERSION
 from rubewola.completing import candidates
 
@@ -37,6 +39,25 @@ class Commands(Stores):
                             (["zahl1 OR zahl3", "--limit", "1"], "1")]:
             said = self.run_line("wort|Ada", "search", *words).stdout
             self.assertEqual(" ".join(re.findall(r"(?m)^\d+", said)), told, words)
+
+    def test_the_newest_of_many(self):
+        draw, day = random.Random(3), datetime.date(1965, 1, 1)
+        dates = [draw.choice([None, day + datetime.timedelta(draw.randrange(51_000)),
+                              datetime.date(2010, 5, draw.randrange(1, 4))]) for _ in range(300)]
+        texts = [documents.document("log", "zeile", days.words_of(date))[0] for date in dates]
+        order = sorted(range(300), key=lambda at: (str(dates[at] or ""), at))
+        # Those outside the years of ranges are ordered by number where they are too many.
+        inner = [at + 4 for at in order if not dates[at] or 1970 <= dates[at].year <= 2099]
+        with Store(self.store) as store:
+            list(store.add_all(texts))
+            for number in {*range(4, 304)} - {*inner}:
+                store.delete(number)
+            found = searching.answer(store, "zeile OR nichts")
+            for count in [*range(1, len(inner) + 2, 7), 2]:
+                self.assertEqual(sorted(searching.newest(store, found, count)),
+                                 sorted(inner[-count:]), count)
+            long = searching.answer(store, " OR ".join(["zeile"] * 455))
+            self.assertEqual(searching.newest(store, long, 3), found.numbers[-3:])
 
     def test_several_stores(self):
         other = self.folder / "t"
