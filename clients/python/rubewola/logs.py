@@ -273,23 +273,25 @@ def _whole_lines(stream: BinaryIO, source: Input, notes: list[str]) -> Iterator[
     """The lines of a stream, so many at once as a process decodes. A last one without its end is
     left out where more may come."""
     rest = b""
-    while data := stream.read(CHUNK_BYTES):
-        data = rest + data
-        end = data.rfind(_LINE_END) + 1
-        yield from _few_lines(data[:end])
-        rest = data[end:]
-    if rest and source.grows:
+    while data := stream.read(max(CHUNK_BYTES, len(rest)) // 4):
+        *pieces, rest = _pieces(rest + data)
+        yield from pieces
+    end = rest.rfind(_LINE_END) + 1 if source.grows else len(rest)
+    if rest[:end]:
+        yield rest[:end]
+    if rest[end:]:
         notes.append(f"{source.path}: its last line has no end yet, and waits for the next load")
-    elif rest:
-        yield rest
 
 
-def _few_lines(data: bytes) -> Iterator[bytes]:
-    """Whole lines in pieces of as many as may be added at once."""
+def _pieces(data: bytes) -> Iterator[bytes]:
+    """Whole lines in pieces of as many as may be added at once, and last the rest."""
     start = 0
     for count, found in enumerate(re.finditer(_LINE_END, data), 1):
         if count % CHUNK_ITEMS == 0:
             yield data[start:found.end()]
             start = found.end()
-    if data[start:]:
-        yield data[start:]
+    end = data.rfind(_LINE_END) + 1
+    if end - start > CHUNK_BYTES * 3 // 4:
+        yield data[start:end]
+        start = end
+    yield data[start:]

@@ -6,6 +6,7 @@ import fcntl
 import os
 
 LEAST_PIPE = 4_096  # Bytes that fit into every pipe.
+WANTED_PIPE = 1_048_576  # Bytes that fit where the system allows it: so neither side waits often.
 _KILLED = 9
 
 
@@ -53,6 +54,10 @@ class Program:
 def _pipe() -> list[int]:
     """A pipe whose ends are none of the standard streams, also where one of these is closed."""
     ends = os.pipe()
+    try:
+        fcntl.fcntl(ends[0], fcntl.F_SETPIPE_SZ, WANTED_PIPE)
+    except (AttributeError, OSError):
+        pass  # Not every system does, nor for everybody.
     moved = [fcntl.fcntl(end, fcntl.F_DUPFD_CLOEXEC, 3) if end < 3 else end for end in ends]
     for end in set(ends) - set(moved):
         os.close(end)
