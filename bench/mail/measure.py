@@ -142,7 +142,7 @@ def starts(data, word):
     interpreter = open(shutil.which(RUBEWOLA[0]), encoding="utf-8").readline()[2:].split()
     asked = {"Python alone, `-SI -c pass`": [*interpreter, "-c", "pass"]}
     asked |= {system.name: [part.replace("WORD", word) for part in system.count]
-              for system in systems(data) if "jobs" not in system.name}
+              for system in systems(data) if system.name in ("Rubewola", "notmuch", "mu")}
     times = {name: [] for name in asked}
     for _ in range(STARTS):
         for name, line in asked.items():

@@ -67,7 +67,7 @@ def of_line(line: str, written: date) -> date | None:
 
 @lru_cache(maxsize=4_096)
 def _day(stamp: re.Pattern[str], parts: tuple[str, ...], written: date) -> date | None:
-    """The day of a stamp's parts, if they are those of one."""
+    """The day of what a stamp has, in the order of its groups, if it is one."""
     told = {name: parts[at - 1] for name, at in stamp.groupindex.items()}
     with suppress(ValueError, OverflowError):
         return _told_day(told, written)
@@ -75,6 +75,7 @@ def _day(stamp: re.Pattern[str], parts: tuple[str, ...], written: date) -> date 
 
 
 def _told_day(told: dict[str, str], written: date) -> date | None:
+    """The day that a stamp's parts tell; an error where they are those of none."""
     if told.get("seconds"):
         return datetime.datetime.fromtimestamp(int(told["seconds"]), timezone.utc).date()
     month = int(told.get("number") or _MONTHS.index(told["month"]) + 1)

@@ -117,13 +117,13 @@ def entries_of(read: Read, kind: str, parsed: Callable[[bytes, date], Line],
     lines = read.lines.split(_LINE_END)
     if not lines[-1]:
         lines.pop()
-    entries, last = [], len(lines) - 1
+    entries, last, query = [], len(lines) - 1, f"{read.first} {read.begin}"
     for at, line in enumerate(lines):
         text, words, unreadable = parsed(line.rstrip(b"\r"), read.written)
         if at in (0, last):
             words = [*read.marks, *words]
         data, is_cut = document(kind, text, words, with_parts)
-        entries.append(Entry(data, f"{read.first} {read.begin}", 0, is_cut, unreadable))
+        entries.append(Entry(data, query, 0, is_cut, unreadable))
     return entries
 
 
