@@ -1,9 +1,9 @@
 """Measures a first load of a maildir, its disk, finds, a kill in its midst and a second writer.
 
-    measure.py DATA MAILS [shards | log | starts | once]
+    measure.py DATA MAILS [shards | log | growth | starts | once]
 
-With `shards`, `log` or `starts` it measures these alone, with `once` one load of each, its disk and
-finds.
+With `shards`, `log` or `starts` it measures these alone, with `growth` how fast each fifth of a load
+of the log is, with `once` one load of each, its disk and finds.
 DATA/mails/maildir has the mails, DATA/log a syslog.
 Each system is a command line that loads all of them, one that counts those with a word, and a
 folder that it keeps; absent ones are skipped. Systems take turns in loading. Times are of whole
@@ -14,6 +14,7 @@ import itertools
 import os
 import pathlib
 import platform
+import re
 import shutil
 import signal
 import sqlite3
@@ -183,6 +184,28 @@ def logs(data):
                       "|---|---|---|---|---|", *rows])
 
 
+def growth(data):
+    """How many lines a second each fifth of a load of the log took, by the lines that tell of its
+    commits, and the segments at its end."""
+    system, start = log_systems(data)[0], time.perf_counter()
+    system.clear()
+    commits = [(0, 0.0)]
+    for line in (running := system.start()).stdout:
+        if told := re.match(r"(?:rubewola: )?(?:loaded )?([\d,]+) (?:loaded|documents)", line):
+            commits.append((int(told[1].replace(",", "")), time.perf_counter() - start))
+    running.wait()
+    whole, seconds = commits[-1]
+    rates = []
+    for fifth in range(5):
+        (first, begin), *_, (last, end) = (
+            one for one in commits if whole * fifth <= 5 * one[0] <= whole * (fifth + 1))
+        rates.append((last - first) / (end - begin))
+    segments = Store.check(system.folder / "s").segments
+    return (f"{whole:,} lines in {seconds:.0f} s, {segments} segments; lines a second in each fifth: "
+            f"{', '.join(f'{rate:,.0f}' for rate in rates)}; the last to the first "
+            f"{rates[-1] / rates[0]:.2f}")
+
+
 def best_loads(measured):
     """The least seconds of a load of each system, which take turns."""
     rounds = [[load(system) for system in measured] for _ in range(LOADS)]
@@ -308,6 +331,8 @@ if __name__ == "__main__":
         fts(*sys.argv[2:])
     elif sys.argv[3:] == ["log"]:
         print(logs(pathlib.Path(sys.argv[1]).absolute()))
+    elif sys.argv[3:] == ["growth"]:
+        print(growth(pathlib.Path(sys.argv[1]).absolute()))
     elif sys.argv[3:] == ["starts"]:
         print(starts(pathlib.Path(sys.argv[1]).absolute(), WORDS[0]))
     elif sys.argv[3:] == ["once"]:
