@@ -52,9 +52,8 @@ def _marked(texts: list[bytes], number: int) -> list[bytes]:
     """The texts, of which the last that has room says in which commit it comes."""
     mark = "".join(f" {word}" for word in (_COMMIT, *named("commit", str(number)))).encode()
     fitting = (at for at in reversed(range(len(texts))) if len(texts[at]) + len(mark) <= MOST_BYTES)
-    for at in list(fitting)[:1]:
-        return [*texts[:at], texts[at] + mark, *texts[at + 1:]]
-    return texts
+    at = next(fitting, None)
+    return texts if at is None else [*texts[:at], texts[at] + mark, *texts[at + 1:]]
 
 
 def _tidy(store: Store, number: int) -> None:
