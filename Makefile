@@ -74,7 +74,8 @@ $(PROGRAM):
 	cd crates/pk_find && rt run -- --version
 
 # make install PREFIX=~/.local: the program, the client as `rubewola`, the Python package below
-# lib/rubewola, compiled, the manuals, and completions for bash and zsh. Python finds the package with PYTHONPATH=PREFIX/lib/rubewola.
+# lib/rubewola, compiled, the manuals, and completions for bash and zsh. Python finds the package
+# with PYTHONPATH=PREFIX/lib/rubewola.
 install: $(PROGRAM)
 	install -d $(BIN) $(LIB)/rubewola $(MAN) $(BASH_COMPLETIONS) $(ZSH_COMPLETIONS)
 	install -m 755 $(PROGRAM) $(BIN)/pk_find
