@@ -1,19 +1,28 @@
 # Each target is one command, and can be typed by hand in its place.
 # demo and try run a session of the program; test is the merge gate, memory what comes after it;
-# check proves what has changed; mutants tries wrong bodies where a contract has changed; install puts
-# the program, its client and their manuals in place.
+# check proves what has changed; mutants tries wrong bodies where a contract has changed; soak kills
+# what an archive over machines runs; install puts the program, its client and their manuals in place.
 
 SESSION = examples/mail.lines
 PROGRAM = crates/pk_find/out/pk_find
 STORE = $(CURDIR)/demo.store
 UNITS = 4096
 
+# A Python that has distributed, with the client, its tests and the program.
+SHARDS = PYTHONPATH=$(CURDIR)/clients/python:$(CURDIR)/clients/python/tests \
+    RUBEWOLA_PROGRAM=$(CURDIR)/$(PROGRAM) \
+    $(or $(RUBEWOLA_PYTHON),$(wildcard /usr/bin/python3),python3) -W ignore
+
 PREFIX = /usr/local
 BIN = $(DESTDIR)$(PREFIX)/bin
 LIB = $(DESTDIR)$(PREFIX)/lib/rubewola
 MAN = $(DESTDIR)$(PREFIX)/share/man/man1
+BASH_COMPLETIONS = $(DESTDIR)$(PREFIX)/share/bash-completion/completions
+ZSH_COMPLETIONS = $(DESTDIR)$(PREFIX)/share/zsh/site-functions
+# The interpreter that runs the installed client: a real one, and no version manager's shim.
+PYTHON = $(shell python3 -c 'import sys; print(sys.base_prefix + "/bin/python3")')
 
-.PHONY: demo try test seals mutants client memory check fmt bench install uninstall
+.PHONY: demo try test seals mutants client soak memory check fmt bench install uninstall
 
 # Proves and builds the program, makes a store in a file, and answers a session over a small mail
 # archive.
@@ -43,10 +52,16 @@ seals:
 mutants:
 	python3 tools/mutants.py $(CRATES)
 
-# The tests of the Python client, over the built program.
+# The tests of the Python client, over the built program; then those of archives over machines, where
+# that Python has Debian's python3-distributed, with schedulers and workers on loopback.
 client:
 	PYTHONPATH=$(CURDIR)/clients/python RUBEWOLA_PROGRAM=$(CURDIR)/$(PROGRAM) \
 	    python3 -m unittest discover clients/python/tests
+	$(SHARDS) -m unittest discover clients/python/tests/shards
+
+# Kills sessions, workers, nannies, the scheduler and the loader by chance until a load is whole.
+soak:
+	$(SHARDS) tools/shards_soak.py
 
 # Refuses each request for memory in turn, over the test programs that `make test` left.
 memory:
@@ -69,16 +84,25 @@ bench:
 $(PROGRAM):
 	cd crates/pk_find && rt run -- --version
 
-# make install PREFIX=~/.local: the program, the client as `rubewola`, the Python package below
-# lib/rubewola, and the manuals. Python finds the package with PYTHONPATH=PREFIX/lib/rubewola.
+# make install PREFIX=~/.local: the program, the client as `rubewola` and `rubewola-shards`, the Python
+# packages below lib/rubewola, compiled, the manuals, and completions for bash and zsh. Python finds the
+# packages with PYTHONPATH=PREFIX/lib/rubewola.
 install: $(PROGRAM)
-	install -d $(BIN) $(LIB)/rubewola $(MAN)
+	install -d $(BIN) $(LIB)/rubewola $(LIB)/rubewola_shards $(MAN) $(BASH_COMPLETIONS) $(ZSH_COMPLETIONS)
 	install -m 755 $(PROGRAM) $(BIN)/pk_find
-	install -m 755 clients/python/rubewola.sh $(BIN)/rubewola
+	sed '1s|.*|#!$(PYTHON) -SI|' clients/python/entry.py > $(BIN)/rubewola
+	chmod 755 $(BIN)/rubewola
+	install -m 755 clients/python/rubewola-shards.sh $(BIN)/rubewola-shards
 	install -m 644 clients/python/rubewola/*.py $(LIB)/rubewola
-	install -m 644 man/pk_find.1 man/rubewola.1 $(MAN)
+	install -m 644 clients/python/rubewola_shards/*.py $(LIB)/rubewola_shards
+	$(PYTHON) -m compileall -q -s "$(DESTDIR)" $(LIB)/rubewola
+	install -m 644 man/pk_find.1 man/rubewola.1 man/rubewola-shards.1 $(MAN)
+	install -m 644 clients/completions/rubewola.bash $(BASH_COMPLETIONS)/rubewola
+	install -m 644 clients/completions/_rubewola $(ZSH_COMPLETIONS)/_rubewola
 
 # Takes away what install put there.
 uninstall:
-	rm -f $(BIN)/pk_find $(BIN)/rubewola $(MAN)/pk_find.1 $(MAN)/rubewola.1
+	rm -f $(BIN)/pk_find $(BIN)/rubewola $(BIN)/rubewola-shards
+	rm -f $(MAN)/pk_find.1 $(MAN)/rubewola.1 $(MAN)/rubewola-shards.1
+	rm -f $(BASH_COMPLETIONS)/rubewola $(ZSH_COMPLETIONS)/_rubewola
 	rm -rf $(LIB)

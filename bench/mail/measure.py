@@ -1,8 +1,9 @@
 """Measures a first load of a maildir, its disk, finds, a kill in its midst and a second writer.
 
-    measure.py DATA MAILS [shards | log | once]
+    measure.py DATA MAILS [shards | log | growth | starts | once]
 
-With `shards` or `log` it measures these alone, with `once` one load of each, its disk and finds.
+With `shards`, `log` or `starts` it measures these alone, with `growth` how fast each fifth of a load
+of the log is, with `once` one load of each, its disk and finds.
 DATA/mails/maildir has the mails, DATA/log a syslog.
 Each system is a command line that loads all of them, one that counts those with a word, and a
 folder that it keeps; absent ones are skipped. Systems take turns in loading. Times are of whole
@@ -13,6 +14,7 @@ import itertools
 import os
 import pathlib
 import platform
+import re
 import shutil
 import signal
 import sqlite3
@@ -26,12 +28,14 @@ from rubewola.documents import document
 from rubewola.maildirs import Maildirs
 from rubewola.mails import mail
 
-LOADS = 3
+LOADS = int(os.environ.get("LOADS", "3"))
 ASKED = 9
 SHARDS = 4
 WORDS = ["zymotic", "water"]
+STARTS = 21
 FTS = [sys.executable, os.path.abspath(__file__), "fts"]
-RUBEWOLA = [sys.executable, "-m", "rubewola"]
+# The installed client; RUBEWOLA names it.
+RUBEWOLA = [os.environ.get("RUBEWOLA", "rubewola")]
 
 
 class System:
@@ -133,6 +137,27 @@ def timed(system, word):
     return f"{statistics.median(times) * 1e3:.0f} ms ({number:,})"
 
 
+def starts(data, word):
+    """A table of whole processes that answer how many mails have a word, beside Python's start;
+    they take turns. The stores are those that are there."""
+    interpreter = open(shutil.which(RUBEWOLA[0]), encoding="utf-8").readline()[2:].split()
+    asked = {"Python alone, `-SI -c pass`": [*interpreter, "-c", "pass"]}
+    asked |= {system.name: [part.replace("WORD", word) for part in system.count]
+              for system in systems(data) if system.name in ("Rubewola", "notmuch", "mu")}
+    times = {name: [] for name in asked}
+    for _ in range(STARTS):
+        for name, line in asked.items():
+            start = time.perf_counter()
+            subprocess.run(line, check=False, capture_output=True)
+            times[name].append((time.perf_counter() - start) * 1e3)
+    floor = min(next(iter(times.values())))
+    rows = [f"| {name} | {min(taken):.1f} | {statistics.median(taken):.1f} "
+            f"| {min(taken) / floor:.2f} |" for name, taken in times.items()]
+    return "\n".join([f"Starts, `{word}`, whole processes in turns:", "",
+                      f"| | least of {STARTS}, ms | median | times Python's |",
+                      "|---|---|---|---|", *rows])
+
+
 def log_systems(data):
     """Those that load a log."""
     made, log = data / "stores", str(data / "log")
@@ -152,10 +177,33 @@ def logs(data):
     measured = log_systems(data)
     seconds = best_loads(measured)
     rows = [f"| {system.name} | {least:.1f} s | {count / least:,.0f} "
-            f"| {system.disk() / 1e6:.1f} MB | {timed(system, 'dhcprequest')} |" for system, least in zip(measured, seconds)]
+            f"| {system.disk() / 1e6:.1f} MB | {timed(system, 'dhcprequest')} |"
+            for system, least in zip(measured, seconds)]
     return "\n".join([f"A syslog of {count:,} lines, {size / 1e6:.1f} MB:", "",
                       "| | first load | lines a second | disk | find dhcprequest |",
                       "|---|---|---|---|---|", *rows])
+
+
+def growth(data):
+    """How many lines a second each fifth of a load of the log took, by the lines that tell of its
+    commits, and the segments at its end."""
+    system, start = log_systems(data)[0], time.perf_counter()
+    system.clear()
+    commits = [(0, 0.0)]
+    for line in (running := system.start()).stdout:
+        if told := re.match(r"(?:rubewola: )?(?:loaded )?([\d,]+) (?:loaded|documents)", line):
+            commits.append((int(told[1].replace(",", "")), time.perf_counter() - start))
+    running.wait()
+    whole, seconds = commits[-1]
+    rates = []
+    for fifth in range(5):
+        (first, begin), *_, (last, end) = (
+            one for one in commits if whole * fifth <= 5 * one[0] <= whole * (fifth + 1))
+        rates.append((last - first) / (end - begin))
+    segments = Store.check(system.folder / "s").segments
+    return (f"{whole:,} lines in {seconds:.0f} s, {segments} segments; lines a second in each fifth: "
+            f"{', '.join(f'{rate:,.0f}' for rate in rates)}; the last to the first "
+            f"{rates[-1] / rates[0]:.2f}")
 
 
 def best_loads(measured):
@@ -273,8 +321,9 @@ def main():
         wanted = system.ask(words[1])
         asked = (system, seconds, words[1], wanted)
         row += [killed(*asked), second(*asked)]
-        print("| " + " | ".join(row) + " |", flush=True)
-    print(f"\n{note}\n{shards(data, words[1])}\n\n{logs(data)}\nload {os.getloadavg()[0]:.1f}")
+        print("| " + " | ".join(row) + f" | load {os.getloadavg()[0]:.1f}", flush=True)
+    print(f"\n{note}\n{shards(data, words[1])}", flush=True)
+    print(f"\n{logs(data)}\n\n{starts(data, words[0])}\nload {os.getloadavg()[0]:.1f}")
 
 
 if __name__ == "__main__":
@@ -282,6 +331,10 @@ if __name__ == "__main__":
         fts(*sys.argv[2:])
     elif sys.argv[3:] == ["log"]:
         print(logs(pathlib.Path(sys.argv[1]).absolute()))
+    elif sys.argv[3:] == ["growth"]:
+        print(growth(pathlib.Path(sys.argv[1]).absolute()))
+    elif sys.argv[3:] == ["starts"]:
+        print(starts(pathlib.Path(sys.argv[1]).absolute(), WORDS[0]))
     elif sys.argv[3:] == ["once"]:
         once(pathlib.Path(sys.argv[1]).absolute(), WORDS)
     elif sys.argv[3:]:

@@ -1,6 +1,6 @@
 #!/bin/sh
 # Measures loading and searching 10,000 mails, beside notmuch, mu and SQLite FTS5, as far as they
-# are there, and a log of 300,000 lines. Nothing is installed.
+# are there, and a log of 300,000 lines, by a client that is installed below bench/mail/data alone.
 #   bench/mail/run.sh crates/pk_find/out/pk_find [MAILS [LINES]]
 # The text, the mails and all that is made of them lie in bench/mail/data.
 program=${1:?name the program}
@@ -12,5 +12,6 @@ data=$here/data
 rm -rf "$data/mails"
 python3 "$here/make_mails.py" "$data/source" "$data/mails" "$mails" || exit 1
 python3 "$here/make_log.py" "$data/log" "$lines" || exit 1
-PYTHONPATH=$here/../../clients/python RUBEWOLA_PROGRAM=$(realpath "$program") \
-    exec python3 "$here/measure.py" "$data" "$mails"
+make --silent -C "$here/../.." install PREFIX="$data/installed" PROGRAM="$(realpath "$program")" || exit 1
+PYTHONPATH=$data/installed/lib/rubewola RUBEWOLA=$data/installed/bin/rubewola \
+    RUBEWOLA_PROGRAM=$(realpath "$program") exec python3 "$here/measure.py" "$data" "$mails"

@@ -1,4 +1,4 @@
 """Rubewola from Python: sessions with a store, loaders of mails and logs, and search."""
 
-from .store import (BufferFull, Counts, Failed, Full, InUse, NoSuchDocument, QueryRefused, Refused,
-                    Store, StoreError, TooManySegments)
+from .store import (BufferFull, Checked, Counts, Failed, Full, InUse, NoSuchDocument, QueryRefused,
+                    Refused, Store, StoreError, TooManySegments)

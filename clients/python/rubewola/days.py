@@ -13,10 +13,8 @@ from datetime import date, timedelta, timezone
 from email import utils
 from functools import lru_cache
 
+from .ranges import EARLIER, LATER, RANGED
 from .words import SIGN
-
-RANGED = (1970, 2099)  # The first and the last year that a range may name.
-EARLIER, LATER = SIGN + "0", SIGN + "9"
 
 _MONTHS = "Jan Feb Mar Apr May Jun Jul Aug Sep Oct Nov Dec".split()
 _MONTH = f"(?P<month>{'|'.join(_MONTHS)})"
@@ -62,16 +60,22 @@ def of_line(line: str, written: date) -> date | None:
     """The day of the stamp that begins a line. One without a year is the last such day up to that
     on which the line's file was written."""
     for stamp in _STAMPS:
-        if found := stamp.match(line):
-            try:
-                return _day(found.groupdict(), written)
-            except (ValueError, OverflowError):
-                continue
+        if (found := stamp.match(line)) and (day := _day(stamp, found.groups(), written)):
+            return day
     return None
 
 
-def _day(told: dict[str, str], written: date) -> date | None:
-    """The day of a stamp's parts."""
+@lru_cache(maxsize=4_096)
+def _day(stamp: re.Pattern[str], parts: tuple[str, ...], written: date) -> date | None:
+    """The day of what a stamp has, in the order of its groups, if it is one."""
+    told = {name: parts[at - 1] for name, at in stamp.groupindex.items()}
+    with suppress(ValueError, OverflowError):
+        return _told_day(told, written)
+    return None
+
+
+def _told_day(told: dict[str, str], written: date) -> date | None:
+    """The day that a stamp's parts tell; an error where they are those of none."""
     if told.get("seconds"):
         return datetime.datetime.fromtimestamp(int(told["seconds"]), timezone.utc).date()
     month = int(told.get("number") or _MONTHS.index(told["month"]) + 1)

@@ -6,19 +6,14 @@ parts of its joined words: `lists`, `debian` and `org` of `lists.debian.org`.
 
 from __future__ import annotations
 
-import re
 from collections.abc import Iterable
 
-from .words import NAMING, SIGN, clean, guarded, meant, parts, unguarded
+from .joined import parts
+from .stored import MARK
+from .words import SIGN, clean, guarded
 
 MOST_BYTES, MOST_TAIL_BYTES = 1_048_576, 524_288
-CUT, MARK = "\n[cut]", "\n\x1d"
-HEAD = ("from", "to", "cc", "subject", "date", "attached")  # Of a mail, a line each.
-KINDS = ("maildir", "mbox", "log", "json", "journal")
-
-_KNOWN = re.compile(rf"(?<= ){NAMING}([a-z]+)_(\w*)")
-_KIND = re.compile(rf"{SIGN}({'|'.join(KINDS)})\b")
-_EARLIER = re.compile(r"(?:^| )(?:id|path|cursor)_\w*")
+CUT = "\n[cut]"
 
 
 def document(kind: str, text: str, words: Iterable[str] = (),
@@ -52,22 +47,3 @@ def _cut(data: bytes, room: int) -> bytes:
 def _fitting(words: bytes, room: int) -> bytes:
     """As many whole words as there is room for."""
     return words if len(words) <= room else words[:max(room, 0) + 1].rpartition(b" ")[0]
-
-
-def split(stored: str) -> tuple[str, dict[str, str]]:
-    """A document's text, and what the words behind it say that it is."""
-    text, mark, tail = stored.rpartition(MARK)
-    kind = _KIND.match(tail)
-    if not mark or not kind:
-        return stored, {}
-    known = {name: meant(value) for name, value in _KNOWN.findall(tail)}
-    return unguarded(text), {"kind": kind[1], **known}
-
-
-def earlier(stored: str) -> tuple[str, bool] | None:
-    """The text of a document that no loader of kinds wrote, and whether an earlier client's loader
-    did that wrote what a document is."""
-    text, mark, tail = stored.rpartition(MARK)
-    if mark and _KIND.match(tail):
-        return None
-    return (text, bool(_EARLIER.search(tail))) if mark else (stored, False)

@@ -12,10 +12,11 @@ from typing import Any
 from . import days
 from .charsets import decoded
 from .documents import document
-from .files import Input, InputRefused
+from .files import Input
 from .logs import Line, Logs, Read, entries_of
 from .sources import Entry, Named
 from .store import Store
+from .told import InputRefused
 from .words import asked, digest, field_name, field_words, has_word, named
 
 # The names under which entries tell their time, the surest first.

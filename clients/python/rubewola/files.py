@@ -17,6 +17,8 @@ from datetime import date
 from functools import lru_cache
 from typing import BinaryIO
 
+from .told import InputRefused
+
 STANDARD_INPUT = "-"
 
 _PACKED = {b"\x1f\x8b": gzip.open, b"BZh": bz2.open, b"\xfd7zXZ\0": lzma.open}
@@ -33,10 +35,6 @@ _TAR_AT, _TAR = 257, b"ustar"
 _LOOKED_AT = 65_536
 # Bytes that texts have few of. Of NUL a log that was cut in place may have many.
 _ODD = bytes([*range(1, 8), *range(14, 27), *range(28, 32), 127])
-
-
-class InputRefused(Exception):
-    """What was named is not what the loader reads."""
 
 
 @lru_cache(maxsize=None)

@@ -21,14 +21,16 @@ from multiprocessing import active_children, connection
 from multiprocessing.process import BaseProcess
 from typing import Any, NamedTuple, Union
 
-from .documents import KINDS, earlier
+from .commits import add, commit
 from .entries import Journals, JsonLines
 from .logs import Logs
 from .mailboxes import Mailboxes
 from .maildirs import Maildirs
+from .progress import Progress
 from .sources import Entry, Task
-from .store import (LAST_TRY, Failed, Full, NoSuchDocument, Store, StoreError, TooManySegments,
-                    make)
+from .store import LAST_TRY, Failed, Full, NoSuchDocument, Store, StoreError, make
+from .stored import KINDS, earlier
+from .told import waits
 from .words import SIGN
 
 BATCH_DOCUMENTS, BATCH_BYTES = 4_096, 16_777_216  # A commit comes after so many.
@@ -65,7 +67,7 @@ class Shared:
 
     def _tell_of_waiting(self) -> None:
         if not self._told:
-            print("rubewola: the store is in use; waiting", file=sys.stderr)
+            waits()
         self._told = True
 
     @contextmanager
@@ -162,42 +164,13 @@ def _batches(chunks: Iterable[list[Entry]]) -> Iterator[list[Entry]]:
         yield batch
 
 
-def _with_bar(chunks: Iterator[list[Entry]], source: Source) -> Iterator[list[Entry]]:
-    start, loaded, drawn = time.monotonic(), 0, 0.0
-    try:
-        for chunk in chunks:
-            yield chunk
-            loaded, seconds = loaded + len(chunk), time.monotonic() - start
-            if seconds > drawn + 0.1 and sys.stderr.isatty():
-                drawn, rate, size = seconds, source.read / seconds, max(source.size, source.read, 1)
-                done, left = source.read / size, int((size - source.read) / max(rate, 1))
-                sys.stderr.write(f"\r[{'#' * int(done * 24):.<24}] {done:4.0%}  {loaded:,} loaded  "
-                                 f"{rate / 1e6:.1f} MB/s  {left // 60}:{left % 60:02} left ")
-    finally:
-        if drawn:
-            sys.stderr.write("\r\x1b[K")
-
-
-def commit(store: Store) -> None:
-    """Commits, with room made where there was none."""
-    try:
-        store.commit()
-    except TooManySegments:
-        store.tidy()
-        commit(store)
-    except Full:
-        store.merge()
-        store.commit()
-
-
 def _add(store: Store, entries: list[Entry]) -> Loaded:
     """Adds entries and commits them, and so what they take the place of is deleted."""
     for number in filter(None, (entry.replaces for entry in entries)):
         with suppress(NoSuchDocument):  # Another program has deleted it.
             store.delete(number)
-    added = sum(1 for _ in store.add_all(entry.data for entry in entries))
     try:
-        commit(store)
+        added = add(store, [entry.data for entry in entries])
     except Full as full:
         raise StoreError(f"the store has no room for more: {full.need * 512:,} bytes in a row are "
                          f"wanted, and {full.largest * 512:,} are free; what was committed before "
@@ -252,10 +225,12 @@ def load(path: str, source: Source, with_parts: bool = True, jobs: int = 0,
     with shared.session() as store:
         _refuse_earlier(store, source)
         source.begin(store)
-    tasks = source.tasks(shared.session, with_parts)
+    progress = Progress(source)
+    tasks = progress.noted(source.tasks(shared.session, with_parts))
     decoded = in_order(tasks, jobs or processors())
-    with closing(decoded), closing(_with_bar(decoded, source)) as chunks:
+    with closing(decoded), closing(progress.drawn(decoded)) as chunks:
         for batch in _batches(chunks):
+            progress.committed(done.documents)
             with shared.session() as store:
                 if shared.changed:
                     batch = source.still_lacking(store, batch)

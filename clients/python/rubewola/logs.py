@@ -17,10 +17,11 @@ from typing import BinaryIO, NamedTuple
 
 from . import days
 from .charsets import decoded
-from .documents import document, earlier, split
+from .documents import document
 from .files import Input
 from .sources import CHUNK_BYTES, CHUNK_ITEMS, Entry, Task, has_kind
 from .store import NoSuchDocument, Store, StoreError
+from .stored import earlier, split
 from .words import SIGN, asked, digest, named
 
 _LINE_END = b"\n"
@@ -116,13 +117,13 @@ def entries_of(read: Read, kind: str, parsed: Callable[[bytes, date], Line],
     lines = read.lines.split(_LINE_END)
     if not lines[-1]:
         lines.pop()
-    entries, last = [], len(lines) - 1
+    entries, last, query = [], len(lines) - 1, f"{read.first} {read.begin}"
     for at, line in enumerate(lines):
         text, words, unreadable = parsed(line.rstrip(b"\r"), read.written)
         if at in (0, last):
             words = [*read.marks, *words]
         data, is_cut = document(kind, text, words, with_parts)
-        entries.append(Entry(data, f"{read.first} {read.begin}", 0, is_cut, unreadable))
+        entries.append(Entry(data, query, 0, is_cut, unreadable))
     return entries
 
 
@@ -272,23 +273,25 @@ def _whole_lines(stream: BinaryIO, source: Input, notes: list[str]) -> Iterator[
     """The lines of a stream, so many at once as a process decodes. A last one without its end is
     left out where more may come."""
     rest = b""
-    while data := stream.read(CHUNK_BYTES):
-        data = rest + data
-        end = data.rfind(_LINE_END) + 1
-        yield from _few_lines(data[:end])
-        rest = data[end:]
-    if rest and source.grows:
+    while data := stream.read(max(CHUNK_BYTES, len(rest)) // 4):
+        *pieces, rest = _pieces(rest + data)
+        yield from pieces
+    end = rest.rfind(_LINE_END) + 1 if source.grows else len(rest)
+    if rest[:end]:
+        yield rest[:end]
+    if rest[end:]:
         notes.append(f"{source.path}: its last line has no end yet, and waits for the next load")
-    elif rest:
-        yield rest
 
 
-def _few_lines(data: bytes) -> Iterator[bytes]:
-    """Whole lines in pieces of as many as may be added at once."""
+def _pieces(data: bytes) -> Iterator[bytes]:
+    """Whole lines in pieces of as many as may be added at once, and last the rest."""
     start = 0
     for count, found in enumerate(re.finditer(_LINE_END, data), 1):
         if count % CHUNK_ITEMS == 0:
             yield data[start:found.end()]
             start = found.end()
-    if data[start:]:
-        yield data[start:]
+    end = data.rfind(_LINE_END) + 1
+    if end - start > CHUNK_BYTES * 3 // 4:
+        yield data[start:end]
+        start = end
+    yield data[start:]

@@ -7,10 +7,11 @@ from collections.abc import Iterator
 from typing import BinaryIO
 
 from .documents import document
-from .files import Input, InputRefused
+from .files import Input
 from .mails import mail, query_of
 from .sources import Entry, Named
 from .store import Store
+from .told import InputRefused
 
 _READ, _LOOKED_AT, _SUM_DIGITS = 4_194_304, 1_024, 16
 _BEGIN = b"From "

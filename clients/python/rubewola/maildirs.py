@@ -9,12 +9,13 @@ from contextlib import suppress
 from pathlib import Path
 from typing import NamedTuple
 
-from .documents import document, split
-from .files import InputRefused
+from .documents import document
 from .mails import identity, mail
 from .places import FOLDERS, Places, base_name, place_of
 from .sources import Entry, Named
 from .store import Store
+from .stored import split
+from .told import InputRefused
 from .words import SIGN, asked, named
 
 

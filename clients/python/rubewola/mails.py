@@ -11,12 +11,13 @@ from collections.abc import Iterator
 from contextlib import suppress
 from email import errors, header, message_from_bytes
 from email.message import Message
+from functools import lru_cache
 from typing import NamedTuple
 
 from . import days
 from .charsets import decoded
-from .documents import HEAD
 from .pages import charset_of, page_text
+from .stored import HEAD
 from .words import asked, clean, digest, field_words, named
 
 LONGEST_FIELD = 262_144
@@ -42,6 +43,7 @@ class Parsed(NamedTuple):
     unreadable: bool = False
 
 
+@lru_cache(maxsize=1)
 def identity(raw: bytes) -> tuple[bytes, str]:
     """A mail's message id, and its checksum, which stays when a mailbox marks the mail as read."""
     blank = _BLANK.search(raw)
@@ -168,8 +170,9 @@ def _day(message: Message) -> tuple[str, tuple[str, ...]]:
     received = (str(one).rpartition(";")[2] for one in message.get_all("received", [])[:1])
     for text in (told, *received):
         if when := days.of_date(text):
-            shown = f"{when.year:04}{when.strftime('-%m-%d %H:%M:%S %z')}".strip()
-            return shown, days.words_of(when)
+            shown = when.isoformat(" ", "seconds")  # The zone is written as mails write it.
+            zone = shown[19:].replace(":", "")
+            return f"{shown[:19]} {zone}".strip(), days.words_of(when)
     return told, ()
 
 
@@ -198,6 +201,18 @@ def _parsed(message: Message, raw: bytes) -> Parsed:
                   _is_long(message))
 
 
+def _message(raw: bytes) -> Message:
+    """The parts of a mail. Where it has one alone, its body is no work for the parser."""
+    blank = _BLANK.search(raw)
+    if blank and b"\r" not in raw[:blank.start()].replace(b"\r\n", b""):
+        message = message_from_bytes(raw[:blank.end()])
+        is_one = message.get_content_maintype() not in ("multipart", "message")
+        if is_one and not message.get_payload():
+            message.set_payload(raw[blank.end():].decode("ascii", "surrogateescape"))
+            return message
+    return message_from_bytes(raw)
+
+
 def mail(raw: bytes) -> Parsed:
     """A mail's text and words. Of one that cannot be read there is the head, and the rest as it
     stands. The date is that of the sender's clock, as `2010-05-14 23:30:00 -0600`, where it is
@@ -205,7 +220,7 @@ def mail(raw: bytes) -> Parsed:
     if raw.startswith(b"From "):
         raw = raw.partition(b"\n")[2]
     try:
-        return _parsed(message_from_bytes(raw), raw)
+        return _parsed(_message(raw), raw)
     except Exception as error:  # Mails are broken in more ways than the parser names.
         why = f"[not read: {type(error).__name__}]\n"
     blank = _BLANK.search(raw)

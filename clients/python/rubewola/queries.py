@@ -3,39 +3,45 @@
 from __future__ import annotations
 
 import os
-import re
-from collections.abc import Callable
-from datetime import date
-from typing import NamedTuple
-from unicodedata import combining, east_asian_width
+from collections import namedtuple
 
-from . import ranges
 from .places import place_of
 from .store import QueryRefused
 from .words import asked, clean, field_name, field_words, guarded
 
+TYPE_CHECKING = False
+if TYPE_CHECKING:
+    from collections.abc import Callable, Iterator
+    import datetime
+
 FIELDS = ("from", "to", "cc", "subject", "list", "attachment", "date", "id", "path")
 
-# Spaces, a bracket, or a chunk, which may begin with the name of a field and have a quoted value.
-_TOKEN = re.compile(r"""(?P<space>\s+|[()])
-                    |(?P<name>[^\W\d][\w.@-]*):(?P<value>"[^"]*"?|[^\s()]*)(?P<rest>[^\s()]*)
-                    |[^\s()]+""", re.VERBOSE)
-_OPERATORS = ("AND", "OR", "NOT")
+OPERATORS = ("AND", "OR", "NOT")
+_JOINERS = "\u200c\u200d"  # Within words of Persian and others; they steer nothing.
 
 
-class Note(NamedTuple):
+class Note(namedtuple("Note", ("text", "place"))):
     """What a user should know of a query, and the place of which it speaks."""
 
-    text: str
-    place: int
+
+class Token(namedtuple("Token", ("text", "place", "name", "value", "rest"), defaults=("", "", ""))):
+    """A space, a bracket, or a chunk, which may begin with the name of a field and have a quoted
+    value."""
+
+    @property
+    def is_chunk(self) -> bool:
+        """Whether it is neither a space nor a bracket."""
+        return not _is_break(self.text[0])
+
+    @property
+    def value_place(self) -> int:
+        """Where the value begins."""
+        return self.place + len(self.name) + 1
 
 
-class Query(NamedTuple):
-    """A query as the program takes it: pieces with the places where they are typed; and notes."""
-
-    typed: str
-    pieces: list[tuple[int, str]]
-    notes: list[Note]
+class Query(namedtuple("Query", ("typed", "pieces", "notes", "words"))):
+    """A query as the program takes it: pieces with the places where they are typed; notes; and what
+    stands in it as words."""
 
     @property
     def text(self) -> str:
@@ -55,11 +61,14 @@ class Query(NamedTuple):
 
 def plain(text: str) -> str:
     """A text without what might steer a terminal."""
-    return "".join(c if c.isprintable() or c in "\n\t" else " " for c in text)
+    if text.isprintable():
+        return text
+    return "".join(c if c.isprintable() or c in "\n\t" or c in _JOINERS else " " for c in text)
 
 
 def pointed(told: str, query: str, place: int) -> str:
     """What is told of a query, with the query and a caret under the place."""
+    from unicodedata import combining, east_asian_width
     wide = sum((east_asian_width(c) in "WF") - (combining(c) > 0) for c in query[:place])
     return f"{told}\n{plain(query)}\n{' ' * (place + wide)}^"
 
@@ -71,47 +80,96 @@ def refused(told: str, query: str, place: int) -> QueryRefused:
     return refusal
 
 
-def read(typed: str, has_field: Callable[[str], bool], today: date) -> Query:
+def _is_break(letter: str) -> bool:
+    return letter.isspace() or letter in "()"
+
+
+def _is_word(letter: str) -> bool:
+    return letter.isalnum() or letter == "_"
+
+
+def _end(typed: str, at: int) -> int:
+    """Where a chunk ends."""
+    while at < len(typed) and not _is_break(typed[at]):
+        at += 1
+    return at
+
+
+def _is_name(text: str) -> bool:
+    """Whether a text may be the name of a field."""
+    return (_is_word(text[:1]) and not text[:1].isdecimal()
+            and all(_is_word(letter) or letter in ".@-" for letter in text))
+
+
+def _token(typed: str, at: int) -> Token:
+    """What stands at a place."""
+    if _is_break(typed[at]):
+        return Token(typed[at], at)
+    end = _end(typed, at)
+    name, colon, value = typed[at:end].partition(":")
+    if not colon or not _is_name(name):
+        return Token(typed[at:end], at)
+    if not value.startswith('"'):
+        return Token(typed[at:end], at, name, value)
+    begin = at + len(name) + 1
+    close = typed.find('"', begin + 1) + 1 or len(typed)
+    end = _end(typed, close)
+    return Token(typed[at:end], at, name, typed[begin:close], typed[close:end])
+
+
+def _tokens(typed: str) -> Iterator[Token]:
+    at = 0
+    while at < len(typed):
+        yield (token := _token(typed, at))
+        at += len(token.text)
+
+
+def read(typed: str, has_field: Callable[[str], bool], today: datetime.date | None = None) -> Query:
     """The query that was typed. `has_field` tells of a name that is none of FIELDS whether
     documents of the store have it as a field."""
     typed = clean(typed.replace("\n", " "))
-    query = Query(typed, [], [])
-    tokens = list(_TOKEN.finditer(typed))
-    chunks = [token for token in tokens if not token["space"]]
+    query = Query(typed, [], [], [])
+    tokens = [*_tokens(typed)]
+    chunks = [token for token in tokens if token.is_chunk]
     for token in tokens:
-        piece = _field(token, typed, has_field, today) if token["name"] else None
-        query.pieces.append((token.start(), piece or guarded(token[0])))
-        if not piece and not token["space"]:
+        piece = _field(token, typed, has_field, today) if token.name else None
+        query.pieces.append((token.place, piece or guarded(token.text)))
+        if not piece and token.is_chunk:
             query.notes.extend(_notes(token, chunks))
+            if token.text not in OPERATORS:
+                query.words.append(token.text)
     return query
 
 
-def _field(token: re.Match[str], typed: str, has_field: Callable[[str], bool],
-           today: date) -> str | None:
+def _field(token: Token, typed: str, has_field: Callable[[str], bool],
+           today: datetime.date | None) -> str | None:
     """What a chunk asks for that begins as a field; None where it is just words."""
-    name, value = token["name"].casefold(), token["value"].strip('"')
-    if name not in FIELDS and not ((value or token["rest"]) and has_field(name)):
-        if token["value"][:1].isalpha() or token["value"][:1] == '"':
-            raise refused(f'"{token["name"]}" is no field here; fields are {", ".join(FIELDS)}, '
+    name, value = token.name.casefold(), token.value.strip('"')
+    if name not in FIELDS and not ((value or token.rest) and has_field(name)):
+        if token.value[:1].isalpha() or token.value[:1] == '"':
+            raise refused(f'"{token.name}" is no field here; fields are {", ".join(FIELDS)}, '
                           "and those of loaded JSON; for words write a space in place of the "
-                          "colon", typed, token.start())
+                          "colon", typed, token.place)
         return None
-    place = token.start("value")
-    if token["rest"]:
-        raise refused("a word stands right behind a quoted value", typed, token.start("rest"))
+    place = token.value_place
+    if token.rest:
+        raise refused("a word stands right behind a quoted value", typed, place + len(token.value))
     if not value.strip():
         raise refused(f"{name}: wants a value right behind it", typed, place)
     return _program_text(name, value, typed, place, today)
 
 
-def _program_text(name: str, value: str, typed: str, place: int, today: date) -> str:
+def _program_text(name: str, value: str, typed: str, place: int,
+                  today: datetime.date | None) -> str:
     if name == "id":
         return asked("id", value.strip("<>"))
     if name == "path":
         return asked("path", place_of(os.path.abspath(os.path.expanduser(value))))
     if name == "date":
+        from datetime import date
+        from . import ranges
         try:
-            return ranges.query(value, today)
+            return ranges.query(value, today or date.today())
         except (ValueError, OverflowError) as error:
             raise refused(f"no day: {error}", typed, place) from error
     words = field_words(field_name(name), value)
@@ -120,18 +178,16 @@ def _program_text(name: str, value: str, typed: str, place: int, today: date) ->
     return words[0] if len(words) == 1 else f"({' '.join(words)})"
 
 
-def _notes(token: re.Match[str], chunks: list[re.Match[str]]) -> list[Note]:
+def _notes(token: Token, chunks: list[Token]) -> Iterator[Note]:
     """What a chunk does not mean, where it looks as if it did."""
-    text, place = token[0], token.start()
-    found = []
-    if text.upper() in _OPERATORS and text not in _OPERATORS:
+    text, place = token.text, token.place
+    if text.upper() in OPERATORS and text not in OPERATORS:
         is_first, is_last = token is chunks[0], token is chunks[-1]
         if not is_last and (not is_first or text.upper() == "NOT"):
-            found.append(Note(f'"{text}" is a word here; the operator is {text.upper()}', place))
+            yield Note(f'"{text}" is a word here; the operator is {text.upper()}', place)
     if '"' in text:
-        found.append(Note("quotation marks join no words here: each is looked for alone", place))
-    if re.search(r"\w\*", text):
-        found.append(Note("* stands for nothing here: words are whole", place))
-    if re.match(r"[-!+]\w", text):
-        found.append(Note(f"{text[0]} means nothing here; NOT is the operator", place))
-    return found
+        yield Note("quotation marks join no words here: each is looked for alone", place)
+    if any(_is_word(one) and other == "*" for one, other in zip(text, text[1:])):
+        yield Note("* stands for nothing here: words are whole", place)
+    if text[0] in "-!+" and _is_word(text[1:2]):
+        yield Note(f"{text[0]} means nothing here; NOT is the operator", place)

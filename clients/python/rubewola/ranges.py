@@ -6,15 +6,13 @@ satisfies one of them and the query stays short.
 
 from __future__ import annotations
 
-import re
-from calendar import monthrange
 from datetime import date, timedelta
 
-from .days import EARLIER, LATER, RANGED
 from .words import SIGN
 
-_DAY = re.compile(r"(\d{4})(?:-(\d\d?)(?:-(\d\d?))?)?")
-_AGO = re.compile(r"(\d{1,5})([dw])", re.IGNORECASE)
+RANGED = (1970, 2099)  # The first and the last year that a range may name.
+EARLIER, LATER = SIGN + "0", SIGN + "9"
+
 _ONE = timedelta(1)
 MEANT = "a day is written 2010, 2010-05, 2010-05-14, today, yesterday, 7d or 2w"
 
@@ -22,20 +20,27 @@ MEANT = "a day is written 2010, 2010-05, 2010-05-14, today, yesterday, 7d or 2w"
 def _ends(text: str, today: date) -> tuple[date, date]:
     """The first and the last day of what names a day, a month or a year."""
     ago = {"today": 0, "yesterday": 1}.get(text.lower())
-    if count := _AGO.fullmatch(text):
-        ago = int(count[1]) * (7 if count[2] in "wW" else 1)
+    count, unit = text[:-1], text[-1:].lower()
+    if unit in ("d", "w") and count.isdecimal() and len(count) <= 5:
+        ago = int(count) * (7 if unit == "w" else 1)
     if ago is not None:
         return today - timedelta(ago), today - timedelta(ago)
-    found = _DAY.fullmatch(text)
-    if not found:
-        raise ValueError(MEANT)
-    year, month, day = (int(part) if part else None for part in found.groups())
-    first = date(year, month or 1, day or 1)
-    if day:
+    year, *rest = _parts(text)
+    first = date(year, *rest, *[1] * (2 - len(rest)))
+    if len(rest) == 2:
         return first, first
-    if month:
-        return first, date(year, month, monthrange(year, month)[1])
+    if rest and first.month < 12:
+        return first, date(year, first.month + 1, 1) - _ONE
     return first, date(year, 12, 31)
+
+
+def _parts(text: str) -> list[int]:
+    """A year of four digits, and a month and a day of one or two."""
+    parts = text.split("-")
+    if len(parts) > 3 or len(parts[0]) != 4 or not all(
+            part.isdecimal() and len(part) <= most for part, most in zip(parts, (4, 2, 2))):
+        raise ValueError(MEANT)
+    return [int(part) for part in parts]
 
 
 def _whole(day: date, end: date) -> tuple[str, date] | None:

@@ -2,36 +2,45 @@
 
 from __future__ import annotations
 
-import json
-import tempfile
-from collections.abc import Callable, Iterator
-from contextlib import suppress
-from datetime import date
-from email.utils import parseaddr
-from typing import Any
+import io
+from collections import namedtuple
 
 from . import queries
-from .documents import HEAD, earlier, split
 from .places import Places
 from .queries import plain, pointed
-from .store import NoSuchDocument, QueryRefused, Store, shown
+from .store import NoSuchDocument, QueryRefused, shown
+from .stored import HEAD, MAILS, MARK, earlier, split
 from .words import SIGN, has_word
 
-MAILS = ("maildir", "mbox")
+TYPE_CHECKING = False
+if TYPE_CHECKING:
+    from collections.abc import Callable, Iterator
+    from typing import Any
+
+    from .store import Store
+
 IN_MEMORY = 67_108_864  # Bytes of texts that are held in memory; more go to a temporary file.
 EARLIER_CLIENT = ("documents of an earlier client have no fields that are found: load what they "
                   "come from into a new store")
+
+_TAIL = MARK.replace("\n", "\v")
+# What the days of documents lie in, the newest first: after RANGED, its decades, before it.
+SPANS = ("9", *(str(decade) for decade in range(209, 196, -1)), "0")
 
 
 def _untold(_: str) -> None:
     """Tells nobody."""
 
 
-def find(store: Store, typed: str, tell: Callable[[str], None] = _untold) -> list[int]:
-    """The documents that satisfy a query with fields, as `from:bdale`. The `place` of a fault is
-    that of a typed character, and the refusal tells the query with a caret under it. `tell` is
-    given what the query does not mean, where it looks as if it did."""
-    query = queries.read(typed, lambda name: bool(store.find(has_word(name))), date.today())
+class Found(namedtuple("Found", ("query", "numbers"))):
+    """A query as it was read, and the documents that satisfy it."""
+
+
+def answer(store: Store, typed: str, tell: Callable[[str], None] = _untold) -> Found:
+    """What satisfies a query with fields, as `from:bdale`. The `place` of a fault is that of a
+    typed character, and the refusal tells the query with a caret under it. `tell` is given what
+    the query does not mean, where it looks as if it did."""
+    query = queries.read(typed, lambda name: bool(store.find(has_word(name))))
     try:
         numbers = store.find(query.text)
     except QueryRefused as refusal:
@@ -43,15 +52,47 @@ def find(store: Store, typed: str, tell: Callable[[str], None] = _untold) -> lis
         tell(pointed(note.text, query.typed, note.place))
     if SIGN in query.text and _has_earlier(store):
         tell(EARLIER_CLIENT)
-    return numbers
+    return Found(query, numbers)
+
+
+def find(store: Store, typed: str, tell: Callable[[str], None] = _untold) -> list[int]:
+    """The numbers of what satisfies a query with fields."""
+    return answer(store, typed, tell).numbers
 
 
 def _has_earlier(store: Store) -> bool:
     """Whether a store was begun by an earlier client's loader."""
-    with suppress(NoSuchDocument):
+    try:
         told = earlier(store.show(1))
-        return bool(told and told[1])
-    return False
+    except NoSuchDocument:
+        return False
+    return bool(told and told[1])
+
+
+def within(span: str) -> list[str]:
+    """The years of a decade, the months of a year, the days of a month, the newest first."""
+    most = {3: 9, 4: 12, 6: 31}.get(len(span), -1)
+    return [span + (str(at) if most == 9 else f"{at:02}")
+            for at in range(most, -1 if most == 9 else 0, -1)]
+
+
+def newest(store: Store, found: Found, count: int) -> list[int]:
+    """So many of what was found, the newest by day; of a day those with the highest numbers. What
+    has no day is older than all else."""
+    pool, spans, taken = found.numbers, SPANS, []
+    try:
+        while spans and len(pool) > count:
+            for span in spans:
+                inside = store.find(f"({found.query.text}) {SIGN}{span}")
+                if len(inside) >= count:
+                    pool, spans = inside, within(span)
+                    break
+                taken, count = taken + inside, count - len(inside)
+            else:
+                pool, spans = sorted(set(pool) - set(taken)), ()
+    except QueryRefused:  # There is no room for a day in the query.
+        pool, taken, count = found.numbers, [], count + len(taken)
+    return taken + pool[max(len(pool) - count, 0):]
 
 
 def parsed(stored: str, number: int) -> dict[str, Any]:
@@ -64,39 +105,101 @@ def parsed(stored: str, number: int) -> dict[str, Any]:
     return {"number": number, **names, **dict(zip(HEAD, lines[:-1])), "text": lines[-1]}
 
 
+def _when(reply: str) -> tuple[str, str]:
+    """The day of a document and a mail's time on it, from a reply to `show`."""
+    words = reply.rpartition(_TAIL)[2].split(" ")
+    for word in words:
+        if len(word) == 9 and word[0] == SIGN and word[1:].isdecimal():
+            is_mail = words[0][1:] in MAILS
+            return word[1:], reply.split("\v", 5)[4][11:19] if is_mail else ""
+    return "", ""
+
+
+class _Texts:
+    """Texts that wait to be told: in memory, or where they are many in a temporary file."""
+
+    def __init__(self) -> None:
+        self._file: Any = io.BytesIO()
+        self._size = 0
+
+    def put(self, text: str) -> tuple[int, int]:
+        """Keeps a text, and gives its place and size."""
+        data, place = text.encode(), self._size
+        if place <= IN_MEMORY < place + len(data):
+            import tempfile
+            held, self._file = self._file, tempfile.TemporaryFile()
+            self._file.write(held.getbuffer())
+        self._file.write(data)
+        self._size += len(data)
+        return place, len(data)
+
+    def get(self, place: int, size: int) -> str:
+        """A text that was kept."""
+        self._file.seek(place)
+        return self._file.read(size).decode()
+
+
 class Results:
-    """The documents of some numbers, read from the store at once, to be told when it is closed."""
+    """Documents that are read from their stores at once, to be told when these are closed, the
+    newest last."""
 
-    def __init__(self, store: Store, numbers: list[int]) -> None:
-        self._numbers = numbers
-        self._texts = tempfile.SpooledTemporaryFile(IN_MEMORY)
-        for reply in store.ask_all(f"show {number}" for number in numbers):
-            self._texts.write(reply.encode() + b"\n")
+    def __init__(self) -> None:
+        self._hits: list[tuple[Any, ...]] = []
+        self._texts, self._names = _Texts(), []
 
-    def lines(self, form: str) -> Iterator[str]:
-        """A line for each document; then nothing is held any more."""
+    def read(self, store: Store, numbers: list[int], name: str = "") -> Results:
+        """Reads documents of a store, which is called by a name where there are several."""
+        self._names.append(name)
+        replies = store.ask_all(f"show {number}" for number in numbers)
+        for reply, number in zip(replies, numbers):
+            self._hits.append((*_when(reply), len(self._names) - 1, number,
+                               *self._texts.put(reply)))
+        return self
+
+    def newest(self, count: int) -> Iterator[dict[str, Any]]:
+        """The documents by their parts: so many of the newest, the newest last."""
         places = Places()
-        with self._texts as texts:
-            texts.seek(0)
-            for number, reply in zip(self._numbers, texts):
-                doc = parsed(shown(reply[:-1].decode()), number)
-                if "path" in doc:
-                    doc["path"] = places.path_at(doc["path"]) or doc["path"]
-                yield FORMATS[form](doc)
+        for _, _, name, number, *held in sorted(self._hits)[-count:]:
+            doc = parsed(shown(self._texts.get(*held)), number)
+            if "path" in doc:
+                doc["path"] = places.path_at(doc["path"]) or doc["path"]
+            yield {"store": self._names[name], **doc} if self._names[name] else doc
 
 
 def where(doc: dict[str, Any]) -> str:
     """A mail's path, or else its message id; a line's number."""
-    return str(doc.get("path") or doc.get("id") and plain(f"<{doc['id']}>") or doc["number"])
+    return str(doc.get("path") or doc.get("id") and plain(f"<{doc['id']}>") or numbered(doc))
+
+
+def numbered(doc: dict[str, Any]) -> str:
+    """A document's number, behind its store where there are several."""
+    return f"{doc['store']}:{doc['number']}" if "store" in doc else str(doc["number"])
+
+
+def sender(told: str) -> str:
+    """A sender's name, or else the address."""
+    name, angle, address = told.strip().partition("<")
+    name = name.strip()
+    if len(name) > 1 and name[0] == name[-1] == '"':
+        name = name[1:-1]
+    if (not angle or address.endswith(">")) and not any(sign in name for sign in '"(),:;\\[]'):
+        return " ".join(name.split()) or address[:-1] or told
+    from email.utils import parseaddr
+    return next(filter(None, parseaddr(told)), told)
 
 
 def as_line(doc: dict[str, Any]) -> str:
     """A document in one line: a mail's day, sender, subject and path or id; or the line."""
     line = doc["text"]
     if "date" in doc:
-        sender = next(filter(None, parseaddr(doc["from"])), doc["from"])
-        line = f"{doc['date'][:10]}  {sender}  {doc['subject']}  {where(doc)}"
-    return plain(f"{doc['number']}: {line}").replace("\n", " ")
+        line = f"{doc['date'][:10]}  {sender(doc['from'])}  {doc['subject']}  {where(doc)}"
+    return plain(f"{numbered(doc)}: {line}").replace("\n", " ")
 
 
-FORMATS = {"text": as_line, "json": json.dumps, "paths": where}
+def as_json(doc: dict[str, Any]) -> str:
+    """A document as an object of JSON."""
+    import json
+    return json.dumps(doc)
+
+
+FORMATS = {"text": as_line, "json": as_json, "paths": where}

@@ -10,7 +10,7 @@ from .store import Store
 from .words import SIGN
 
 ASKED_AT_ONCE = 4_096
-CHUNK_BYTES, CHUNK_ITEMS = 262_144, 1_024  # What a process decodes at once.
+CHUNK_BYTES, CHUNK_ITEMS = 262_144, 2_048  # What a process decodes at once.
 
 
 class Entry(NamedTuple):

@@ -4,22 +4,25 @@ from __future__ import annotations
 
 import fcntl
 import os
-import re
-import subprocess
 import time
-from collections import deque
-from collections.abc import Callable, Iterable, Iterator
-from contextlib import AbstractContextManager, suppress
-from typing import NamedTuple
+from collections import namedtuple
 
-# Bytes that fit into every pipe, and what no reply to an `add` is longer than.
-LEAST_PIPE, SHORT_REPLY = 4_096, 32
+from .programs import Program
+
+TYPE_CHECKING = False
+if TYPE_CHECKING:
+    from collections.abc import Callable, Iterable, Iterator
+    from typing import Any
+
+# What no reply to an `add` is longer than, and bytes of commands that are handed over at once.
+SHORT_REPLY, AT_ONCE = 32, 1_048_576
 
 # Seconds after which a store that nobody has is no longer tried, and after which a wait is told.
 LAST_TRY, LONG_WAIT = 1, 1
 
 # What the shorter reasons mean.
-HINTS = {"bad length": "the file is no store", "missing": "there is nothing at this path",
+HINTS = {"damaged": "some byte is another one than was written: the guide tells what to do",
+         "bad length": "the file is no store", "missing": "there is nothing at this path",
          "disk": "the system refused to read or to write the store's file",
          "in use": "another program has the store",
          "not a store": "the file has no store; where its making was broken off, remove it"}
@@ -65,7 +68,7 @@ class Full(Refused):
 
     def __init__(self, reason: str) -> None:
         super().__init__(reason)
-        self.need, self.largest = map(int, re.findall(r"\d+", reason))
+        self.need, self.largest = _numbers(reason)
 
 
 class QueryRefused(Refused):
@@ -73,7 +76,7 @@ class QueryRefused(Refused):
 
     def __init__(self, reason: str) -> None:
         super().__init__(reason)
-        self.place: int | None = next(map(int, re.findall(r"\d+$", reason)), None)
+        self.place: int | None = next(iter(_numbers(reason)), None)
 
 
 # The exceptions by the words that their reasons begin with.
@@ -81,11 +84,15 @@ REFUSALS = {"no such document": NoSuchDocument, "buffer full": BufferFull, "full
             "too many segments": TooManySegments, "query": QueryRefused, "": Refused}
 
 
-# How many documents live, and the number of the next.
-Counts = NamedTuple("Counts", [("live", int), ("next", int)])
+class Counts(namedtuple("Counts", ("live", "next"))):
+    """How many documents live, and the number of the next."""
 
 
-class Store(AbstractContextManager["Store"]):
+class Checked(namedtuple("Checked", ("documents", "next", "segments"))):
+    """What a sound store has: committed documents that live, the number of the next, segments."""
+
+
+class Store:
     """A store in a file, open until `close`. One program at a time has it.
 
     A command is one line, so a line feed in it is carried as U+000B, which cuts words as it does,
@@ -97,20 +104,25 @@ class Store(AbstractContextManager["Store"]):
                  waiting: Callable[[], None] = lambda: None) -> None:
         """Opens the store; one that another program has is tried again for `wait` seconds, and
         `waiting` called once when that takes long."""
-        self._busy, begin, path = False, time.monotonic(), os.path.abspath(path)
-        turn = _Turn(path, begin + wait, waiting)
-        while True:
-            self._process = _start("run", path)
-            self._in_flight = _in_flight(self._process)
-            try:
-                self.count()
-                return
-            except Failed as failed:
-                if failed.reason != "disk":
-                    raise
-                turn.wait()
-                if time.monotonic() > max(begin + wait, begin + LAST_TRY):
-                    raise
+        self._busy, path = False, os.path.abspath(path)
+
+        def opened() -> None:
+            self._program, self._awaited = Program("run", path), 0
+            self._in_flight = self._program.in_flight()
+            self.count()
+        _in_turn(path, opened, wait, waiting)
+
+    @staticmethod
+    def check(path: str | os.PathLike[str], wait: float = 0,
+              waiting: Callable[[], None] = lambda: None) -> Checked:
+        """Reads all that is committed in a store and compares it, which takes about as long as it
+        took to index its documents. A store that is not sound is Failed as `damaged`."""
+        path = os.path.abspath(path)
+
+        def checked() -> Checked:
+            program = Program("check", path)
+            return Checked(*_numbers(_told(program)))
+        return _in_turn(path, checked, wait, waiting)
 
     @classmethod
     def create(cls, path: str | os.PathLike[str], units: int) -> Store:
@@ -120,13 +132,14 @@ class Store(AbstractContextManager["Store"]):
 
     def close(self, *_: object) -> None:
         """Ends the session."""
-        if self._process.returncode is None:
-            with suppress(BrokenPipeError):
-                self._process.stdin.write(b"quit\n")
-                self._process.stdin.flush()
-            self._process.communicate()
+        if self._program.status is None:
+            self._send(b"quit\n")
+            self._program.ended()
 
     __exit__ = close
+
+    def __enter__(self) -> Store:
+        return self
 
     def ask(self, command: str) -> str:
         """The reply to a command; a refusal is raised."""
@@ -142,44 +155,44 @@ class Store(AbstractContextManager["Store"]):
         # So much is on its way as fits into the pipes: neither side comes to wait for the other,
         # which may itself be waiting for its replies to be read. A command with a short reply
         # counts as that, which waits to be read; another as itself, which waits to be answered.
-        if self._busy or self._process.returncode is not None:
+        if self._busy or self._program.status is not None:
             raise Failed("busy" if self._busy else "closed")
-        self._busy, sent, total = True, deque(), 0
+        self._busy, before = True, 0
         try:
-            for line in lines:
-                size = weight(line)
-                if sent and total + size > self._in_flight:
-                    self._flush()
-                    while sent and total + size > self._in_flight // 2:
-                        total -= sent.popleft()
-                        yield self._reply()
-                # Where the program has ended, the reply that does not come tells why.
-                with suppress(BrokenPipeError):
-                    self._process.stdin.write(line)
-                sent.append(size)
-                total += size
-            self._flush()
-            while sent:
-                sent.popleft()
-                yield self._reply()
+            for batch, size in _batches(lines, weight, self._in_flight // 2):
+                if before + size > self._in_flight:
+                    yield from self._replies(0)
+                self._send(b"".join(batch))
+                self._awaited += len(batch)
+                yield from self._replies(len(batch))
+                before = size
+            yield from self._replies(0)
         finally:
-            self._flush()
-            while sent and self._process.returncode is None:
-                sent.popleft()
-                self._process.stdout.readline()
+            while self._awaited and self._program.status is None:
+                self._awaited -= 1
+                self._program.output.readline()
             self._busy = False
 
-    def _flush(self) -> None:
-        with suppress(BrokenPipeError, ValueError):
-            self._process.stdin.flush()
+    def _send(self, data: bytes) -> None:
+        try:
+            self._program.input.write(data)
+            self._program.input.flush()
+        except BrokenPipeError:
+            pass  # Where the program has ended, the reply that does not come tells why.
+
+    def _replies(self, left: int) -> Iterator[str]:
+        """The replies that are awaited, but for so many."""
+        while self._awaited > left:
+            self._awaited -= 1
+            yield self._reply()
 
     def _reply(self) -> str:
-        line = self._process.stdout.readline()
+        line = self._program.output.readline()
         if not line.endswith(b"\n"):
-            raise _failure(self._process)
+            raise Failed(_reason(self._program))
         reply = line[:-1].decode()
         if reply.startswith("refused "):
-            reason = reply.removeprefix("refused ")
+            reason = reply[len("refused "):]
             raise next(kind for words, kind in REFUSALS.items() if reason.startswith(words))(reason)
         return reply
 
@@ -228,16 +241,44 @@ class Store(AbstractContextManager["Store"]):
 
     def count(self) -> Counts:
         """How many documents live, and the number of the next."""
-        return Counts(*map(int, re.findall(r"\d+", self.ask("count"))))
+        return Counts(*_numbers(self.ask("count")))
 
 
-def _in_flight(process: subprocess.Popen[bytes]) -> int:
-    """How many bytes the pipes to and from a process take, in whatever pieces they come."""
-    try:
-        return min(fcntl.fcntl(pipe, fcntl.F_GETPIPE_SZ) for pipe in
-                   (process.stdin, process.stdout)) // 2
-    except (AttributeError, OSError):  # Not every system tells.
-        return LEAST_PIPE // 2
+def _numbers(told: str) -> list[int]:
+    return [int(word) for word in told.split() if word.isdecimal()]
+
+
+def _batches(lines: Iterable[bytes], weight: Callable[[bytes], int],
+             most: int) -> Iterator[tuple[list[bytes], int]]:
+    """Lines to be sent at once, of at most such a weight, if one alone has not more, with their
+    weight."""
+    held: list[bytes] = []
+    size = length = 0
+    for line in lines:
+        more = weight(line)
+        if held and (size + more > most or length + len(line) > AT_ONCE):
+            yield held, size
+            held, size, length = [], 0, 0
+        held.append(line)
+        size, length = size + more, length + len(line)
+    if held:
+        yield held, size
+
+
+def _in_turn(path: str, attempt: Callable[[], Any], wait: float,
+             waiting: Callable[[], None]) -> Any:
+    """What an attempt gives that wants the store for itself."""
+    begin = time.monotonic()
+    turn = _Turn(path, begin + wait, waiting)
+    while True:
+        try:
+            return attempt()
+        except Failed as failed:
+            if failed.reason != "disk":
+                raise
+            turn.wait()
+            if time.monotonic() > max(begin + wait, begin + LAST_TRY):
+                raise
 
 
 class _Turn:
@@ -252,10 +293,11 @@ class _Turn:
         system refuses the file, in its words."""
         with open(self._path, "r+b") as file:
             while True:
-                with suppress(BlockingIOError):
+                try:
                     fcntl.flock(file, fcntl.LOCK_EX | fcntl.LOCK_NB)
                     return
-                now = time.monotonic()
+                except BlockingIOError:
+                    now = time.monotonic()
                 if now >= self._ends:
                     raise InUse
                 if now >= self._told:
@@ -267,16 +309,30 @@ class _Turn:
 def make(path: str | os.PathLike[str], units: int) -> None:
     """Makes a file of so many units of 512 bytes with an empty store."""
     path = os.path.abspath(path)
-    with _start("create", path, "--units", str(units)) as made:
-        failed = _failure(made) if made.wait() else None
-    if not failed:
-        return
-    if failed.reason == "disk":
-        folder = os.path.dirname(path)
-        os.stat(folder)  # The system tells what is wrong with it.
-        if not os.access(folder, os.W_OK):
-            raise PermissionError(f"no right to write to {folder}")
-    raise failed
+    try:
+        _told(Program("create", path, "--units", str(units)))
+    except Failed as failed:
+        if failed.reason == "disk":
+            folder = os.path.dirname(path)
+            os.stat(folder)  # The system tells what is wrong with it.
+            if not os.access(folder, os.W_OK):
+                raise PermissionError(f"no right to write to {folder}") from failed
+        raise
+
+
+def _told(program: Program) -> str:
+    """What a program prints that answers no lines."""
+    told = program.output.readline().decode(errors="replace")
+    reason = _reason(program)
+    if program.status:
+        raise Failed(reason)
+    return told
+
+
+def _reason(program: Program) -> str:
+    """Why a program ended."""
+    reason = program.ended().partition("\n")[0]
+    return reason.removeprefix("pk_find: ") or "the program was ended"
 
 
 def _one_line(text: str) -> bytes:
@@ -287,18 +343,9 @@ def _line(command: str) -> bytes:
     return _one_line(command) + b"\n"
 
 
-def _start(*words: str) -> subprocess.Popen[bytes]:
-    line, pipe = [os.environ.get("RUBEWOLA_PROGRAM") or "pk_find", *words], subprocess.PIPE
-    # A session of its own, so that the terminal's interrupt does not end it.
-    return subprocess.Popen(line, stdin=pipe, stdout=pipe, stderr=pipe, start_new_session=True)
-
-
-def _failure(process: subprocess.Popen[bytes]) -> Failed:
-    told = process.communicate()[1].decode(errors="replace")
-    return Failed(told.partition("\n")[0].removeprefix("pk_find: ") or "the program was ended")
-
-
 def shown(reply: str) -> str:
     """The text in the reply to a `show`."""
     text = reply.removeprefix("text ").replace("\v", "\n")
-    return re.sub(r"\\(.)", lambda pair: "\n" if pair[1] == "n" else pair[1], text)
+    if "\\" not in text:
+        return text
+    return "\\".join(piece.replace("\\n", "\n") for piece in text.split("\\\\"))

@@ -27,7 +27,7 @@ class Json(Stores):
             "http.status:500": [2], "msg:raise": [1], "date:2010-05-14": [1, 2], "ok:true": [3],
             "tags.name:b": [3], "none:null": [3], 'tags.name:"a b"': [3], "status 500": [2]})
         self.run_line('"nosuch" is no field', "search", "nosuch:error", status=2)
-        self.run_line(r"^1: level: error msg: Jörg said", "search", "level:error")
+        self.run_line(r"(?m)^1: level: error msg: Jörg said", "search", "level:error")
 
     def test_no_line_writes_what_loaders_write(self):
         self.loaded(2, "load-json", self.lines(

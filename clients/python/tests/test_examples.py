@@ -32,7 +32,9 @@ class Examples(Stores):
         return re.sub(r" in \d+\.\d s$", " in 0.1 s", ran.stdout, flags=re.MULTILINE)
 
     def run_document(self, name):
-        blocks = re.findall(r"```console\n(.*?)```", (TOP / name).read_text("utf-8"), re.DOTALL)
+        text = (TOP / name).read_text("utf-8")
+        self.assertNotRegex(text, r"```text\n(?:\$ .*\n)*\$ rubewola ")
+        blocks = re.findall(r"```console\n(.*?)```", text, re.DOTALL)
         self.assertTrue(blocks)
         for block in blocks:
             for command, wanted in re.findall(r"(?m)^\$ (.*)\n((?:(?!\$ ).*\n)*)", block):
@@ -45,26 +47,38 @@ class Examples(Stores):
     def test_guide(self):
         self.run_document("docs/GUIDE.md")
 
+    @staticmethod
+    def script(which):
+        """A program that the guide shows."""
+        text = (TOP / "docs/GUIDE.md").read_text("utf-8")
+        return re.findall("```python\n(.*?)```", text, re.DOTALL)[which]
+
+    def test_the_guide_from_python(self):
+        ran = subprocess.run([sys.executable, "-c", self.script(1)], cwd=self.folder, check=True,
+                             capture_output=True, encoding="utf-8")
+        self.assertIn(f"It prints `{ran.stdout.strip()}`.", (TOP / "docs/GUIDE.md").read_text("utf-8"))
+
     def test_the_guide_carries_a_store_over(self):
         with Store.create(self.folder / "old", 256) as store:
             list(store.add_all(["one\ntwo", "\\", "three"]))
             store.delete(2)
             store.commit()
-        script = (TOP / "docs/GUIDE.md").read_text("utf-8").split("```python\n")[1].split("```")[0]
-        line = [sys.executable, "-c", script, self.folder / "old", self.store, "512"]
+        line = [sys.executable, "-c", self.script(0), self.folder / "old", self.store, "512"]
         subprocess.run(line, check=True)
         self.assert_found({"one two": [1], "NOT one": [3]})
 
-    def run_lines(self, text):
+    def run_lines(self, text, least=10):
         """Runs each command line that a text shows, in a home that has what they name."""
-        self.write("mail/devel.mbox", mbox(mail("freeze", From="bdale@x.org", Subject="schedule",
-                                                Date="Fri, 14 May 2010 23:30:00 +0000")))
+        self.write("mail/devel.mbox", mbox(
+            mail("freeze", From="bdale@x.org", Subject="schedule",
+                 Date="Fri, 14 May 2010 23:30:00 +0000"),
+            mail("all for nothing", From="eve@x.org", Subject="advertisement")))
         self.write("Mail/cur/1000.a.host:2,S", mail("schedule", From="ada@x.org"))
         self.write("syslog", "Nov 26 11:15:56 host sshd: failed\n")
         self.write("service.json", '{"level": "error", "time": "2026-11-26T11:15:56Z"}\n')
         self.write("journal", '{"__CURSOR": "c", "__REALTIME_TIMESTAMP": "1", "MESSAGE": "x"}\n')
         lines = re.findall(r"(?m)^ *\$ (.*)$", text)
-        self.assertGreater(len(lines), 7)
+        self.assertGreaterEqual(len(lines), least)
         for line in lines:
             with self.subTest(line):
                 self.said(line.replace("journalctl -o json", "cat journal"), status=0)
@@ -72,6 +86,11 @@ class Examples(Stores):
     def test_the_manual(self):
         told = (TOP / "man/rubewola.1").read_text("utf-8")
         self.run_lines(told[told.index(".Sh EXAMPLES"):])
+
+    def test_the_readme(self):
+        told = (TOP / "README.md").read_text("utf-8")
+        lines = re.findall(r"(?m)^\$ rubewola .*\n", told)
+        self.run_lines("".join(lines), least=4)
 
     def test_the_help(self):
         self.run_lines(self.said("rubewola --help", status=0))

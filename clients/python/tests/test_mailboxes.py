@@ -30,9 +30,10 @@ class Boxes(Stores):
             "subject": [], "many subject:large": [6], "NOT large": [1, 2, 3, 4, 5]})
         for line, status, told in [
                 ("straße", 0, r"1: 2010-05-14  Jörg  café naïve  <1.a@x.org>\n"),
-                ("gag OR large --format paths", 0, "<1.a@x.org>\n<6.a@x.org>\n"),
+                ("gag OR large --format paths", 0, "<6.a@x.org>\n<1.a@x.org>\n"),
                 ("large --format json", 0, r'{"number": 6, .*"subject": "large",.*\\n\[cut]"}\n'),
-                ("straße OR naïf --limit 1", 0, r"3:   Bo   \[2J  3\n"),
+                ("straße OR naïf --limit 1", 0, r"1: 2010-05-14 .*\n"),
+                ("body OR naïf --limit 1", 0, r"4: .*\n"), ("naïf", 0, r"3:   Bo   \[2J  3\n"),
                 ("NOT large --count", 0, "5\n"), ("green --count", 1, "0\n"), ("green", 1, "")]:
             self.run_line(rf"^{told}\Z", "search", *line.split(), status=status)
 

@@ -4,7 +4,7 @@ import base64
 import random
 import unittest
 
-from rubewola import Store, documents, mails, searching
+from rubewola import Store, documents, mails, searching, stored
 from rubewola.charsets import decoded
 from rubewola.pages import page_text
 
@@ -345,6 +345,6 @@ class Pieces(unittest.TestCase):
             raw = b"".join(draw.choices(pieces, k=draw.randint(0, 12)))
             parsed = mails.mail(raw)
             data, _ = documents.document("mbox", parsed.text, parsed.words)
-            text, known = documents.split(data.decode().replace("\v", "\n"))
+            text, known = stored.split(data.decode().replace("\v", "\n"))
             self.assertEqual(known["kind"], "mbox")
-            self.assertGreaterEqual(text.count("\n"), len(documents.HEAD), raw)
+            self.assertGreaterEqual(text.count("\n"), len(stored.HEAD), raw)

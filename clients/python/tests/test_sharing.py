@@ -3,6 +3,7 @@
 import contextlib
 import json
 import os
+import re
 import signal
 import subprocess
 import time
@@ -12,6 +13,7 @@ from rubewola import Store
 from support import LONG, RUBEWOLA, Stores, mail, mbox, processes_of
 
 MAILS = 9_000
+PROGRESS = re.compile(r"rubewola: [\d,]+ loaded  \d+%  \d+\.\d MB/s  \d+:\d\d left")
 
 
 class Sharing(Stores):
@@ -71,7 +73,8 @@ class Sharing(Stores):
         ends = [(*one.communicate(timeout=LONG), one.returncode) for one in running]
         for told, errors, status in ends:
             # On a busy machine one may have to wait long enough to say so.
-            lines = errors.replace("rubewola: the store is in use; waiting\n", "", 1).splitlines()
+            errors = errors.replace("rubewola: the store is in use; waiting\n", "", 1)
+            lines = [line for line in errors.splitlines() if not PROGRESS.fullmatch(line)]
             self.assertEqual((told, len(lines)), ("", 1), errors)
             self.assertEqual(status, 0 if lines[0].startswith("loaded ") else 2)
             if status:
@@ -96,7 +99,7 @@ class Sharing(Stores):
         rows = [f"zeile{number}" for number in range(20_000)]
         log = self.write("log", "\n".join(rows) + "\n")
         self.both(["load-log", "--jobs", "2", log], ["load-log", "--jobs", "1", log])
-        self.run_line("^loaded ", "load-log", log)
+        self.run_line("(?m)^loaded ", "load-log", log)
         self.assertEqual(list(self.texts().values()), rows)
 
     def test_two_logs_in_one_store(self):
@@ -106,6 +109,11 @@ class Sharing(Stores):
         self.assertEqual([status for *_, status in ends], [0, 0])
         self.assert_found({"l0 zeile8999": self.found("l0")[-1:]})
         self.assertEqual([len(self.found(word)) for word in ("l0", "l1")], [9_000, 9_000])
+
+    def test_a_line_a_batch_where_no_terminal_is(self):
+        told = self.run_line("loaded 9000 ", "load-mbox", self.box()).stderr.splitlines()
+        self.assertEqual([bool(PROGRESS.fullmatch(line)) for line in told], [True, True, False])
+        self.assertIn("rubewola: 4,096 loaded  ", told[0])
 
     def test_a_killed_loader_goes_on_and_leaves_no_process(self):
         box = self.box()
@@ -146,7 +154,7 @@ class Sharing(Stores):
         self.assertEqual((told, loader.returncode), ("", 130), errors)
         self.assertNotIn("Traceback", errors)
         self.assertEqual(processes_of(loader.pid), [])
-        self.run_line("^loaded ", "load-mbox", box)
+        self.run_line("(?m)^loaded ", "load-mbox", box)
         self.assertEqual(len(self.found("gleich")), MAILS)
 
     def test_a_process_that_is_ended_is_told(self):

@@ -5,9 +5,10 @@ import shutil
 import subprocess
 import sys
 import unittest
+from unittest import mock
 
 from rubewola import (Failed, Full, InUse, NoSuchDocument, QueryRefused, Refused, Store,
-                      TooManySegments, loading)
+                      TooManySegments, commits, loading)
 
 from support import LONG, RUBEWOLA, TOP, Stores, mail, mbox
 
@@ -56,7 +57,7 @@ class Sessions(Stores):
                 store.commit()
                 store.add(text)
                 self.assertRaises(refusal, store.commit)
-                loading.commit(store)
+                commits.commit(store)
             self.assertEqual(store.find("kept"), [*range(1, 64), 65])
 
     def test_many_commands_on_their_way(self):
@@ -77,7 +78,7 @@ class Sessions(Stores):
             store.add("kept")
             store.commit()
             store.add("lost")
-            store._process.kill()
+            store._program.kill()
             self.assertRaises(Failed, store.count)
         with Store(self.store, wait=LONG) as store:
             self.assertEqual(store.count(), (1, 2))
@@ -91,6 +92,21 @@ class Sessions(Stores):
         self.assertRaisesRegex(Failed, "exists", Store.create, self.store, 64)
         self.write("text", "no store\n")
         self.assertRaisesRegex(Failed, "the file is no store", Store, self.folder / "text")
+
+    def test_a_check(self):
+        with Store.create(self.store, 256) as store:
+            for text in ("red apple", "green pear", "red pear"):
+                store.add(text)
+                store.commit()
+            store.delete(2)
+            store.commit()
+            self.assertRaises(InUse, Store.check, self.store)
+        self.assertEqual(Store.check(self.store), (2, 4, 3))
+        self.assertRaisesRegex(Failed, "missing", Store.check, self.folder / "none")
+        # A letter of a text, which then has another word.
+        whole = self.store.read_bytes()
+        self.store.write_bytes(whole.replace(b"green pear", b"groen pear"))
+        self.assertRaisesRegex(Failed, "damaged", Store.check, self.store)
 
     @unittest.skipUnless(os.geteuid(), "root may write everywhere")
     def test_a_store_without_the_right_to_write(self):
@@ -107,6 +123,30 @@ class Commands(Stores):
         self.write("box", mbox(*(mail(f"wort{number} " * 99) for number in range(99))))
         self.run_line("the store has no room for more: [0-9,]+ bytes", "load-mbox",
                       self.folder / "box", status=2)
+
+    def test_a_check_and_its_status(self):
+        with Store.create(self.store, 256) as store:
+            store.add("wort zahl")
+            store.commit()
+        self.run_line(r"\Aok 1 documents next 2 segments 1\n\Z", "check")
+        self.store.write_bytes(self.store.read_bytes().replace(b"wort zahl", b"wort zehl"))
+        self.run_line(r"\Arubewola: damaged \(.*\n\Z", "check", status=1)
+        self.store.unlink()
+        self.run_line("missing", "check", status=2)
+
+    def test_segments_stay_few(self):
+        log, counts = self.folder / "log", []
+        with mock.patch.object(Store, "tidy", autospec=True, side_effect=Store.tidy) as tidy:
+            for number in range(1, 146):
+                self.write("log", "".join(f"zeile{line}\n" for line in range(number)))
+                loading.load(str(self.store), loading.Logs(str(log)), jobs=1)
+                counts.append(Store.check(self.store).segments)
+        # Behind the 16th commit eight become one, behind the 24th eight more, and so on. Behind the
+        # 136th there are 16 such, of which eight become one: 8, 8 and 1 are left.
+        self.assertEqual([counts[at - 1] for at in (15, 16, 24, 127, 135, 136, 144)],
+                         [15, 9, 10, 29, 30, 17, 18])
+        self.assertEqual((max(counts), tidy.call_count), (30, 144 // 8 - 1 + 1))
+        self.assertEqual(Store.check(self.store), (145, 146, 19))
 
     def test_a_bar_on_a_terminal(self):
         terminal, other = os.openpty()

@@ -1,12 +1,12 @@
-//! A call of the device that fails once, each in its turn: a line that is refused for a read is done
-//! when it is asked again. The numbers of the calls are nowhere told.
+//! A call of the device that fails once, each in its turn: a line or a check that is refused for a
+//! read is done when it is asked again. The numbers of the calls are nowhere told.
 
 use crate::player::Player;
 use crate::script::{ScriptFault, is_wanted, play_on};
 use std::alloc::{AllocError, Global};
 use std::test::Fail;
 
-/// Lines that change no answer of one another: finds, shows, counts and merges.
+/// Lines that change no answer of one another: finds, shows, counts and merges, and checks.
 struct Round {
     /// What goes before the opening.
     before: &'static str,
@@ -17,7 +17,7 @@ struct Round {
 }
 
 static ROUNDS: [Round; 3] = [
-    // Three segments, of which one has a deletion list, are merged.
+    // Two segments, of which one has a deletion list, are checked and merged.
     Round {
         before: "
             !disk 32768
@@ -33,6 +33,7 @@ static ROUNDS: [Round; 3] = [
         ",
         session: "
             !open => opened
+            !check => ok 2 next 4 segments 2
             find red => found 1: 2
             find apple => found 1: 3
             find NOT red => found 1: 3
@@ -41,6 +42,7 @@ static ROUNDS: [Round; 3] = [
             find apple => found 1: 3
             find NOT red => found 1: 3
             merge => merged
+            !check => ok 2 next 4 segments 1
             count => count 2 next 4
         ",
         left: "
@@ -69,6 +71,7 @@ static ROUNDS: [Round; 3] = [
         session: "
             !open => opened
             find red => found 2: 1 3
+            !check => ok 3 next 5 segments 2
             merge => merged
             find red => found 2: 1 3
             show 2 => text green {+*5000}
@@ -118,6 +121,7 @@ static ROUNDS: [Round; 3] = [
             find red => found 4: 1 2 6 8
             find NOT red => found 4: 3 5 7 9
             tidy => tidied
+            !check => ok 8 next 10 segments 2
             count => count 8 next 10
         ",
         left: "
@@ -140,9 +144,10 @@ const MOST_CALLS: u64 = 2_000;
 struct Met {
     /// Whether a line was refused for the failing call.
     fault: bool,
-    /// Whether that was an opening, or a merge or a tidy.
+    /// Whether that was an opening, a merge or a tidy, or a check.
     in_opening: bool,
     in_merge: bool,
+    in_check: bool,
     /// Whether the store was to be opened again.
     reopen: bool,
 }
@@ -179,6 +184,7 @@ fn answer_of(player: &mut Player, asked: &str, met: &mut Met) -> Result<String, 
     met.fault = true;
     met.in_opening = asked == "!open";
     met.in_merge = asked == "merge" || asked == "tidy";
+    met.in_check = asked == "!check";
     answer_again(player, asked, met)
 }
 
@@ -274,14 +280,15 @@ fn read_before(
 
 /// Plays a round with each call failing once in its turn, up to a session that meets none; whether
 /// there is one. An open store is to be opened again behind a write or a sync, and behind no read;
-/// of a merge some read failed.
+/// of a merge some read failed, and of a check.
 fn is_done_again(alloc: Global, setting: &str, round: &Round) -> Result<bool, ScriptFault> {
     let mut refused_merges = 0u64;
+    let mut refused_checks = 0u64;
     let mut read = 0u64;
     for k in 1..MOST_CALLS {
         let met = play_round(alloc, &mut Player::new(alloc), setting, round, k)?;
         if !met.fault {
-            return Ok(refused_merges > 0);
+            return Ok(refused_merges > 0 && refused_checks > 0);
         }
         let next = k.saturating_add(1);
         let further = read_before(alloc, &mut Player::new(alloc), setting, round, next)?;
@@ -293,6 +300,7 @@ fn is_done_again(alloc: Global, setting: &str, round: &Round) -> Result<bool, Sc
         if met.in_merge && is_read {
             refused_merges = refused_merges.saturating_add(1);
         }
+        refused_checks = refused_checks.saturating_add(u64::from(met.in_check));
     }
     Ok(false)
 }

@@ -70,6 +70,9 @@ fn refused_command_lines(rt: HostRuntime) -> Result<(), Fail> {
         "pk_find run",
         "pk_find run s t",
         "pk_find run s --units 64",
+        "pk_find check",
+        "pk_find check s t",
+        "pk_find check s --units 64",
         "pk_find create",
         "pk_find create pk_find_test_refused",
         "pk_find create --units 64",
@@ -101,6 +104,8 @@ fn help(rt: HostRuntime) -> Result<(), Fail> {
         ("pk_find run --help", "tidy "),
         ("pk_find create --help", "512 bytes"),
         ("pk_find help create", "--units <N>"),
+        ("pk_find check --help", "next 2612 segments 7"),
+        ("pk_find help check", "pk_find: damaged"),
         ("pk_find --version", "pk_find "),
         ("pk_find -V", "pk_find "),
     ] {
@@ -120,11 +125,14 @@ fn documents_outlive_a_session(rt: HostRuntime) -> Result<(), Fail> {
     let _ = fs::remove_file(&rt, path);
     let create = "pk_find create pk_find_test_s --units 64";
     let run = "pk_find run pk_find_test_s";
+    let check = "pk_find check pk_find_test_s";
     let made = run_line(&rt, alloc, create, b"")?;
     assert!(rt; made.is(0, b"created 64 units\n", b""));
     assert!(rt; fs::read(&rt, path)?.len() == 64 * 512);
     let again = run_line(&rt, alloc, create, b"")?;
     assert!(rt; again.is(1, b"", b"pk_find: exists\n"));
+    let empty = run_line(&rt, alloc, check, b"count\n")?;
+    assert!(rt; empty.is(0, b"ok 0 documents next 1 segments 0\n", b""));
     let first = run_line(
         &rt,
         alloc,
@@ -136,6 +144,8 @@ fn documents_outlive_a_session(rt: HostRuntime) -> Result<(), Fail> {
     let second = run_line(&rt, alloc, run, b"find pear\nfind red\nshow 1\ncount\n")?;
     let kept = b"found 1: 2\nfound 1: 1\ntext red apple\ncount 2 next 3\n";
     assert!(rt; second.is(0, kept, b""));
+    let checked = run_line(&rt, alloc, check, b"")?;
+    assert!(rt; checked.is(0, b"ok 2 documents next 3 segments 1\n", b""));
     fs::remove_file(&rt, path)?;
     Ok(())
 }
@@ -175,6 +185,63 @@ fn files_without_a_store(rt: HostRuntime) -> Result<(), Fail> {
         b"",
     )?;
     assert!(rt; lost.is(1, b"", b"pk_find: disk\n"));
+    Ok(())
+}
+
+/// Whether a check of a file fails, and tells that in this line.
+fn is_unsound<F: RawFile + Drop, S: FileSystem<File = F>>(
+    rt: &S,
+    alloc: Global,
+    faults: &str,
+) -> Result<bool, AllocError> {
+    let told = run_line(rt, alloc, "pk_find check pk_find_test_check", b"")?;
+    Ok(told.is(1, b"", faults.as_bytes()))
+}
+
+#[test]
+fn files_without_a_sound_store(rt: HostRuntime) -> Result<(), Fail> {
+    let alloc = rt.alloc();
+    let path = "pk_find_test_check";
+    let _ = fs::remove_file(&rt, path);
+    assert!(rt; is_unsound(&rt, alloc, "pk_find: missing\n")?);
+    fs::write(&rt, path, vec![in alloc; 0u8; 100]?.as_slice())?;
+    assert!(rt; is_unsound(&rt, alloc, "pk_find: bad length\n")?);
+    let mut bytes = vec![in alloc; 0u8; 64 * 512]?;
+    fs::write(&rt, path, bytes.as_slice())?;
+    assert!(rt; is_unsound(&rt, alloc, "pk_find: not a store\n")?);
+    // Gate A is open, and the body behind it is zeros.
+    bytes[0] = 0xA7;
+    fs::write(&rt, path, bytes.as_slice())?;
+    assert!(rt; is_unsound(&rt, alloc, "pk_find: damaged\n")?);
+    fs::remove_file(&rt, path)?;
+    Ok(())
+}
+
+// The text stands behind 24 bytes of header and 12 of directory, in the segment at unit 34. A session
+// that does not read it goes on.
+#[test]
+fn a_changed_text_is_told_by_a_check(rt: HostRuntime) -> Result<(), Fail> {
+    let alloc = rt.alloc();
+    let path = "pk_find_test_check";
+    let run = "pk_find run pk_find_test_check";
+    let _ = fs::remove_file(&rt, path);
+    run_line(
+        &rt,
+        alloc,
+        "pk_find create pk_find_test_check --units 64",
+        b"",
+    )?;
+    let committed = run_line(&rt, alloc, run, b"add x\ncommit\n")?;
+    assert!(rt; committed.is(0, b"added 1\ncommitted\n", b""));
+    let mut bytes = fs::read(&rt, path)?;
+    assert!(rt; bytes.len() == 64 * 512);
+    assert!(rt; bytes[17_444] == b'x');
+    bytes[17_444] = b'y';
+    fs::write(&rt, path, bytes.as_slice())?;
+    assert!(rt; is_unsound(&rt, alloc, "pk_find: damaged\n")?);
+    let found = run_line(&rt, alloc, run, b"find x\ncount\n")?;
+    assert!(rt; found.is(0, b"found 1: 1\ncount 1 next 2\n", b""));
+    fs::remove_file(&rt, path)?;
     Ok(())
 }
 
@@ -236,6 +303,11 @@ fn input_and_output_that_fail(rt: HostRuntime) -> Result<(), Fail> {
         (create, false, "pk_find: exists\n"),
         (run, true, "pk_find: input\n"),
         (run, false, "pk_find: output\n"),
+        (
+            "pk_find check pk_find_test_broken",
+            false,
+            "pk_find: output\n",
+        ),
         ("pk_find --help", false, "pk_find: output\n"),
     ] {
         let broken = run_broken(&rt, alloc, line, reads)?;

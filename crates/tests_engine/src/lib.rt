@@ -14,7 +14,11 @@ mod cached;
 #[cfg(test)]
 mod calls;
 #[cfg(test)]
+mod checks;
+#[cfg(test)]
 mod commands;
+#[cfg(test)]
+mod damage;
 #[cfg(test)]
 mod deletions;
 #[cfg(test)]

@@ -154,7 +154,7 @@ fn has_list(alloc: Global, bytes: &[u8]) -> bool {
 }
 
 /// Bytes with another one at a place.
-fn changed(alloc: Global, bytes: &[u8], place: usize, byte: u8) -> Result<Vec<u8>, AllocError> {
+pub fn changed(alloc: Global, bytes: &[u8], place: usize, byte: u8) -> Result<Vec<u8>, AllocError> {
     let mut bytes = bytes.to_vec(alloc)?;
     if let Some(there) = bytes.get_mut(place) {
         *there = byte;

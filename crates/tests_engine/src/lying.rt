@@ -4,7 +4,7 @@ ghost use Rattle.std.specs.Prelude.{◌≡◌, true};
 use crate::calls::new_store;
 use crate::player::told;
 use pk_disk::{Disk, DiskFault, LossyDisk, MemoryDisk};
-use pk_model::DocNo;
+use pk_model::{DocNo, Refusal};
 use pk_store::{OpenFault, Refused, Store};
 use std::alloc::{AllocError, Global};
 use std::process::Abort;
@@ -117,11 +117,20 @@ fn is_answered<D: Disk>(
     Ok(is_allowed(line, told(alloc, store, line)?.as_str(), start, other))
 }
 
-/// Gives an open store each of the lines.
+/// Whether a check answers, or tells damage, and nothing else.
+fn is_checked<D: Disk>(alloc: Global, store: &mut Store<D>) -> bool {
+    match store.check(alloc) {
+        Ok(_) => true,
+        Err(why) => why == Refusal::Damaged,
+    }
+}
+
+/// Gives an open store each of the lines, and a check.
 fn ask<D: Disk>(rt: &impl Abort, alloc: Global, store: &mut Store<D>) -> Result<(), AllocError> {
     for (line, start, other) in &ASKED {
         assert!(rt; is_answered(alloc, store, line, start, other)?, "{line}");
     }
+    assert!(rt; is_checked(alloc, store));
     Ok(())
 }
 

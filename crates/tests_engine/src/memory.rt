@@ -1,10 +1,10 @@
-//! Deletions, commits with deletion lists, merges and openings that are refused memory.
+//! Deletions, commits with deletion lists, merges, openings and checks that are refused memory.
 
 use crate::calls::store_if_memory;
 use pk_disk::MemoryDisk;
 use pk_model::{Counts, DocNo, Query, Refusal};
 use pk_query::parse;
-use pk_store::{OpenFault, Refused, Store};
+use pk_store::{Checked, OpenFault, Refused, Store};
 use std::alloc::Global;
 use std::process::Abort;
 
@@ -297,5 +297,45 @@ fn is_found_by_a_block(rt: &impl Abort, alloc: Global) -> bool {
 fn blocks_short_of_memory(rt: HostRuntime) {
     let first = is_found_by_a_block(&rt, rt.alloc());
     let second = is_found_by_a_block(&rt, rt.alloc());
+    assert!(rt; first || second);
+}
+
+/// What a check tells behind the first session.
+const SOUND: Checked = Checked {
+    documents: 2,
+    next: 4,
+    segments: 2,
+};
+
+/// Whether memory was there for a check, which then has told this.
+fn is_checked(rt: &impl Abort, alloc: Global, store: &mut Store<MemoryDisk>) -> bool {
+    let told = store.check(alloc);
+    assert!(rt; told == Ok(SOUND) || told == Err(Refusal::Memory));
+    told.is_ok()
+}
+
+/// Checks what the first session left; whether memory was there for all that was asked. A check that
+/// is refused it is answered when it is asked for again.
+fn is_checked_in_full(rt: &impl Abort, alloc: Global) -> bool {
+    let Some(store) = store_if_memory(alloc, 0) else {
+        return false;
+    };
+    let mut is_whole = true;
+    let (mut store, goes_on) = play(rt, alloc, store, NEW, &BEFORE, &mut is_whole);
+    if !goes_on {
+        return false;
+    }
+    if is_checked(rt, alloc, &mut store) {
+        return is_whole;
+    }
+    assert!(rt; is_checked(rt, alloc, &mut store));
+    false
+}
+
+/// Run as the others: of two checks the one that was refused no memory is answered in full.
+#[test]
+fn checks_short_of_memory(rt: HostRuntime) {
+    let first = is_checked_in_full(&rt, rt.alloc());
+    let second = is_checked_in_full(&rt, rt.alloc());
     assert!(rt; first || second);
 }

@@ -1,6 +1,7 @@
 //! What scripts are played on: a disk in memory, and the store that was opened on it.
 
 use pk_disk::{Disk, FaultDisk, MemoryDisk};
+use pk_model::Refusal;
 use pk_pages::PageCache;
 use pk_shell::serve;
 use pk_store::{CreateFault, OpenFault, Refused, Store};
@@ -151,6 +152,21 @@ pub fn told<D: Disk>(
     }
 }
 
+/// What a check of a store answers, as text.
+fn checked<D: Disk>(alloc: Global, store: &mut Store<D>) -> Result<String, AllocError> {
+    match store.check(alloc) {
+        Ok(c) => format!(in alloc;
+            "ok {} next {} segments {}",
+            c.documents, c.next, c.segments
+        ),
+        Err(Refusal::Reopen) => String::from_str(alloc, "reopen"),
+        Err(Refusal::Damaged) => String::from_str(alloc, "damaged"),
+        Err(Refusal::Disk) => String::from_str(alloc, "disk"),
+        Err(Refusal::Memory) => String::from_str(alloc, "memory"),
+        Err(_) => String::from_str(alloc, "other"),
+    }
+}
+
 impl Player {
     /// One without a disk.
     pub fn new(alloc: Global) -> Player {
@@ -174,6 +190,9 @@ impl Player {
         let (step, rest) = line.split_once(" ").unwrap_or((line, ""));
         if step == "!bytes" {
             return self.bytes(rest);
+        }
+        if step == "!check" {
+            return self.check();
         }
         String::from_str(self.alloc, self.take_step(step, rest)?)
     }
@@ -205,6 +224,18 @@ impl Player {
             OpenStore::Bare(store) => told(self.alloc, store, line),
             OpenStore::Paged(store) => told(self.alloc, store, line),
             OpenStore::Plain(store) => told(self.alloc, store, line),
+        }
+    }
+
+    /// What a check of the store answers.
+    fn check(&mut self) -> Result<String, AllocError> {
+        let Some(store) = &mut self.store else {
+            return String::from_str(self.alloc, "no store");
+        };
+        match &mut **store {
+            OpenStore::Bare(store) => checked(self.alloc, store),
+            OpenStore::Paged(store) => checked(self.alloc, store),
+            OpenStore::Plain(store) => checked(self.alloc, store),
         }
     }
 

@@ -9,6 +9,7 @@
 //! | `!disk N` | a new disk of `N` zero bytes | |
 //! | `!create`, `!open` | a store on the disk | `created`, `opened`, or why not |
 //! | `!close` | the disk of the store | |
+//! | `!check` | a check of the store | `ok D next N segments S`, or why not |
 //! | `!blocks N` | stores keep `N` decoded blocks at most, from the next opening on; 0 at first | |
 //! | `!pages N` | stores are on a page cache of `N` pages, from the next opening on; on none for 0 | |
 //! | `!fail K` | of the calls from the next opening on, the `K`th and all later ones fail | |

@@ -174,6 +174,16 @@ fn whole_inputs_are_answered(rt: HostRuntime) -> Result<(), Fail> {
     Ok(())
 }
 
+// A line that is too long is answered at the end of the input, without a line feed too.
+#[test]
+fn a_long_line_is_refused_at_the_end(rt: HostRuntime) -> Result<(), Fail> {
+    let alloc = rt.alloc();
+    let line = vec![in alloc; b'a'; 3_000_000]?;
+    let refused = "refused line too long\n";
+    assert!(rt; is_answered(alloc, line.as_slice(), refused, Ok(Ended::InputEnd))?);
+    Ok(())
+}
+
 // A piece of a line is answered at the end of the input, and not after a read that failed.
 #[test]
 fn a_read_that_fails_ends_the_session(rt: HostRuntime) -> Result<(), Fail> {

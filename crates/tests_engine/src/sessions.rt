@@ -303,9 +303,11 @@ pub static MANY: [(u32, &str, &str); 3] = [
         show 1 => text a
         show 8 => text a
         show 65 => text a
+        !check => ok 65 next 66 segments 58
         merge => merged
         tidy => tidied
         count => count 65 next 66
+        !check => ok 65 next 66 segments 1
         !close
         !bytes 9248 4 => 01 00 00 00
         !open => opened

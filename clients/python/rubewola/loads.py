@@ -1,0 +1,37 @@
+"""The loaders' command."""
+
+from __future__ import annotations
+
+import os
+import sys
+import time
+from concurrent.futures import BrokenExecutor
+
+from . import loading
+from .told import tell
+
+TYPE_CHECKING = False
+if TYPE_CHECKING:
+    from .arguments import Given
+
+SOURCES = {"load-mbox": loading.Mailboxes, "load-maildir": loading.Maildirs,
+           "load-log": loading.Logs, "load-json": loading.JsonLines,
+           "load-journal": loading.Journals}
+
+
+def load(given: Given) -> int:
+    """Loads what a command line names."""
+    begin, options = time.monotonic(), given.options
+    source = SOURCES[given.command.name](*given.words)
+    try:
+        loaded = loading.load(given.stores[0], source, "no_parts" not in options,
+                              options.get("jobs", 0), "prune" in options)
+    except BrokenExecutor as error:
+        tell(str(error))
+        sys.stdout.flush()
+        os._exit(2)  # What waits for the process that was ended would wait for ever.
+    for note in getattr(source, "notes", ()):
+        tell(note)
+    if sys.stderr:
+        print(f"loaded {loaded} in {time.monotonic() - begin:.1f} s", file=sys.stderr)
+    return 0

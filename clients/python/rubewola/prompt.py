@@ -1,0 +1,85 @@
+"""A prompt."""
+
+from __future__ import annotations
+
+import os
+import sys
+from collections.abc import Iterator
+from contextlib import suppress
+
+from . import commits, queries, searching
+from .actions import opened
+from .store import Refused, Store
+from .stored import split
+from .told import tell
+
+TYPE_CHECKING = False
+if TYPE_CHECKING:
+    from .arguments import Given
+
+TYPED = ["add", "commit", "count", "delete", "find", "help", "merge", "quit", "show", "tidy",
+         *(f"{name}:" for name in queries.FIELDS), "AND", "OR", "NOT"]
+SHOWN = 20  # Documents that a find shows.
+HISTORY = "~/.rubewola_history"
+
+
+def _lines() -> Iterator[str]:
+    """What is typed; at a terminal with completion, and with what was typed before."""
+    history = None
+    with suppress(ImportError, OSError):  # A Python without readline has a plain prompt.
+        import readline
+        if sys.stdin.isatty():
+            readline.set_completer(
+                lambda text, n: [*(word for word in TYPED if word.startswith(text)), None][n])
+            readline.parse_and_bind("tab: complete")
+            history = os.path.expanduser(HISTORY)
+            open(history, "a").close()
+            readline.read_history_file(history)
+    try:
+        while (line := input("rubewola> ").strip()) != "quit":
+            yield line
+    except EOFError:
+        pass
+    finally:
+        if history:
+            readline.write_history_file(history)
+
+
+def answer(store: Store, line: str) -> str:
+    """What a line at the prompt is answered:
+
+    find QUERY   the newest 20 documents that satisfy it, and how many do:
+                 find from:ada date:2010 (backup OR restore) NOT test
+    show N       the text of document N
+    add TEXT     adds a document
+    delete N     deletes document N
+    commit       writes what is new to the disk
+    count        how many documents live, and the next number
+    merge        puts one segment in the place of all, without what was deleted
+    tidy         puts one segment in the place of eight neighbours
+    quit         commits, and ends the session, as the end of the input does; an interrupt just ends
+    """
+    command, _, rest = line.partition(" ")
+    if command == "find":
+        found = searching.answer(store, rest, tell)
+        results = searching.Results().read(store, searching.newest(store, found, SHOWN))
+        lines = map(searching.as_line, results.newest(SHOWN))
+        return "\n".join([*lines, f"found {len(found.numbers)}"])
+    if command == "show":
+        if not rest.isdecimal():
+            return "refused show wants a number"
+        return queries.plain(split(store.show(int(rest)))[0])
+    return str(answer.__doc__) if command == "help" else store.ask(line)
+
+
+def shell(given: Given) -> int:
+    """Answers a person's commands."""
+    print("`help` names the commands, `quit` ends the session.")
+    with opened(given.stores[0]) as store:
+        for line in filter(None, _lines()):
+            try:
+                print(answer(store, line))
+            except Refused as refused:
+                print(f"refused {refused}")
+        commits.commit(store)
+    return 0

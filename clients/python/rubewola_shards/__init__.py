@@ -1,0 +1,1 @@
+"""One archive over the stores of several machines, by Dask's distributed."""

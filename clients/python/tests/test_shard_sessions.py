@@ -1,0 +1,168 @@
+"""The session of a shard, without the engine around it: each call can come twice, or be broken off."""
+
+import asyncio
+import gc
+import os
+import pickle
+import signal
+import unittest
+from array import array
+from pathlib import Path
+
+from rubewola import QueryRefused, Store
+from rubewola.loading import Logs, Mailboxes
+from rubewola.logs import Read
+from rubewola.sources import Entry
+from rubewola_shards.session import NoAnswer, Session
+
+from support import LONG, Stores
+
+IDENTITY = "1 of 1 from 1 by 64"
+
+
+def lines(first, last):
+    """The packed tasks of a log's lines."""
+    data = "".join(f"line {n} w{n % 3}\n" for n in range(first, last + 1)).encode()
+    return pickle.dumps([(Logs.read_chunk, Read(data, [], "", 0, None), True)])
+
+
+def programs_of(store):
+    """The programs that this process has started for a store."""
+    found = []
+    for task in Path("/proc/self/task").iterdir():
+        for pid in (task / "children").read_text().split():
+            if os.fsencode(store) in Path(f"/proc/{pid}/cmdline").read_bytes().split(b"\0"):
+                found.append(int(pid))
+    return found
+
+
+def entries_of(texts):
+    """Entries of bare texts, whatever they are."""
+    return [Entry(text.encode(), "", 0, False, False) for text in texts]
+
+
+class Sessions(Stores):
+    """A session with a store that it made."""
+
+    def setUp(self):
+        super().setUp()
+        self.session = self.made()
+        self.assertEqual(self.ask("create", 4_096), "created")
+        self.addCleanup(self.ask, "close")
+
+    def made(self, identity=IDENTITY):
+        return Session(str(self.store), identity)
+
+    def ask(self, method, *given):
+        return asyncio.run(getattr(self.session, method)(*given))
+
+    def load(self, first, last):
+        return self.ask("load", first, last - first + 1, lines(first, last))
+
+    def refused(self, told, method, *given):
+        self.assertRaisesRegex(NoAnswer, told, self.ask, method, *given)
+
+    def found(self, query, limit=99, most=99):
+        count, numbers = self.ask("find", query, limit, most)
+        return count, [*array("I", numbers)]
+
+    def test_what_is_sent_twice_is_added_once(self):
+        for first, last, following in [(1, 10, 11), (1, 10, 11), (1, 15, 16), (4, 9, 16),
+                                       (16, 20, 21)]:
+            self.assertEqual(self.load(first, last), (following, 0, 0))
+        self.refused("documents from 22 on come where 21 is the next", "load", 22, 2, lines(22, 23))
+        self.refused("2 documents from 21 on .* and 3 are told", "load", 21, 3, lines(21, 22))
+        self.assertEqual(self.found("line"), (20, [*range(1, 21)]))
+        for number in range(1, 21):
+            self.assertEqual(self.found(str(number)), (1, [number]))
+
+    def test_a_load_that_fails_leaves_nothing_uncommitted(self):
+        self.load(1, 3)
+        bad = pickle.dumps([(entries_of, ["good", "good", "x" * 1_048_577])])
+        self.refused("text too long", "load", 4, 3, bad)
+        self.refused("invalid literal", "load", 4, 1, pickle.dumps([(int, "none")]))
+        self.assertEqual(self.ask("counts", 99), (3, 4))
+        self.assertEqual(self.found("good"), (0, []))
+
+    def test_what_was_cut_is_told(self):
+        mails = [b"From: ada\n\n" + b"x " * 600_000, b"From: ada\n\ny\n"]
+        self.assertEqual(self.ask("load", 1, 2, pickle.dumps([(Mailboxes.read_chunk, mails, True)])),
+                         (3, 1, 0))
+
+    def test_commands_queue(self):
+        async def both():
+            return await asyncio.gather(self.session.load(1, 500, lines(1, 500)),
+                                        self.session.find("line", 0, 999),
+                                        self.session.load(501, 100, lines(501, 600)),
+                                        self.session.find("line", 0, 999))
+        self.assertEqual(asyncio.run(both()), [(501, 0, 0), (500, b""), (601, 0, 0), (600, b"")])
+
+    def test_a_program_that_is_killed(self):
+        self.load(1, 9)
+        for _ in range(2):
+            own, = programs_of(self.store)
+            os.kill(own, signal.SIGKILL)
+            self.assertEqual(self.found("w0"), (3, [3, 6, 9]))
+
+    def test_what_is_behind_the_end_of_a_group(self):
+        self.load(1, 30)
+        self.assertEqual(self.found("line", limit=2, most=20), (20, [19, 20]))
+        self.assertEqual(self.found("w0", limit=0), (10, []))
+        self.assertEqual(self.found("line", limit=0, most=0), (0, []))
+        self.assertEqual(self.ask("counts", 20), (20, 31))
+        self.assertEqual(self.ask("last", 20)[:2], (31, 20))
+        self.assertEqual(self.ask("last", 0), (31, 0, ""))
+
+    def test_deletions(self):
+        self.load(1, 9)
+        self.assertEqual(self.ask("delete", [3, 8, 9]), [True] * 3)
+        self.assertEqual(self.ask("delete", [3, 4, 50]), [False, True, False])
+        self.ask("close")  # What was deleted is committed.
+        self.assertEqual(self.ask("counts", 99), (5, 10))
+        following, number, text = self.ask("last", 99)
+        self.assertEqual((following, number), (10, 7))
+        self.assertIn("line 7", text)
+        texts = self.ask("show", [3, 5, 4])
+        self.assertEqual([text and text[:6] for text in texts], [None, "line 5", None])
+
+    def test_a_store_of_another_shard(self):
+        self.assertEqual(self.ask("create", 64), "was there")
+        self.ask("close")
+        self.session = self.made("2 of 2 from 1 by 64")
+        for call in [("create", 64), ("counts", 99), ("check",), ("find", "x", 9, 9)]:
+            self.refused(f"the store is shard {IDENTITY}, and shard 2 of 2 from 1 by 64", *call)
+        self.store.unlink()
+        self.refused("the store is shard", "create", 64)
+        self.session = self.made()
+        self.refused("missing", "counts", 99)
+        self.assertEqual(self.ask("create", 4_096), "created")
+
+    def test_a_store_that_tells_no_shard(self):
+        self.ask("close")
+        self.write("s.shard", b"").unlink()
+        for call in [("create", 64), ("counts", 99), ("check",)]:
+            self.refused("no file .*s.shard tells which shard this is", *call)
+
+    def test_refusals_and_checks(self):
+        self.load(1, 9)
+        self.assertRaises(QueryRefused, self.ask, "find", "a AND", 9, 9)
+        self.refused("unknown", "ask", "unheard")
+        self.assertEqual(self.ask("check"), "ok 9 documents next 10 segments 1")
+        self.ask("close")
+        with Store(self.store, wait=LONG):
+            self.refused("in use", "counts", 99)
+            self.refused("in use", "check")
+        self.assertEqual([self.ask("ask", command) for command in ("commit", "tidy", "merge")],
+                         ["committed", "tidied", "merged"])
+
+    def test_a_session_that_is_dropped_leaves_no_program(self):
+        session = self.made()
+        asyncio.run(session.counts(99))
+        del session
+        gc.collect()
+        with Store(self.store, wait=LONG) as store:
+            self.assertEqual(store.count(), (0, 1))
+
+
+if __name__ == "__main__":
+    unittest.main()
