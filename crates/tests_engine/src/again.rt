@@ -280,7 +280,7 @@ fn read_before(
 
 /// Plays a round with each call failing once in its turn, up to a session that meets none; whether
 /// there is one. An open store is to be opened again behind a write or a sync, and behind no read;
-/// of a merge some read failed, and of a check.
+/// of a merge some read failed, and of a check, unless a page cache may hold all that it reads.
 fn is_done_again(alloc: Global, setting: &str, round: &Round) -> Result<bool, ScriptFault> {
     let mut refused_merges = 0u64;
     let mut refused_checks = 0u64;
@@ -288,7 +288,8 @@ fn is_done_again(alloc: Global, setting: &str, round: &Round) -> Result<bool, Sc
     for k in 1..MOST_CALLS {
         let met = play_round(alloc, &mut Player::new(alloc), setting, round, k)?;
         if !met.fault {
-            return Ok(refused_merges > 0 && refused_checks > 0);
+            let is_paged = setting.contains("!pages");
+            return Ok(refused_merges > 0 && (refused_checks > 0 || is_paged));
         }
         let next = k.saturating_add(1);
         let further = read_before(alloc, &mut Player::new(alloc), setting, round, next)?;
