@@ -10,11 +10,13 @@ goes by unittest, which tells what failed on standard error. It ends with 1 wher
 import errno
 import fcntl
 import os
+import struct
 import subprocess
 import sys
 import tempfile
 import unittest
 
+import laid_out
 import preload
 
 PROGRAM = ""
@@ -70,6 +72,42 @@ class WordsThatAreNotText(ProgramTest):
         self.assertEqual(self.files(), [path])
         counted = self.run_program(b"run", path, lines=b"count\n")
         self.assertEqual(counted, (0, b"count 0 next 1\n", b""))
+
+
+class ManySegments(ProgramTest):
+    """A store of documents `a`, a segment each, laid out byte by byte: of as many segments as there
+    may be, and of one more."""
+
+    MOST = 4096
+    BODIES = 1024, 9216
+
+    def lay_out(self, count):
+        """Makes a store of so many segments."""
+        laid_out.store_of(os.path.join(self.folder, "s"), count)
+
+    def in_force(self):
+        """How many segments the body of the greater generation has, and the bytes of its table."""
+        with open(os.path.join(self.folder, "s"), "rb") as store:
+            front = store.read(self.BODIES[1] + 48)
+        bodies = [struct.unpack_from("<8xQIIQ4I", front, place) for place in self.BODIES]
+        newest = max(bodies)
+        return newest[4], newest[7]
+
+    def test_the_most_that_there_may_be(self):
+        self.lay_out(self.MOST)
+        told = self.run_program("run", "s", lines=b"add a\ncommit\ntidy\ncommit\n")
+        replies = b"added 4097\nrefused too many segments\ntidied\ncommitted\n"
+        self.assertEqual(told, (0, replies, b""))
+        self.assertEqual(self.in_force(), (4090, 163600))
+        merged = self.run_program("run", "s", lines=b"merge\ncount\n")
+        self.assertEqual(merged, (0, b"merged\ncount 4097 next 4098\n", b""))
+        self.assertEqual(self.in_force(), (1, 40))
+        checked = self.run_program("check", "s")
+        self.assertEqual(checked, (0, b"ok 4097 documents next 4098 segments 1\n", b""))
+
+    def test_one_more_is_damage(self):
+        self.lay_out(self.MOST + 1)
+        self.assertEqual(self.run_program("run", "s"), (1, b"", b"pk_find: damaged\n"))
 
 
 class CallsOfTheSystem(ProgramTest):

@@ -12,33 +12,36 @@ BATCH = 4_096
 UNIT = 512
 
 
-def replies_to(count):
+def replies_to(count, batch):
     """What the program answers to `count` added lines with a commit after each batch."""
     for number in range(1, count + 1):
         yield b"added %d\n" % number
-        if number % BATCH == 0 or number == count:
+        if number % batch == 0 or number == count:
             yield b"committed\n"
 
 
-def asks_for(texts):
+def asks_for(texts, batch):
     """The lines that add the texts, with a commit after each batch."""
-    for start in range(0, len(texts), BATCH):
-        for text in texts[start : start + BATCH]:
+    for start in range(0, len(texts), batch):
+        for text in texts[start : start + batch]:
             yield f"add {text}\n"
         yield "commit\n"
 
 
 def segments(path):
-    """The bytes of each segment of a store, by the body in force (docs/FORMATS.md)."""
+    """The bytes of each segment of a store, by the body in force and its table (docs/FORMATS.md)."""
     with open(path, "rb") as file:
         units = file.read(34 * UNIT)
 
-    def number(place, size):
-        return int.from_bytes(units[place : place + size], "little")
+        def number(place, size):
+            return int.from_bytes(units[place : place + size], "little")
 
-    bodies = [start * UNIT for gate, start in ((0, 2), (1, 18)) if units[gate * UNIT] == 0xA7]
-    body = max(bodies, key=lambda body: number(body + 8, 8))
-    return [number(body + 36 + 40 * entry + 16, 4) for entry in range(number(body + 32, 4))]
+        bodies = [start * UNIT for gate, start in ((0, 2), (1, 18)) if units[gate * UNIT] == 0xA7]
+        body = max(bodies, key=lambda body: number(body + 8, 8))
+        file.seek(number(body + 36, 4) * UNIT)
+        table = file.read(number(body + 44, 4))
+    entries = range(0, len(table), 40)
+    return [int.from_bytes(table[entry + 16 : entry + 20], "little") for entry in entries]
 
 
 class Program:
@@ -65,10 +68,10 @@ class Program:
         if reply != wanted:
             raise SystemExit(f"measure: the program answered {line!r} by {reply!r}")
 
-    def fill(self, texts):
-        """Adds and commits the texts, and gives the seconds until the last reply."""
-        lines = "".join(asks_for(texts)).encode()
-        wanted = b"".join(replies_to(len(texts)))
+    def fill(self, texts, batch=BATCH):
+        """Adds the texts, with a commit after each batch; the seconds until the last reply."""
+        lines = "".join(asks_for(texts, batch)).encode()
+        wanted = b"".join(replies_to(len(texts), batch))
 
         def feed():
             self.process.stdin.write(lines)
@@ -90,6 +93,11 @@ class Program:
         if b"".join(replies) != wanted:
             raise SystemExit("measure: the program's replies are not those of added lines")
         return seconds
+
+    def add(self, text):
+        """Adds a text and commits it."""
+        self.ask(f"add {text}")
+        self.expect("commit", "committed")
 
     def delete(self, numbers):
         """Deletes the documents, one after the other, and commits."""
@@ -125,15 +133,19 @@ class Fts5:
     def create(self):
         self.base.execute(self.table)
 
-    def fill(self, texts):
+    def fill(self, texts, batch=BATCH):
         """Adds the texts, a transaction for each batch, and gives the seconds."""
         rows = [(text,) for text in texts]
         start = time.perf_counter()
-        for first in range(0, len(rows), BATCH):
+        for first in range(0, len(rows), batch):
             self.base.execute("BEGIN")
-            self.base.executemany("INSERT INTO documents(text) VALUES (?)", rows[first : first + BATCH])
+            self.base.executemany("INSERT INTO documents(text) VALUES (?)", rows[first : first + batch])
             self.base.execute("COMMIT")
         return time.perf_counter() - start
+
+    def add(self, text):
+        """Adds a text in a transaction of its own."""
+        self.base.execute("INSERT INTO documents(text) VALUES (?)", (text,))
 
     def delete(self, numbers):
         """Deletes the documents in one transaction."""

@@ -12,6 +12,9 @@ from rubewola import (Failed, Full, InUse, NoSuchDocument, QueryRefused, Refused
 
 from support import LONG, RUBEWOLA, TOP, Stores, mail, mbox
 
+sys.path.append(str(TOP / "tools"))
+import laid_out  # pylint: disable=wrong-import-position,wrong-import-order
+
 
 class Sessions(Stores):
     """A store from Python."""
@@ -49,16 +52,24 @@ class Sessions(Stores):
     def test_room_is_made(self):
         large = " ".join(map(str, range(20_000)))
         with Store.create(self.store, 1_024) as store:
-            for text, fitting, refusal in [("kept", 64, TooManySegments), (large, 1, Full)]:
-                for _ in range(fitting):
-                    number = store.add(text)
-                    store.commit()
-                store.delete(number)
-                store.commit()
-                store.add(text)
-                self.assertRaises(refusal, store.commit)
-                commits.commit(store)
-            self.assertEqual(store.find("kept"), [*range(1, 64), 65])
+            number = store.add(large)
+            store.commit()
+            store.delete(number)
+            store.commit()
+            store.add(large)
+            self.assertRaises(Full, store.commit)
+            commits.commit(store)
+            self.assertEqual(store.count(), (1, 3))
+
+    def test_room_is_made_for_a_segment(self):
+        laid_out.store_of(self.store, 4_096)
+        with Store(self.store) as store:
+            store.delete(4_096)
+            store.commit()
+            store.add("a")
+            self.assertRaises(TooManySegments, store.commit)
+            commits.commit(store)
+            self.assertEqual(store.find("a"), [*range(1, 4_096), 4_097])
 
     def test_many_commands_on_their_way(self):
         with Store.create(self.store, 64) as store:

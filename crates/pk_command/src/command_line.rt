@@ -35,7 +35,7 @@ The store has N units of 512 bytes, from 64 to 2147483648, and its file gets tha
 It never grows: 34 units are the store's own, and the others are for documents. A commit takes the
 bytes of its texts, 12 more for each and 24 more, and an index of their words, about half as much
 again for lines of English, in whole units side by side. It is refused where that room is not left.
-A store takes 64 commits of new documents, and more after a merge, which needs room for all its
+A store takes 4096 commits of new documents, and more after a merge, which needs room for all its
 documents once again while it works, or after a tidy, which needs less.
 
 The file is sparse: what was never written takes no room on the disk. So choose N generously. The

@@ -1,5 +1,5 @@
 -- Bytes of an extent that were read ahead.
-use Rattle.std.specs.Prelude.{◌≡◌, ◌≤◌, ◌+◌, ℕ, List, [], ◌∷◌, length, take, drop}
+use Rattle.std.specs.Prelude.{◌≡◌, ◌≤◌, ◌+◌, ◌/◌, ℕ, List, [], ◌∷◌, length, max, min, take, drop}
 use Rattle.pk_disk.specs.Units.{extent_bytes}
 use Rattle.pk_join.specs.declared.ahead.Ahead.{Ahead}
 use Rattle.pk_join.specs.declared.input.MergeInput.{MergeInput}
@@ -30,7 +30,11 @@ HoldInputs bytes (i ∷ is) [] = Unit {0}
 HoldInputs bytes (i ∷ is) (a ∷ aheads) =
     HoldsOf (extent_bytes bytes i.extent) a × HoldInputs bytes is aheads
 
--- how many bytes of an input are read at once: none where its lists are in memory
-abbrev pub bytes_ahead : InputLists → ℕ
-bytes_ahead (Stored words postings marks) = 32768
-bytes_ahead (Indexed t marks) = 0
+-- how many bytes are read at once of each of so many inputs: at most 32 KiB, and 64 MiB of all
+abbrev pub share_ahead : ℕ → ℕ
+share_ahead inputs = min 32768 (67108864 / max 1 inputs)
+
+-- the same of this input: none where its lists are in memory
+abbrev pub bytes_ahead : ℕ → InputLists → ℕ
+bytes_ahead inputs (Stored words postings marks) = share_ahead inputs
+bytes_ahead inputs (Indexed t marks) = 0

@@ -15,7 +15,7 @@
 //! | `InputLists` | the words of an input, with their lists |
 //! | `read_lists` | those of a segment of either kind |
 //! | `Walk` | goes through the words that the inputs leave, each with its numbers |
-//! | `Ahead` | bytes of an extent that were read ahead, 32,768 at once |
+//! | `Ahead` | bytes of an extent that were read ahead, 32,768 at once, or fewer of many inputs |
 //! | `AheadSource` | an extent as a source that reads ahead |
 //!
 //! Of an input of kind 2 the terms are in memory, end to end, and 16 bytes for each: where it ends,

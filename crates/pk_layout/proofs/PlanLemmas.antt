@@ -1,9 +1,10 @@
 -- What planning a commit rests on, and which plan it makes.
-use Rattle.std.proofs.Common.{◌≡◌, ◌⊎◌, inl, inr, ℕ, ◌+◌, ◌<◌, ◌≤◌, ◌++◌, true, false, nat_lt, List, [], ◌∷◌, length, length-append, get_or, map, refl, sym, ◌∙◌, ap, subst, arith, append-nil, None, Ok, Err, Result}
-use Rattle.std.specs.Prelude.{All}
+use Rattle.std.proofs.Common.{◌≡◌, ◌⊎◌, inl, inr, ℕ, suc, ◌+◌, ◌*◌, ◌==◌, ◌<◌, ◌≤◌, ◌++◌, true, false, nat_lt, List, [], ◌∷◌, length, length-append, get_or, map, refl, sym, ◌∙◌, ap, subst, arith, append-nil, append_assoc, drop, take, None, Ok, Err, Result}
+use Rattle.std.specs.Prelude.{All, if◌then◌else◌}
 use Rattle.std.specs.List.{AllByRecursion, flat_map, list_all}
 use Rattle.std.proofs.lemmas.Bool.{and_from, and_parts, le-ltb, lt-ltb, or_from, or_left}
-use Rattle.std.proofs.lemmas.List.{get_or-map, length-map}
+use Rattle.std.proofs.lemmas.List.{get_or-map, length-map, take-append-drop}
+use Rattle.pk_disk.proofs.Ranges.{or_both}
 use Rattle.std.proofs.lemmas.List.Elements.{All-append, All-cons, All-head, All-map, All-nil, recursion_from_All}
 use Rattle.pk_manifest.specs.Sound.{IsBody, SaysSound, entry_limit, named, segment_limit}
 use Rattle.pk_model.specs.Collection.{Doc}
@@ -29,15 +30,15 @@ use Rattle.pk_space.specs.Places.{FullAs}
 use Rattle.pk_state.specs.Writing.{is_too_large, new_entry, new_stored, written_kind}
 use Rattle.pk_layout.proofs.PlacingLemmas.{some_bytes as some_bytes_of, spelled_length}
 use Rattle.pk_disk.specs.Units.{apart, lies_within, overlap, units_in}
-use Rattle.pk_manifest.proofs.Fields.{extents_of_disk}
-use Rattle.pk_manifest.proofs.Sound.{says_sound}
+use Rattle.pk_manifest.proofs.Fields.{extents_of_disk, table_long}
 use Rattle.pk_manifest.specs.Sound.{is_part}
 use Rattle.pk_model.specs.Limits.{end_of_ids, end_of_numbers}
 use Rattle.pk_replace.specs.Claims.{AreApart, Each, IsAmong, IsBehind, IsInside, places}
 use Rattle.pk_replace.proofs.ClaimLemmas.{each_weaker, of_among}
 use Rattle.pk_search.specs.Opened.{AreOpenOf, present}
 use Rattle.pk_state.specs.Committed.{Stored}
-use Rattle.pk_state.specs.Kept.{AreEntries, claims_of}
+use Rattle.pk_state.specs.Kept.{AreEntries, all_claims, claims_of, table_claims}
+use Rattle.pk_state.proofs.MergeLemmas.{front_placed}
 use Rattle.pk_state.proofs.HoldsLemmas.{units_room}
 use Rattle.pk_state.proofs.KindLemmas.{written_is_kind}
 use Rattle.pk_layout.specs.declared.committing.CommitPlan.{CommitPlan}
@@ -46,20 +47,18 @@ use Rattle.pk_layout.specs.Placed.{AreLaid}
 use Rattle.pk_layout.proofs.ExtentLemmas.{laid_inside, laid_missed, next_untouched}
 use Rattle.pk_disk.specs.declared.units.Extent.{Extent}
 use Rattle.pk_manifest.specs.declared.manifest.Part.{Part as Entry}
-use Rattle.pk_manifest.specs.Spelling.{Body}
+use Rattle.pk_manifest.specs.Spelling.{Body, table_size}
 use Rattle.pk_search.specs.declared.opened.OpenSegment.{OpenSegment}
-use Rattle.pk_state.specs.Writing.{next_body}
-use Rattle.pk_layout.proofs.ApartLemmas.{apart_back, apart_in, apart_out, laid_all, laid_apart, placed_all, placed_long}
-use Rattle.pk_layout.proofs.BodyLemmas.{claims_append, entries_append, entries_laid, ids_apart, list_extent, new_part, next_sound, parts_later}
-use Rattle.pk_layout.proofs.RelistLemmas.{AreFree, IsListExtent, claims_relisted, entries_relisted, ids_relisted, map_settled, parts_relisted, relisted_free, relisted_long, settled_open}
+use Rattle.pk_state.specs.Writing.{next_body, table_writes, with_table}
+use Rattle.pk_layout.proofs.ApartLemmas.{any_out, apart_back, apart_in, apart_out, laid_all, laid_apart, placed_all, placed_long}
+use Rattle.pk_manifest.proofs.Sound.{few_in, says_sound}
+use Rattle.pk_layout.proofs.BodyLemmas.{HasTable, all_laid_in, claims_append, entries_append, ids_apart, list_extent, new_part, next_sound, parts_later, places_in}
+use Rattle.pk_layout.proofs.RelistLemmas.{AreFree, IsListExtent, among_back, among_front, apart_front, both_missed, claims_relisted, each_both, either_weaker, entries_relisted, ids_relisted, map_settled, parts_relisted, relisted_free, relisted_long, settled_open}
 use Rattle.pk_space.specs.Places.{PlacedAs}
+use Rattle.pk_layout.proofs.TableLemmas.{all_back, back_placed, has_table, laid_two, long_with, some_with, table_among, table_free, with_tabled}
 use Rattle.pk_layout.proofs.TakenLemmas.{taken_append, taken_relisted}
-use Rattle.pk_layout.specs.Plan.{AreSettled, AreTaken, BuildsAs, CanBeWritten, DueAs, GoesOn, GoesTo, HavePlace, IsPlan, IsPlanOf, PlansAs, PlansCommit, PlansWith, body_with_lists, body_with_segment, fresh_segment, laid_in, new_lists, pieces_of, relisted, settled}
+use Rattle.pk_layout.specs.Plan.{AreSettled, AreTaken, BuildsAs, CanBeWritten, DueAs, GoesOn, GoesTo, HavePlace, IsPlan, IsPlanOf, PlansAs, PlansCommit, PlansWith, PromisesTable, body_with_lists, body_with_segment, fresh_segment, laid_in, lengths_with, new_lists, pieces_of, relisted, settled, table_bytes, tabled}
 use Rattle.pk_layout.specs.Plan.{IsGrown}
-
--- what may be written has some bytes
-pub some_lengths : (lengths : List ℕ) (ws : List (List ℕ)) → lengths ≡ map length ws → CanBeWritten ws → All (λ n. 1 ≤ n) lengths
-some_lengths lengths ws same can = subst (All (λ n. 1 ≤ n)) (sym same) (All-map (λ n. 1 ≤ n) length ws (λ k w lt. let least : 5 ≤ length (get_or ws k w) = (can k w lt).0 in omega (arith, least)))
 
 -- documents of a buffer, in the words of those that are built
 pub as_many : (documents : List Document) (buffer : List Doc) → map doc_of documents ≡ buffer → length documents ≡ length buffer
@@ -74,19 +73,52 @@ no_documents [] none = refl
 no_documents (d ∷ documents) none = absurd (omega (arith, none))
 
 -- entries with new lists are no more than there were, and one of a new segment
-pub few_entries : (units : ℕ) (b m : Body) (next given : ℕ) (es more : List Entry) (os : List OpenSegment) (xs : List Extent) → IsBody units b → m ≡ next_body b next given (es ++ more) → es ≡ relisted b.entries os xs → length b.entries + length more ≤ entry_limit → length m.entries ≤ entry_limit
-few_entries units b m next given es more os xs is same entries room =
+pub few_entries : (b m : Body) (next given : ℕ) (ts : List Extent) (es more : List Entry) (os : List OpenSegment) (xs : List Extent) → m ≡ tabled ts (next_body b next given (es ++ more)) → es ≡ relisted b.entries os xs → length b.entries + length more ≤ 4096 → length m.entries ≤ 4096
+few_entries b m next given ts es more os xs same entries room =
     let long : length m.entries ≡ length es + length more = ap (λ (x : Body). length x.entries) same ∙ length-append es more in
     omega (arith, long, ap length entries, relisted_long b.entries os xs, room)
 
-pub sound_few : (units : ℕ) (b : Body) → IsBody units b → length b.entries + 0 ≤ entry_limit
-sound_few units b is = let few = (says_sound units b is.sound).few in omega (arith, few)
+pub many_entries : (b m : Body) (next given : ℕ) (ts : List Extent) (es more : List Entry) (os : List OpenSegment) (xs : List Extent) → m ≡ tabled ts (next_body b next given (es ++ more)) → es ≡ relisted b.entries os xs → length m.entries ≡ length b.entries + length more
+many_entries b m next given ts es more os xs same entries =
+    ap (λ (x : Body). length x.entries) same ∙ length-append es more ∙ ap (λ n. n + length more) (ap length entries ∙ relisted_long b.entries os xs)
 
--- as many extents as there are writes
-pub same_many : (b : Body) (writes : List (Vec ℕ Global)) (lengths : List ℕ) (extents : List Extent) → lengths ≡ map length (map (λ w. w.items) writes) → PlacedAs b.units (named b) lengths extents → length writes ≡ length extents
-same_many b writes lengths extents same placed =
-    let long : length lengths ≡ length writes = ap length same ∙ length-map (map (λ (w : Vec ℕ Global). w.items) writes) length ∙ length-map writes (λ (w : Vec ℕ Global). w.items) in
-    omega (arith, long, placed_long b.units (named b) lengths extents placed)
+pub sound_few : (units : ℕ) (b : Body) → IsBody units b → length b.entries + 0 ≤ 4096
+sound_few units b is = let few = few_in units b (says_sound units b is.sound) in omega (arith, few)
+
+-- as many extents as there are writes, and one of the table
+pub same_many : (b : Body) (writes : List (Vec ℕ Global)) (es : List Entry) (n : ℕ) (extents : List Extent) → length es ≡ n → PlacedAs b.units (named b) (lengths_with (map (λ w. w.items) writes) n) extents → length writes + length (table_bytes es) ≡ length extents
+same_many b writes es n extents same placed =
+    let ws : List (List ℕ) = map (λ (w : Vec ℕ Global). w.items) writes in
+    let long : length (lengths_with ws n) ≡ length writes + length (table_bytes es) =
+    ap length (sym (long_with ws es n same)) ∙ length-map (ws ++ table_bytes es) length ∙ length-append ws (table_bytes es) ∙ ap (λ k. k + length (table_bytes es)) (length-map writes (λ (w : Vec ℕ Global). w.items)) in
+    omega (arith, long, placed_long b.units (named b) (lengths_with ws n) extents placed)
+
+-- no fewer extents than writes
+pub enough_extents : (b : Body) (writes : List (Vec ℕ Global)) (n : ℕ) (extents : List Extent) → PlacedAs b.units (named b) (lengths_with (map (λ w. w.items) writes) n) extents → length writes ≤ length extents
+enough_extents b writes n extents placed =
+    let ws : List (List ℕ) = map (λ (w : Vec ℕ Global). w.items) writes in
+    omega (arith, placed_long b.units (named b) (lengths_with ws n) extents placed, length-append (map length ws) (table_writes n), length-map ws length, length-map writes (λ (w : Vec ℕ Global). w.items))
+
+-- a plan, by all its extents one after the other
+pub plans_with : (b : Body) (writes : List (List ℕ)) (count k : ℕ) (opened : List OpenSegment) (body : List Extent → Body) (es : List Extent) (p : CommitPlan) → PlacedAs b.units (named b) (lengths_with writes count) es → k ≡ length writes
+    → IsPlanOf (tabled (drop k es) (body (take k es))) opened p.plan → pieces_of p ≡ laid_in es (writes ++ table_bytes (body (take k es)).entries) → PlansWith b writes count opened body (Ok p)
+plans_with b writes count k opened body es p placed many plan pieces =
+    let whole : take k es ++ drop k es ≡ es = take-append-drop k es in (
+      take k es,
+      drop k es,
+      front_long b.units (named b) writes (table_writes count) k many es placed,
+      subst (PlacedAs b.units (named b) (lengths_with writes count)) (sym whole) placed,
+      plan,
+      subst (λ xs. pieces_of p ≡ laid_in xs (writes ++ table_bytes (body (take k es)).entries)) (sym whole) pieces,
+    )
+  where
+    front_long : (units : ℕ) (taken : List Extent) (ws : List (List ℕ)) (ms : List ℕ) (n : ℕ) → n ≡ length ws → (xs : List Extent) → PlacedAs units taken (map length ws ++ ms) xs → length (take n xs) ≡ length ws
+    front_long units taken ws ms n same xs placed = ap (λ m. length (take m xs)) same ∙ front units taken ws ms xs placed
+      where
+        front : (units : ℕ) (taken : List Extent) (ws : List (List ℕ)) (ms : List ℕ) (xs : List Extent) → PlacedAs units taken (map length ws ++ ms) xs → length (take (length ws) xs) ≡ length ws
+        front units taken [] ms xs placed = refl
+        front units taken (w ∷ ws) ms [] placed = absurd placed
+        front units taken (w ∷ ws) ms (x ∷ xs) placed = ap suc (front units (x ∷ taken) ws ms xs placed.1)
 
 pub with_first : (w : List ℕ) (ws : List (List ℕ)) → CanBeWritten (w ∷ []) → CanBeWritten ws → CanBeWritten (w ∷ ws)
 with_first w ws one all = All-cons (λ (x : List ℕ). (5 ≤ length x) × (length x ≤ segment_limit)) w ws (All-head (λ (x : List ℕ). (5 ≤ length x) × (length x ≤ segment_limit)) w [] one) all
@@ -102,13 +134,21 @@ pub placed_here : (size : ℕ) (b : Body) → IsBody (units_in size) b → (writ
     → (list_all (lies_within (units_in size)) es ≡ true) × (apart overlap (named b ++ es) ≡ true)
 placed_here size b is writes some es placed = lengths_here size b is (map length writes) some es placed
 
+-- the claim of the table is among what is written
+pub table_in_writes : (b : Body) (next given : ℕ) (ws : List (List ℕ)) (es : List Entry) (xs ts : List Extent) → length xs ≡ length ws → (units : ℕ) (taken : List Extent) → PlacedAs units taken (table_writes (length es)) ts
+    → Each (λ c. IsAmong c (laid_in (xs ++ ts) (ws ++ table_bytes es))) (table_claims (tabled ts (next_body b next given es)))
+table_in_writes b next given ws es xs ts same units taken placed =
+    subst (λ cs. Each (λ c. IsAmong c cs) (table_claims (tabled ts (next_body b next given es)))) (sym (laid_two xs ts ws (table_bytes es) same))
+    (each_weaker (λ c. IsAmong c (laid_in ts (table_bytes es))) (λ c. IsAmong c (laid_in xs ws ++ laid_in ts (table_bytes es))) (λ c is. among_back c (laid_in xs ws) (laid_in ts (table_bytes es)) is)
+    (table_claims (tabled ts (next_body b next given es))) (table_among b next given es ts units taken placed))
+
 -- ---- ANY PLAN
 
 -- bytes at the first fit, a body that follows, and open segments for its entries
-module _ (size : ℕ) (b b' : Body) (is : IsBody (units_in size) b) (left : b.generation < end_of_ids) (next_is : IsBody (units_in size) b') (later : b'.generation ≡ b.generation + 1)
+module _ (size : ℕ) (b b' : Body) (is : IsBody (units_in size) b) (left : b.generation < end_of_ids) (next_is : IsBody (units_in size) b') (later : b'.generation ≡ b.generation + 1) (two : b'.version ≡ 2)
     (writes : List (List ℕ)) (some : AllByRecursion (λ (n : ℕ). 1 ≤ n) (map length writes)) (extents : List Extent) (placed : PlacedAs b.units (named b) (map length writes) extents)
     (opened : List OpenSegment) (count : length opened ≡ length b'.entries) (grown : All IsGrown opened) (p : Plan) (plan : IsPlanOf b' opened p) where
-  disk_extents : (length b.entries ≤ entry_limit) × (list_all (lies_within (units_in size)) (named b) ≡ true) × (apart overlap (named b) ≡ true)
+  disk_extents : (length b.entries ≤ entry_limit b.version) × (list_all (lies_within (units_in size)) (named b) ≡ true) × (apart overlap (named b) ≡ true)
   disk_extents = extents_of_disk (units_in size) b is
 
   pub on_disk : PlacedAs (units_in size) (named b) (map length writes) extents
@@ -131,6 +171,8 @@ module _ (size : ℕ) (b b' : Body) (is : IsBody (units_in size) b) (left : b.ge
     generation = left;
     later = ap (λ (x : Body). x.generation) plan.manifest_is ∙ later;
     sound = subst (IsBody (units_in size)) (sym plan.manifest_is) next_is;
+    version = ap (λ (x : Body). x.version) plan.manifest_is ∙ two;
+    table = subst (λ (x : Body). x.table.bytes ≡ 40 * length x.entries) (sym plan.manifest_is) (table_long (units_in size) (table_size b') b'.table (says_sound (units_in size) b' next_is.sound).table ∙ ap (λ (v : ℕ). if v == 1 then 0 else 40 * length b'.entries) two);
     body_is = plan.body_is;
     opened = ap length plan.opened_is ∙ count ∙ ap (λ (x : Body). length x.entries) (sym plan.manifest_is);
     grown = subst (All IsGrown) (sym plan.opened_is) grown;
@@ -149,13 +191,20 @@ module _ (size : ℕ) (b b' : Body) (is : IsBody (units_in size) b) (left : b.ge
     missed = λ claims laid. laid_missed (named b) extents claims written laid all_laid all_placed_here.1;
   }
 
+  -- its table is promised by whoever promises what is among these, if it is
+  pub promises_table : Each (λ c. IsAmong c written) (table_claims b') → PromisesTable (λ c. IsAmong c written) p
+  promises_table among = subst (λ (x : Body). Each (λ c. IsAmong c written × IsBehind c) (table_claims x)) (sym plan.manifest_is)
+      (each_weaker (λ c. IsAmong c written) (λ c. IsAmong c written × IsBehind c) (λ c is. (is, (of_among (IsInside size) c written is all_inside).0)) (table_claims b') among)
+
   -- it takes what the entries stand for over to what its own do
   pub goes_to : (stored stored' : List Stored) → AreEntries b.entries stored → AreEntries b'.entries stored' → AreOpenOf opened stored'
+      → Each (λ c. IsAmong c written) (table_claims b')
       → Each (λ c. IsAmong c (claims_of b.entries stored) ⊎ IsAmong c written) (claims_of b'.entries stored')
       → GoesTo (places written) (λ c. IsAmong c written) p (record { body = b; stored = stored }) (record { body = b'; stored = stored' })
-  goes_to stored stored' entries entries' open' among =
-      let claims = claims_of b.entries stored in
-      let laid = entries_laid (units_in size) b.next_segment b.entries stored (says_sound (units_in size) b is.sound).parts entries in
+  goes_to stored stored' entries entries' open' table among =
+      let olds = claims_of b.entries stored in
+      let claims = all_claims (record { body = b; stored = stored }) in
+      let laid = all_laid_in (units_in size) b stored (says_sound (units_in size) b is.sound) entries in
       record {
         body = sym plan.manifest_is;
         entries = entries';
@@ -164,7 +213,10 @@ module _ (size : ℕ) (b b' : Body) (is : IsBody (units_in size) b) (left : b.ge
           untouched = next_untouched s size (places written) claims (laid_inside (units_in size) size (units_room size) (named b) claims disk_extents.1 laid)
               (laid_missed (named b) extents claims written laid all_laid all_placed_here.1);
           among = each_weaker (λ c. IsAmong c claims ⊎ IsAmong c written) (λ c. IsAmong c claims ⊎ (IsAmong c written × IsBehind c))
-              (λ c either. ⊎_elim (λ old. inl old) (λ new. inr (new, (of_among (IsInside size) c written new all_inside).0)) either) (claims_of b'.entries stored') among;
+              (λ c either. ⊎_elim (λ old. inl old) (λ new. inr (new, (of_among (IsInside size) c written new all_inside).0)) either) (all_claims (record { body = b'; stored = stored' }))
+              (each_both (λ c. IsAmong c claims ⊎ IsAmong c written) (table_claims b') (claims_of b'.entries stored')
+              (each_weaker (λ c. IsAmong c written) (λ c. IsAmong c claims ⊎ IsAmong c written) (λ c new. inr new) (table_claims b') table)
+              (either_weaker olds claims written written (λ c old. among_back c (table_claims b) olds old) (λ c new. new) (claims_of b'.entries stored') among));
         };
       }
 
@@ -193,53 +245,109 @@ settled_grown [] = All-nil IsGrown
 settled_grown (o ∷ os) = All-cons IsGrown (settled o) (map settled os) (omega arith) (settled_grown os)
 
 -- the entries with the new lists are sound
-lists_sound : (units : ℕ) (b : Body) (next : ℕ) (os : List OpenSegment) (xs : List Extent) → IsBody units b → b.generation < end_of_ids → b.next_segment < end_of_ids → 1 ≤ next → next ≤ end_of_numbers → AllByRecursion (IsListExtent units) xs → apart overlap (named b ++ xs) ≡ true
-    → IsBody units (body_with_lists b os next xs)
-lists_sound units b next os xs is left ids some most lists none =
+lists_sound : (units : ℕ) (b : Body) (next : ℕ) (os : List OpenSegment) (xs ts : List Extent) → IsBody units b → b.generation < end_of_ids → b.next_segment < end_of_ids → 1 ≤ next → next ≤ end_of_numbers → AllByRecursion (IsListExtent units) xs → HasTable units (length b.entries) ts → apart overlap (named b ++ (xs ++ ts)) ≡ true
+    → IsBody units (tabled ts (body_with_lists b os next xs))
+lists_sound units b next os xs ts is left ids some most lists has none =
     let s = says_sound units b is.sound in
     let same : b.next_segment + 0 ≡ b.next_segment = omega arith in
-    next_sound units b next 0 (relisted b.entries os xs) is left (omega (arith, ids)) some most (let few = s.few in omega (arith, few, relisted_long b.entries os xs))
+    let there = flat_map extents_of b.entries ++ xs in
+    let apart_all : apart overlap (there ++ ts) ≡ true = ap (apart overlap) (append_assoc (flat_map extents_of b.entries) xs ts) ∙ places_in units b (xs ++ ts) none in
+    let free = relisted_free b.entries os xs (apart_front there ts apart_all) in
+    next_sound units b next 0 (relisted b.entries os xs) ts is left (omega (arith, ids)) some most (let few = few_in units b s in omega (arith, few, relisted_long b.entries os xs))
     (subst (λ n. list_all (is_part units n) (relisted b.entries os xs) ≡ true) (sym same) (parts_relisted units b.next_segment b.entries os xs s.parts lists))
-    (ids_relisted b.entries os xs ∙ s.ids) (relisted_free b.entries os xs none).apart
+    (ids_relisted b.entries os xs ∙ s.ids) (subst (λ n. HasTable units n ts) (sym (relisted_long b.entries os xs)) has)
+    (table_free ts there (flat_map extents_of (relisted b.entries os xs)) apart_all free.missed free.apart)
 
 -- WITHOUT A DOCUMENT
 module _ (size : ℕ) (b : Body) (is : IsBody (units_in size) b) (os : List OpenSegment) (count : length os ≡ length b.entries) (left : b.generation < end_of_ids) (ids : b.next_segment < end_of_ids) (next : ℕ) (some : 1 ≤ next) (most : next ≤ end_of_numbers)
-    (can : CanBeWritten (new_lists os)) (p : CommitPlan) (with_lists : PlansWith b (new_lists os) (map settled os) (body_with_lists b os next) (Ok p)) where
+    (can : CanBeWritten (new_lists os)) (xs ts : List Extent) (before : length xs ≡ length (new_lists os)) (placed : PlacedAs b.units (named b) (lengths_with (new_lists os) (length b.entries)) (xs ++ ts))
+    (p : CommitPlan) (plan : IsPlanOf (tabled ts (body_with_lists b os next xs)) (map settled os) p.plan) (pieces : pieces_of p ≡ laid_in (xs ++ ts) (new_lists os ++ table_bytes (relisted b.entries os xs))) where
+  abbrev lists' : List Entry
+  lists' = relisted b.entries os xs
+
+  abbrev body' : Body
+  body' = tabled ts (body_with_lists b os next xs)
+
+  abbrev writes' : List (List ℕ)
+  writes' = new_lists os ++ table_bytes lists'
+
+  says_it : SaysSound (units_in size) b
+  says_it = says_sound (units_in size) b is.sound
+
   each_list : AllByRecursion (λ (w : List ℕ). (5 ≤ length w) × (length w ≤ 1073741824)) (new_lists os)
   each_list = recursion_from_All (λ (w : List ℕ). (5 ≤ length w) × (length w ≤ 1073741824)) (new_lists os) can
 
-  abbrev lists_at : List Extent
-  lists_at = with_lists.0
+  enough_lists : AllByRecursion (λ (n : ℕ). 1 ≤ n) (map length writes')
+  enough_lists = some_with (new_lists os) lists' (some_bytes (new_lists os) each_list)
 
-  extents_here : (list_all (lies_within (units_in size)) lists_at ≡ true) × (apart overlap (named b ++ lists_at) ≡ true)
-  extents_here = placed_here size b is (new_lists os) (some_bytes (new_lists os) each_list) lists_at with_lists.1
+  long_lists : map length writes' ≡ lengths_with (new_lists os) (length b.entries)
+  long_lists = long_with (new_lists os) lists' (length b.entries) (relisted_long b.entries os xs)
 
-  body_sound : IsBody (units_in size) (body_with_lists b os next lists_at)
-  body_sound = lists_sound (units_in size) b next os lists_at is left ids some most (lists_lie (units_in size) (named b) (new_lists os) lists_at each_list extents_here.0 (subst (λ u. PlacedAs u (named b) (map length (new_lists os)) lists_at) (says_sound (units_in size) b is.sound).of_disk with_lists.1)) extents_here.1
+  placed_lists : PlacedAs b.units (named b) (map length writes') (xs ++ ts)
+  placed_lists = subst (λ ns. PlacedAs b.units (named b) ns (xs ++ ts)) (sym long_lists) placed
 
-  lists_many : length (map settled os) ≡ length (relisted b.entries os lists_at)
-  lists_many = settled_long os ∙ count ∙ sym (relisted_long b.entries os lists_at)
+  extents_here : (list_all (lies_within (units_in size)) (xs ++ ts) ≡ true) × (apart overlap (named b ++ (xs ++ ts)) ≡ true)
+  extents_here = placed_here size b is writes' enough_lists (xs ++ ts) placed_lists
+
+  parts_here : (list_all (lies_within (units_in size)) xs ≡ true) × (list_all (lies_within (units_in size)) ts ≡ true)
+  parts_here = all_back (units_in size) xs ts extents_here.0
+
+  on_units : PlacedAs (units_in size) (named b) (lengths_with (new_lists os) (length b.entries)) (xs ++ ts)
+  on_units = subst (λ u. PlacedAs u (named b) (lengths_with (new_lists os) (length b.entries)) (xs ++ ts)) says_it.of_disk placed
+
+  as_long : length xs ≡ length (map length (new_lists os))
+  as_long = before ∙ sym (length-map (new_lists os) length)
+
+  front_on_disk : PlacedAs (units_in size) (named b) (map length (new_lists os)) xs
+  front_on_disk = front_placed (units_in size) (named b) (map length (new_lists os)) (table_writes (length b.entries)) xs ts as_long on_units
+
+  table_placed : (more : List Extent) × PlacedAs (units_in size) more (table_writes (length b.entries)) ts
+  table_placed = back_placed (units_in size) (named b) (map length (new_lists os)) (table_writes (length b.entries)) xs ts as_long on_units
+
+  has_lists_table : HasTable (units_in size) (length b.entries) ts
+  has_lists_table = has_table (units_in size) table_placed.0 (length b.entries) ts (few_in (units_in size) b says_it) table_placed.1 parts_here.1
+
+  body_sound : IsBody (units_in size) body'
+  body_sound = lists_sound (units_in size) b next os xs ts is left ids some most (lists_lie (units_in size) (named b) (new_lists os) xs each_list parts_here.0 front_on_disk) has_lists_table extents_here.1
+
+  lists_many : length (map settled os) ≡ length lists'
+  lists_many = settled_long os ∙ count ∙ sym (relisted_long b.entries os xs)
 
   pub lists_plan : IsPlan size b p.plan
-  lists_plan = plan_is size b (body_with_lists b os next lists_at) is left body_sound refl (new_lists os) (some_bytes (new_lists os) each_list) lists_at with_lists.1 (map settled os) lists_many (settled_grown os) p.plan with_lists.2
+  lists_plan = plan_is size b body' is left body_sound refl refl writes' enough_lists (xs ++ ts) placed_lists (map settled os) lists_many (settled_grown os) p.plan plan
 
   pub lists_place : HavePlace size p
-  lists_place = subst (λ cs. Each (IsInside size) cs × AreApart cs) (sym with_lists.3)
-      (have_place size b (body_with_lists b os next lists_at) is left body_sound refl (new_lists os) (some_bytes (new_lists os) each_list) lists_at with_lists.1 (map settled os) lists_many (settled_grown os) p.plan with_lists.2)
+  lists_place = subst (λ cs. Each (IsInside size) cs × AreApart cs) (sym pieces)
+      (have_place size b body' is left body_sound refl refl writes' enough_lists (xs ++ ts) placed_lists (map settled os) lists_many (settled_grown os) p.plan plan)
+
+  lists_among : (stored : List Stored) → AreEntries b.entries stored → AreOpenOf os stored → Each (λ c. IsAmong c (claims_of b.entries stored) ⊎ IsAmong c (laid_in (xs ++ ts) writes')) (claims_of lists' (present os stored))
+  lists_among stored entries are = subst (λ news. Each (λ c. IsAmong c (claims_of b.entries stored) ⊎ IsAmong c news) (claims_of lists' (present os stored))) (sym (laid_two xs ts (new_lists os) (table_bytes lists') before))
+      (either_weaker (claims_of b.entries stored) (claims_of b.entries stored) (laid_in xs (new_lists os)) (laid_in xs (new_lists os) ++ laid_in ts (table_bytes lists')) (λ c old. old) (λ c new. among_front c (laid_in xs (new_lists os)) (laid_in ts (table_bytes lists')) new)
+      (claims_of lists' (present os stored)) (claims_relisted (units_in size) (named b) b.entries os stored xs entries are front_on_disk))
+
+  lists_table : Each (λ c. IsAmong c (laid_in (xs ++ ts) writes')) (table_claims body')
+  lists_table = table_in_writes b next 0 (new_lists os) lists' xs ts before (units_in size) table_placed.0 (subst (λ n. PlacedAs (units_in size) table_placed.0 (table_writes n) ts) (sym (relisted_long b.entries os xs)) table_placed.1)
+
+  lists_goes : (stored : List Stored) → AreEntries b.entries stored → AreOpenOf os stored → GoesTo (places (laid_in (xs ++ ts) writes')) (λ c. IsAmong c (laid_in (xs ++ ts) writes')) p.plan (record { body = b; stored = stored }) (record { body = body'; stored = present os stored })
+  lists_goes stored entries are = goes_to size b body' is left body_sound refl refl writes' enough_lists (xs ++ ts) placed_lists (map settled os) lists_many (settled_grown os) p.plan plan
+      stored (present os stored) entries (entries_relisted (units_in size) (named b) b.entries os stored xs entries are front_on_disk) (settled_open os stored are) lists_table (lists_among stored entries are)
 
   pub lists_commit : PlansCommit b os [] next p
   lists_commit = record {
-    next_is = ap (λ (x : Body). x.next_number) with_lists.2.manifest_is;
-    settled = subst AreSettled (sym with_lists.2.opened_is) (map_settled os);
-    extents = lists_at;
-    placed = with_lists.1;
+    next_is = ap (λ (x : Body). x.next_number) plan.manifest_is;
+    settled = subst AreSettled (sym plan.opened_is) (map_settled os);
+    extents = xs;
+    table = ts;
+    before = before;
+    placed = placed;
     fits = refl;
-    goes_on = subst (λ cs. GoesOn (places cs) b os p.plan) (sym with_lists.3)
-        (goes_on_from size b (body_with_lists b os next lists_at) is left body_sound refl (new_lists os) (some_bytes (new_lists os) each_list) lists_at with_lists.1 (map settled os) lists_many (settled_grown os) p.plan with_lists.2
-        os (omega arith) (taken_relisted b.next_segment b.entries os lists_at));
-    goes = λ stored entries are. subst (λ cs. GoesTo (places cs) (λ c. IsAmong c cs) p.plan (record { body = b; stored = stored }) (record { body = body_with_lists b os next lists_at; stored = present os stored })) (sym with_lists.3)
-        (goes_to size b (body_with_lists b os next lists_at) is left body_sound refl (new_lists os) (some_bytes (new_lists os) each_list) lists_at with_lists.1 (map settled os) lists_many (settled_grown os) p.plan with_lists.2
-        stored (present os stored) entries (entries_relisted b.units (named b) b.entries os stored lists_at entries are with_lists.1) (settled_open os stored are) (claims_relisted b.units (named b) b.entries os stored lists_at entries are with_lists.1));
+    goes_on = subst (λ cs. GoesOn (places cs) b os p.plan) (sym pieces)
+        (goes_on_from size b body' is left body_sound refl refl writes' enough_lists (xs ++ ts) placed_lists (map settled os) lists_many (settled_grown os) p.plan plan
+        os (omega arith) (taken_relisted b.next_segment b.entries os xs));
+    tabled = subst (λ cs. PromisesTable (λ c. IsAmong c cs) p.plan) (sym pieces)
+        (promises_table size b body' is left body_sound refl refl writes' enough_lists (xs ++ ts) placed_lists (map settled os) lists_many (settled_grown os) p.plan plan lists_table);
+    goes = λ stored entries are. subst (GoesTo (places (pieces_of p)) (λ c. IsAmong c (pieces_of p)) p.plan (record { body = b; stored = stored })) (with_tabled ts (record { body = body_with_lists b os next xs; stored = present os stored }))
+        (subst (λ cs. GoesTo (places cs) (λ c. IsAmong c cs) p.plan (record { body = b; stored = stored }) (record { body = body'; stored = present os stored })) (sym pieces) (lists_goes stored entries are));
   }
 
 -- WITH A SEGMENT
@@ -267,11 +375,24 @@ each_and : (P : Claim → Type 0) (cs ds : List Claim) → Each P cs → Each P 
 each_and P [] ds first second = second
 each_and P (c ∷ cs) ds first second = (first.0, each_and P cs ds first.1 second)
 
-module _ (size : ℕ) (b : Body) (is : IsBody (units_in size) b) (os : List OpenSegment) (count : length os ≡ length b.entries) (left : b.generation < end_of_ids) (ids : b.next_segment < end_of_ids) (room : length b.entries < entry_limit) (next : ℕ) (some : 1 ≤ next) (most : next ≤ end_of_numbers)
-    (can : CanBeWritten (new_lists os)) (docs : List Doc) (bytes : List ℕ) (spells : SegmentSpells bytes docs written_kind) (o : Segment) (opened_is : IsSegmentOf o docs) (e : Extent) (xs : List Extent) (placed : PlacedAs b.units (named b) (map length (bytes ∷ new_lists os)) (e ∷ xs))
-    (p : CommitPlan) (plan : IsPlanOf (body_with_segment b os next (e ∷ xs)) (map settled os ++ fresh_segment o ∷ []) p.plan) (pieces : pieces_of p ≡ laid_in (e ∷ xs) (bytes ∷ new_lists os)) where
+module _ (size : ℕ) (b : Body) (is : IsBody (units_in size) b) (os : List OpenSegment) (count : length os ≡ length b.entries) (left : b.generation < end_of_ids) (ids : b.next_segment < end_of_ids) (room : length b.entries < 4096) (next : ℕ) (some : 1 ≤ next) (most : next ≤ end_of_numbers)
+    (can : CanBeWritten (new_lists os)) (docs : List Doc) (bytes : List ℕ) (spells : SegmentSpells bytes docs written_kind) (o : Segment) (opened_is : IsSegmentOf o docs) (e : Extent) (xs ts : List Extent) (before : length (e ∷ xs) ≡ length (bytes ∷ new_lists os))
+    (placed : PlacedAs b.units (named b) (lengths_with (bytes ∷ new_lists os) (length b.entries + 1)) ((e ∷ xs) ++ ts))
+    (p : CommitPlan) (plan : IsPlanOf (tabled ts (body_with_segment b os next (e ∷ xs))) (map settled os ++ fresh_segment o ∷ []) p.plan) (pieces : pieces_of p ≡ laid_in ((e ∷ xs) ++ ts) ((bytes ∷ new_lists os) ++ table_bytes (body_with_segment b os next (e ∷ xs)).entries)) where
   abbrev entries' : List Entry
   entries' = relisted b.entries os xs ++ new_entry b e ∷ []
+
+  abbrev with_segment : Body
+  with_segment = tabled ts (body_with_segment b os next (e ∷ xs))
+
+  abbrev ws : List (List ℕ)
+  ws = bytes ∷ new_lists os
+
+  abbrev all_writes : List (List ℕ)
+  all_writes = ws ++ table_bytes entries'
+
+  abbrev all_extents : List Extent
+  all_extents = (e ∷ xs) ++ ts
 
   says : SaysSound (units_in size) b
   says = says_sound (units_in size) b is.sound
@@ -282,48 +403,87 @@ module _ (size : ℕ) (b : Body) (is : IsBody (units_in size) b) (os : List Open
   length_is : (1 ≤ length bytes) × (length bytes ≤ 1073741824)
   length_is = let l = spelled_length bytes docs spells in (some_bytes_of bytes docs spells, l.1)
 
-  enough : AllByRecursion (λ (n : ℕ). 1 ≤ n) (map length (bytes ∷ new_lists os))
-  enough = (length_is.0, some_bytes (new_lists os) each_write)
+  enough : AllByRecursion (λ (n : ℕ). 1 ≤ n) (map length all_writes)
+  enough = some_with ws entries' (length_is.0, some_bytes (new_lists os) each_write)
 
-  lie : (list_all (lies_within (units_in size)) (e ∷ xs) ≡ true) × (apart overlap (named b ++ e ∷ xs) ≡ true)
-  lie = placed_here size b is (bytes ∷ new_lists os) enough (e ∷ xs) placed
+  long : length entries' ≡ length b.entries + 1
+  long = length-append (relisted b.entries os xs) (new_entry b e ∷ []) ∙ ap (λ n. n + 1) (relisted_long b.entries os xs)
+
+  placed_all_here : PlacedAs b.units (named b) (map length all_writes) all_extents
+  placed_all_here = subst (λ ns. PlacedAs b.units (named b) ns all_extents) (sym (long_with ws entries' (length b.entries + 1) long)) placed
+
+  lie : (list_all (lies_within (units_in size)) all_extents ≡ true) × (apart overlap (named b ++ all_extents) ≡ true)
+  lie = placed_here size b is all_writes enough all_extents placed_all_here
+
+  lie_parts : (list_all (lies_within (units_in size)) (e ∷ xs) ≡ true) × (list_all (lies_within (units_in size)) ts ≡ true)
+  lie_parts = all_back (units_in size) (e ∷ xs) ts lie.0
 
   here : lies_within (units_in size) e ≡ true
-  here = (and_parts (lies_within (units_in size) e) (list_all (lies_within (units_in size)) xs) lie.0).0
+  here = (and_parts (lies_within (units_in size) e) (list_all (lies_within (units_in size)) xs) lie_parts.0).0
+
+  on_units_too : PlacedAs (units_in size) (named b) (lengths_with ws (length b.entries + 1)) all_extents
+  on_units_too = subst (λ u. PlacedAs u (named b) (lengths_with ws (length b.entries + 1)) all_extents) says.of_disk placed
+
+  as_long_too : length (e ∷ xs) ≡ length (map length ws)
+  as_long_too = before ∙ sym (length-map ws length)
+
+  placed_front : PlacedAs (units_in size) (named b) (map length ws) (e ∷ xs)
+  placed_front = front_placed (units_in size) (named b) (map length ws) (table_writes (length b.entries + 1)) (e ∷ xs) ts as_long_too on_units_too
 
   placed_there : PlacedAs (units_in size) (e ∷ named b) (map length (new_lists os)) xs
-  placed_there = (subst (λ u. PlacedAs u (named b) (map length (bytes ∷ new_lists os)) (e ∷ xs)) says.of_disk placed).1
+  placed_there = placed_front.1
 
-  beside : (list_any (overlap e) (named b ++ xs) ≡ false) × (apart overlap (named b ++ xs) ≡ true)
-  beside = apart_out (named b) xs e lie.1
+  table_there : (more : List Extent) × PlacedAs (units_in size) more (table_writes (length b.entries + 1)) ts
+  table_there = back_placed (units_in size) (named b) (map length ws) (table_writes (length b.entries + 1)) (e ∷ xs) ts as_long_too on_units_too
+
+  has_its_table : HasTable (units_in size) (length entries') ts
+  has_its_table = subst (λ n. HasTable (units_in size) n ts) (sym long) (has_table (units_in size) table_there.0 (length b.entries + 1) ts (omega (arith, room)) table_there.1 lie_parts.1)
+
+  -- what the entries name, and what is placed
+  abbrev names : List Extent
+  names = flat_map extents_of b.entries
+
+  beside_table : apart overlap ((names ++ e ∷ xs) ++ ts) ≡ true
+  beside_table = ap (apart overlap) (append_assoc names (e ∷ xs) ts) ∙ places_in (units_in size) b all_extents lie.1
+
+  beside : (list_any (overlap e) (names ++ xs) ≡ false) × (apart overlap (names ++ xs) ≡ true)
+  beside = apart_out names xs e (apart_front (names ++ e ∷ xs) ts beside_table)
 
   free : AreFree b.entries os xs
   free = relisted_free b.entries os xs beside.1
 
   lists_here : AllByRecursion (IsListExtent (units_in size)) xs
-  lists_here = lists_lie (units_in size) (e ∷ named b) (new_lists os) xs each_write (and_parts (lies_within (units_in size) e) (list_all (lies_within (units_in size)) xs) lie.0).1 placed_there
-
-  long : length entries' ≡ length b.entries + 1
-  long = length-append (relisted b.entries os xs) (new_entry b e ∷ []) ∙ ap (λ n. n + 1) (relisted_long b.entries os xs)
+  lists_here = lists_lie (units_in size) (e ∷ named b) (new_lists os) xs each_write (and_parts (lies_within (units_in size) e) (list_all (lies_within (units_in size)) xs) lie_parts.0).1 placed_there
 
   parts : list_all (is_part (units_in size) b.next_segment) (relisted b.entries os xs) ≡ true
   parts = parts_relisted (units_in size) b.next_segment b.entries os xs says.parts lists_here
 
   new_one : is_part (units_in size) (b.next_segment + 1) (new_entry b e) ≡ true
-  new_one = let size_is : e.bytes ≡ length bytes = placed.0.long in new_part (units_in size) b e says.next_segment (omega (arith, size_is, length_is.0)) (omega (arith, size_is, length_is.1)) placed.0.fitted here
+  new_one = let size_is : e.bytes ≡ length bytes = placed_front.0.long in new_part (units_in size) b e says.next_segment (omega (arith, size_is, length_is.0)) (omega (arith, size_is, length_is.1)) placed_front.0.fitted here
+
+  abbrev relisted_names : List Extent
+  relisted_names = flat_map extents_of (relisted b.entries os xs)
+
+  all_names : flat_map extents_of entries' ≡ relisted_names ++ e ∷ []
+  all_names = flat_map-append extents_of (relisted b.entries os xs) (new_entry b e ∷ [])
 
   none_shared : apart overlap (flat_map extents_of entries') ≡ true
   none_shared =
-      let all = flat_map extents_of (relisted b.entries os xs) in
-      subst (λ es. apart overlap es ≡ true) (sym (flat_map-append extents_of (relisted b.entries os xs) (new_entry b e ∷ [])))
-      (apart_in all [] e (subst (λ es. list_any (overlap e) es ≡ false) (sym (append-nil all)) (free.missed e beside.0)) (subst (λ es. apart overlap es ≡ true) (sym (append-nil all)) free.apart))
+      subst (λ es. apart overlap es ≡ true) (sym all_names)
+      (apart_in relisted_names [] e (subst (λ es. list_any (overlap e) es ≡ false) (sym (append-nil relisted_names)) (free.missed e beside.0)) (subst (λ es. apart overlap es ≡ true) (sym (append-nil relisted_names)) free.apart))
 
-  segment_sound : IsBody (units_in size) (body_with_segment b os next (e ∷ xs))
-  segment_sound = next_sound (units_in size) b next 1 entries' is left (omega (arith, ids)) some most (omega (arith, long, room))
+  missed_too : (z : Extent) → list_any (overlap z) (names ++ e ∷ xs) ≡ false → list_any (overlap z) (flat_map extents_of entries') ≡ false
+  missed_too z h =
+      let out = any_out (overlap z) names xs e h in
+      ap (list_any (overlap z)) all_names ∙ both_missed z relisted_names (e ∷ []) (free.missed z out.1) (or_both (overlap z e) false out.0 refl)
+
+  segment_sound : IsBody (units_in size) with_segment
+  segment_sound = next_sound (units_in size) b next 1 entries' ts is left (omega (arith, ids)) some most (omega (arith, long, room))
       (list_all-append (is_part (units_in size) (b.next_segment + 1)) (relisted b.entries os xs) (new_entry b e ∷ [])
       ∙ and_from (list_all (is_part (units_in size) (b.next_segment + 1)) (relisted b.entries os xs)) (is_part (units_in size) (b.next_segment + 1) (new_entry b e) && true) (parts_later (units_in size) b.next_segment (relisted b.entries os xs) parts)
       (and_from (is_part (units_in size) (b.next_segment + 1) (new_entry b e)) true new_one refl))
-      (ids_apart (units_in size) (new_entry b e) (relisted b.entries os xs) parts (ids_relisted b.entries os xs ∙ says.ids)) none_shared
+      (ids_apart (units_in size) (new_entry b e) (relisted b.entries os xs) parts (ids_relisted b.entries os xs ∙ says.ids)) has_its_table
+      (table_free ts (names ++ e ∷ xs) (flat_map extents_of entries') beside_table missed_too none_shared)
 
   many : length (map settled os ++ fresh_segment o ∷ []) ≡ length entries'
   many = length-append (map settled os) (fresh_segment o ∷ []) ∙ ap (λ n. n + 1) (settled_long os ∙ count) ∙ sym long
@@ -332,32 +492,45 @@ module _ (size : ℕ) (b : Body) (is : IsBody (units_in size) b) (os : List Open
   all_grown = All-append IsGrown (map settled os) (fresh_segment o ∷ []) (settled_grown os) (All-cons IsGrown (fresh_segment o) [] (omega arith) (All-nil IsGrown))
 
   pub segment_plan : IsPlan size b p.plan
-  segment_plan = plan_is size b (body_with_segment b os next (e ∷ xs)) is left segment_sound refl (bytes ∷ new_lists os) enough (e ∷ xs) placed (map settled os ++ fresh_segment o ∷ []) many all_grown p.plan plan
+  segment_plan = plan_is size b with_segment is left segment_sound refl refl all_writes enough all_extents placed_all_here (map settled os ++ fresh_segment o ∷ []) many all_grown p.plan plan
 
   pub segment_place : HavePlace size p
   segment_place = subst (λ cs. Each (IsInside size) cs × AreApart cs) (sym pieces)
-      (have_place size b (body_with_segment b os next (e ∷ xs)) is left segment_sound refl (bytes ∷ new_lists os) enough (e ∷ xs) placed (map settled os ++ fresh_segment o ∷ []) many all_grown p.plan plan)
+      (have_place size b with_segment is left segment_sound refl refl all_writes enough all_extents placed_all_here (map settled os ++ fresh_segment o ∷ []) many all_grown p.plan plan)
 
   pub segment_goes_on : GoesOn (places (pieces_of p)) b os p.plan
-  segment_goes_on = subst (λ cs. GoesOn (places cs) b os p.plan) (sym pieces) (goes_on_from size b (body_with_segment b os next (e ∷ xs)) is left segment_sound refl (bytes ∷ new_lists os) enough (e ∷ xs) placed (map settled os ++ fresh_segment o ∷ []) many all_grown p.plan plan
+  segment_goes_on = subst (λ cs. GoesOn (places cs) b os p.plan) (sym pieces) (goes_on_from size b with_segment is left segment_sound refl refl all_writes enough all_extents placed_all_here (map settled os ++ fresh_segment o ∷ []) many all_grown p.plan plan
       os (omega arith) (taken_append b.next_segment b.entries os (relisted b.entries os xs) (map settled os) (new_entry b e ∷ []) (fresh_segment o ∷ [])
       (relisted_long b.entries os xs ∙ sym count ∙ sym (settled_long os)) (taken_relisted b.next_segment b.entries os xs) (inl (omega arith), tt)))
 
+  segment_table : Each (λ c. IsAmong c (laid_in all_extents all_writes)) (table_claims with_segment)
+  segment_table = table_in_writes b next 1 ws entries' (e ∷ xs) ts before (units_in size) table_there.0 (subst (λ n. PlacedAs (units_in size) table_there.0 (table_writes n) ts) (sym long) table_there.1)
+
+  pub segment_tabled : PromisesTable (λ c. IsAmong c (pieces_of p)) p.plan
+  segment_tabled = subst (λ cs. PromisesTable (λ c. IsAmong c cs) p.plan) (sym pieces)
+      (promises_table size b with_segment is left segment_sound refl refl all_writes enough all_extents placed_all_here (map settled os ++ fresh_segment o ∷ []) many all_grown p.plan plan segment_table)
+
   pub segment_goes : (stored : List Stored) → AreEntries b.entries stored → AreOpenOf os stored
-      → GoesTo (places (pieces_of p)) (λ c. IsAmong c (pieces_of p)) p.plan (record { body = b; stored = stored }) (record { body = body_with_segment b os next (e ∷ xs); stored = present os stored ++ new_stored docs ∷ [] })
+      → GoesTo (places (pieces_of p)) (λ c. IsAmong c (pieces_of p)) p.plan (record { body = b; stored = stored }) (with_table ts (record { body = body_with_segment b os next (e ∷ xs); stored = present os stored ++ new_stored docs ∷ [] }))
   segment_goes stored entries are =
       let claims = claims_of b.entries stored in
       let entries_now = entries_relisted (units_in size) (e ∷ named b) b.entries os stored xs entries are placed_there in
-      let new : AreEntries (new_entry b e ∷ []) (new_stored docs ∷ []) = (record { segment = record { kind = written_is_kind; are = spells.are; fits = spells.fits; long = placed.0.long ∙ (spelled_length bytes docs spells).0 }; list = refl }, tt) in
-      subst (λ cs. GoesTo (places cs) (λ c. IsAmong c cs) p.plan (record { body = b; stored = stored }) (record { body = body_with_segment b os next (e ∷ xs); stored = present os stored ++ new_stored docs ∷ [] })) (sym pieces)
-      (goes_to size b (body_with_segment b os next (e ∷ xs)) is left segment_sound refl (bytes ∷ new_lists os) enough (e ∷ xs) placed (map settled os ++ fresh_segment o ∷ []) many all_grown p.plan plan
+      let new : AreEntries (new_entry b e ∷ []) (new_stored docs ∷ []) = (record { segment = record { kind = written_is_kind; are = spells.are; fits = spells.fits; long = placed_front.0.long ∙ (spelled_length bytes docs spells).0 }; list = refl }, tt) in
+      let laid = laid_in (e ∷ xs) ws in
+      let tables = laid_in ts (table_bytes entries') in
+      subst (GoesTo (places (pieces_of p)) (λ c. IsAmong c (pieces_of p)) p.plan (record { body = b; stored = stored })) (with_tabled ts (record { body = body_with_segment b os next (e ∷ xs); stored = present os stored ++ new_stored docs ∷ [] }))
+      (subst (λ cs. GoesTo (places cs) (λ c. IsAmong c cs) p.plan (record { body = b; stored = stored }) (record { body = with_segment; stored = present os stored ++ new_stored docs ∷ [] })) (sym pieces)
+      (goes_to size b with_segment is left segment_sound refl refl all_writes enough all_extents placed_all_here (map settled os ++ fresh_segment o ∷ []) many all_grown p.plan plan
       stored (present os stored ++ new_stored docs ∷ []) entries
       (entries_append (relisted b.entries os xs) (new_entry b e ∷ []) (present os stored) (new_stored docs ∷ []) entries_now new)
       (open_append (map settled os) (fresh_segment o ∷ []) (present os stored) (new_stored docs ∷ []) (settled_open os stored are) (fresh_open o docs opened_is, tt))
-      (subst (Each (λ c. IsAmong c claims ⊎ IsAmong c (laid_in (e ∷ xs) (bytes ∷ new_lists os)))) (sym (claims_append (relisted b.entries os xs) (new_entry b e ∷ []) (present os stored) (new_stored docs ∷ []) entries_now))
-      (each_and (λ c. IsAmong c claims ⊎ IsAmong c (laid_in (e ∷ xs) (bytes ∷ new_lists os))) (claims_of (relisted b.entries os xs) (present os stored)) (claims_of (new_entry b e ∷ []) (new_stored docs ∷ []))
+      segment_table
+      (subst (λ news. Each (λ c. IsAmong c claims ⊎ IsAmong c news) (claims_of entries' (present os stored ++ new_stored docs ∷ []))) (sym (laid_two (e ∷ xs) ts ws (table_bytes entries') before))
+      (either_weaker claims claims laid (laid ++ tables) (λ c old. old) (λ c made. among_front c laid tables made) (claims_of entries' (present os stored ++ new_stored docs ∷ []))
+      (subst (Each (λ c. IsAmong c claims ⊎ IsAmong c laid)) (sym (claims_append (relisted b.entries os xs) (new_entry b e ∷ []) (present os stored) (new_stored docs ∷ []) entries_now))
+      (each_and (λ c. IsAmong c claims ⊎ IsAmong c laid) (claims_of (relisted b.entries os xs) (present os stored)) (claims_of (new_entry b e ∷ []) (new_stored docs ∷ []))
       (each_later claims (record { at = start_of e; bytes = bytes }) (laid_in xs (new_lists os)) (claims_of (relisted b.entries os xs) (present os stored)) (claims_relisted (units_in size) (e ∷ named b) b.entries os stored xs entries are placed_there))
-      (inr (inl (ap (λ (bs : List ℕ). record { at = start_of e; bytes = bs }) (sym spells.same))), tt))))
+      (inr (inl (ap (λ (bs : List ℕ). record { at = start_of e; bytes = bs }) (sym spells.same))), tt)))))))
 
 -- a segment that fits
 pub fits_limit : (d : Doc) (docs : List Doc) → segment_length (d ∷ docs) written_kind ≤ longest → is_too_large (d ∷ docs) ≡ false
@@ -370,29 +543,35 @@ passes_limit (d ∷ docs) long some = or_left (nat_lt longest (segment_length (d
 
 -- the plan of a commit with these documents, wherever they lie
 pub planned_with : (size : ℕ) (b : Body) → IsBody (units_in size) b → (os : List OpenSegment) → length os ≡ length b.entries → (docs : List Doc) → DueAs b (length docs) None → (next : ℕ) → 1 ≤ next → next ≤ end_of_numbers → CanBeWritten (new_lists os)
-    → (bytes : List ℕ) → SegmentSpells bytes docs written_kind → (o : Segment) → IsSegmentOf o docs → (p : CommitPlan) → PlansWith b (bytes ∷ new_lists os) (map settled os ++ fresh_segment o ∷ []) (body_with_segment b os next) (Ok p) → PlansAs size b os docs next (Ok p)
+    → (bytes : List ℕ) → SegmentSpells bytes docs written_kind → (o : Segment) → IsSegmentOf o docs → (p : CommitPlan) → PlansWith b (bytes ∷ new_lists os) (length b.entries + 1) (map settled os ++ fresh_segment o ∷ []) (body_with_segment b os next) (Ok p) → PlansAs size b os docs next (Ok p)
 planned_with size b is os count [] due next some most can bytes spells o opened_is p plan = let h : 0 < 0 = spells.are.some in absurd (omega (arith, h))
-planned_with size b is os count (d ∷ docs) due next some most can bytes spells o opened_is p ([], placed, plan, pieces) = absurd placed
-planned_with size b is os count (d ∷ docs) due next some most can bytes spells o opened_is p (e ∷ xs, placed, plan, pieces) =
+planned_with size b is os count (d ∷ docs) due next some most can bytes spells o opened_is p ([], ts, before, placed, plan, pieces) = absurd (omega (arith, before))
+planned_with size b is os count (d ∷ docs) due next some most can bytes spells o opened_is p (e ∷ xs, ts, before, placed, plan, pieces) =
     let room = due.2 (omega arith) in (
-      segment_plan size b is os count due.0 due.1 room next some most can (d ∷ docs) bytes spells o opened_is e xs placed p plan pieces,
+      segment_plan size b is os count due.0 due.1 room next some most can (d ∷ docs) bytes spells o opened_is e xs ts before placed p plan pieces,
       record {
         next_is = ap (λ (x : Body). x.next_number) plan.manifest_is;
         settled = subst AreSettled (sym plan.opened_is) (settled_append (map settled os) (fresh_segment o ∷ []) (map_settled os) (refl, tt));
         extents = e ∷ xs;
-        placed = subst (λ (w : List ℕ). PlacedAs b.units (named b) (map length (w ∷ new_lists os)) (e ∷ xs)) spells.same placed;
+        table = ts;
+        before = before;
+        placed = subst (λ (w : List ℕ). PlacedAs b.units (named b) (lengths_with (w ∷ new_lists os) (length b.entries + 1)) ((e ∷ xs) ++ ts)) spells.same placed;
         fits = fits_limit d docs spells.fits;
-        goes_on = segment_goes_on size b is os count due.0 due.1 room next some most can (d ∷ docs) bytes spells o opened_is e xs placed p plan pieces;
-        goes = segment_goes size b is os count due.0 due.1 room next some most can (d ∷ docs) bytes spells o opened_is e xs placed p plan pieces;
+        goes_on = segment_goes_on size b is os count due.0 due.1 room next some most can (d ∷ docs) bytes spells o opened_is e xs ts before placed p plan pieces;
+        tabled = segment_tabled size b is os count due.0 due.1 room next some most can (d ∷ docs) bytes spells o opened_is e xs ts before placed p plan pieces;
+        goes = segment_goes size b is os count due.0 due.1 room next some most can (d ∷ docs) bytes spells o opened_is e xs ts before placed p plan pieces;
       },
-      segment_place size b is os count due.0 due.1 room next some most can (d ∷ docs) bytes spells o opened_is e xs placed p plan pieces,
+      segment_place size b is os count due.0 due.1 room next some most can (d ∷ docs) bytes spells o opened_is e xs ts before placed p plan pieces,
     )
 
 -- and of one without a document
 pub planned_without : (size : ℕ) (b : Body) → IsBody (units_in size) b → (os : List OpenSegment) → length os ≡ length b.entries → (docs : List Doc) → docs ≡ [] → DueAs b (length docs) None → (next : ℕ) → 1 ≤ next → next ≤ end_of_numbers → (r : Result CommitPlan Refusal)
-    → OnOk r (CanBeWritten (new_lists os)) → PlansWith b (new_lists os) (map settled os) (body_with_lists b os next) r → PlansAs size b os docs next r
-planned_without size b is os count docs none due next some most (Ok p) can plan = subst (λ (ds : List Doc). PlansAs size b os ds next (Ok p)) (sym none)
-    (lists_plan size b is os count due.0 due.1 next some most can p plan, lists_commit size b is os count due.0 due.1 next some most can p plan, lists_place size b is os count due.0 due.1 next some most can p plan)
+    → OnOk r (CanBeWritten (new_lists os)) → PlansWith b (new_lists os) (length b.entries) (map settled os) (body_with_lists b os next) r → PlansAs size b os docs next r
+planned_without size b is os count docs none due next some most (Ok p) can (xs, ts, before, placed, plan, pieces) = subst (λ (ds : List Doc). PlansAs size b os ds next (Ok p)) (sym none) (
+  lists_plan size b is os count due.0 due.1 next some most can xs ts before placed p plan pieces,
+  lists_commit size b is os count due.0 due.1 next some most can xs ts before placed p plan pieces,
+  lists_place size b is os count due.0 due.1 next some most can xs ts before placed p plan pieces,
+)
 planned_without size b is os count docs none due next some most (Err (Full need largest)) can plan = subst (λ (ds : List Doc). PlansAs size b os ds next (Err (Full need largest))) (sym none) (refl, plan)
 planned_without size b is os count docs none due next some most (Err Memory) can plan = tt
 planned_without size b is os count docs none due next some most (Err SegmentTooLarge) can plan = absurd plan
@@ -406,10 +585,10 @@ planned_without size b is os count docs none due next some most (Err Damaged) ca
 planned_without size b is os count docs none due next some most (Err Device) can plan = absurd plan
 
 -- what finds no place is not planned
-pub not_placed : (size : ℕ) (b : Body) (os : List OpenSegment) (docs : List Doc) (next : ℕ) (bytes : List ℕ) (opened : List OpenSegment) (body : List Extent → Body) (why : Refusal) → SegmentSpells bytes docs written_kind → PlansWith b (bytes ∷ new_lists os) opened body (Err why) → PlansAs size b os docs next (Err why)
+pub not_placed : (size : ℕ) (b : Body) (os : List OpenSegment) (docs : List Doc) (next : ℕ) (bytes : List ℕ) (opened : List OpenSegment) (body : List Extent → Body) (why : Refusal) → SegmentSpells bytes docs written_kind → PlansWith b (bytes ∷ new_lists os) (length b.entries + 1) opened body (Err why) → PlansAs size b os docs next (Err why)
 not_placed size b os [] next bytes opened body why spells plan = let h : 0 < 0 = spells.are.some in absurd (omega (arith, h))
 not_placed size b os (d ∷ docs) next bytes opened body (Full need largest) spells plan =
-    (fits_limit d docs spells.fits, subst (λ (w : List ℕ). FullAs b.units (named b) (map length (w ∷ new_lists os)) need largest) spells.same plan)
+    (fits_limit d docs spells.fits, subst (λ (w : List ℕ). FullAs b.units (named b) (lengths_with (w ∷ new_lists os) (length b.entries + 1)) need largest) spells.same plan)
 not_placed size b os (d ∷ docs) next bytes opened body Memory spells plan = tt
 not_placed size b os (d ∷ docs) next bytes opened body SegmentTooLarge spells plan = absurd plan
 not_placed size b os (d ∷ docs) next bytes opened body Reopen spells plan = absurd plan
@@ -443,6 +622,6 @@ can_segment bytes docs spells =
 
 -- what is planned with a segment, whatever the answer
 pub planned_segment : (size : ℕ) (b : Body) → IsBody (units_in size) b → (os : List OpenSegment) → length os ≡ length b.entries → (docs : List Doc) → DueAs b (length docs) None → (next : ℕ) → 1 ≤ next → next ≤ end_of_numbers
-    → (bytes : List ℕ) → SegmentSpells bytes docs written_kind → (o : Segment) → IsSegmentOf o docs → (r : Result CommitPlan Refusal) → OnOk r (CanBeWritten (new_lists os)) → PlansWith b (bytes ∷ new_lists os) (map settled os ++ fresh_segment o ∷ []) (body_with_segment b os next) r → PlansAs size b os docs next r
+    → (bytes : List ℕ) → SegmentSpells bytes docs written_kind → (o : Segment) → IsSegmentOf o docs → (r : Result CommitPlan Refusal) → OnOk r (CanBeWritten (new_lists os)) → PlansWith b (bytes ∷ new_lists os) (length b.entries + 1) (map settled os ++ fresh_segment o ∷ []) (body_with_segment b os next) r → PlansAs size b os docs next r
 planned_segment size b is os count docs due next some most bytes spells o opened_is (Ok p) can plan = planned_with size b is os count docs due next some most can bytes spells o opened_is p plan
 planned_segment size b is os count docs due next some most bytes spells o opened_is (Err why) can plan = not_placed size b os docs next bytes (map settled os ++ fresh_segment o ∷ []) (body_with_segment b os next) why spells plan

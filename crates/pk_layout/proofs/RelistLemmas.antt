@@ -191,12 +191,12 @@ pub record AreFree (es : List Entry) (os : List OpenSegment) (xs : List Extent) 
   pub apart : apart overlap (flat_map extents_of (relisted es os xs)) ≡ true
 
 -- a front of some extents
-front_missed : (z : Extent) (xs ys : List Extent) → list_any (overlap z) (xs ++ ys) ≡ false → (list_any (overlap z) xs ≡ false) × (list_any (overlap z) ys ≡ false)
+pub front_missed : (z : Extent) (xs ys : List Extent) → list_any (overlap z) (xs ++ ys) ≡ false → (list_any (overlap z) xs ≡ false) × (list_any (overlap z) ys ≡ false)
 front_missed z xs ys h =
     let both = sym (list_any-append (overlap z) xs ys) ∙ h in
     (or_left (list_any (overlap z) xs) (list_any (overlap z) ys) both, or_right (list_any (overlap z) xs) (list_any (overlap z) ys) both)
 
-both_missed : (z : Extent) (xs ys : List Extent) → list_any (overlap z) xs ≡ false → list_any (overlap z) ys ≡ false → list_any (overlap z) (xs ++ ys) ≡ false
+pub both_missed : (z : Extent) (xs ys : List Extent) → list_any (overlap z) xs ≡ false → list_any (overlap z) ys ≡ false → list_any (overlap z) (xs ++ ys) ≡ false
 both_missed z xs ys h k = list_any-append (overlap z) xs ys ∙ or_both (list_any (overlap z) xs) (list_any (overlap z) ys) h k
 
 apart_later : (xs ys : List Extent) → apart overlap (xs ++ ys) ≡ true → apart overlap ys ≡ true
@@ -208,7 +208,7 @@ list_apart : (list : Option Extent) (rest back : List Extent) → apart overlap 
 list_apart None rest back h missed free = free
 list_apart (Some l) rest back h missed free = apart_from l back (missed l (apart_parts l rest h).0) free
 
-apart_front : (xs ys : List Extent) → apart overlap (xs ++ ys) ≡ true → apart overlap xs ≡ true
+pub apart_front : (xs ys : List Extent) → apart overlap (xs ++ ys) ≡ true → apart overlap xs ≡ true
 apart_front [] ys h = refl
 apart_front (x ∷ xs) ys h = let parts = apart_parts x (xs ++ ys) h in apart_from x xs (front_missed x xs ys parts.0).0 (apart_front xs ys parts.1)
 
@@ -304,7 +304,7 @@ entries_relisted units taken (e ∷ es) (o ∷ os) (s ∷ stored) (x ∷ xs) ent
 
 -- ---- each claim is an old one or that of a new list
 
-either_weaker : (olds old_more news new_more : List Claim) → ((c : Claim) → IsAmong c olds → IsAmong c old_more) → ((c : Claim) → IsAmong c news → IsAmong c new_more) → (cs : List Claim) → Each (λ c. IsAmong c olds ⊎ IsAmong c news) cs → Each (λ c. IsAmong c old_more ⊎ IsAmong c new_more) cs
+pub either_weaker : (olds old_more news new_more : List Claim) → ((c : Claim) → IsAmong c olds → IsAmong c old_more) → ((c : Claim) → IsAmong c news → IsAmong c new_more) → (cs : List Claim) → Each (λ c. IsAmong c olds ⊎ IsAmong c news) cs → Each (λ c. IsAmong c old_more ⊎ IsAmong c new_more) cs
 either_weaker olds old_more news new_more f g [] each = tt
 either_weaker olds old_more news new_more f g (c ∷ cs) each = (⊎_elim (λ old. inl (f c old)) (λ new. inr (g c new)) each.0, either_weaker olds old_more news new_more f g cs each.1)
 
@@ -320,7 +320,7 @@ pub among_back : (c : Claim) (cs ds : List Claim) → IsAmong c ds → IsAmong c
 among_back c [] ds is = is
 among_back c (d ∷ cs) ds is = inr (among_back c cs ds is)
 
-each_both : (P : Claim → Type 0) (cs ds : List Claim) → Each P cs → Each P ds → Each P (cs ++ ds)
+pub each_both : (P : Claim → Type 0) (cs ds : List Claim) → Each P cs → Each P ds → Each P (cs ++ ds)
 each_both P [] ds first second = second
 each_both P (c ∷ cs) ds first second = (first.0, each_both P cs ds first.1 second)
 

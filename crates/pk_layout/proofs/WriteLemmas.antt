@@ -56,7 +56,7 @@ module _ (os : List OpenSegment) (i : ℕ) (o : OpenSegment) (lt : i < length os
 
 -- ---- pieces
 
-laid_last : (es : List Extent) (ws : List (List ℕ)) (e : Extent) (w : List ℕ) → length es ≡ length ws → laid_in (es ++ e ∷ []) (ws ++ w ∷ []) ≡ laid_in es ws ++ record { at = start_of e; bytes = w } ∷ []
+pub laid_last : (es : List Extent) (ws : List (List ℕ)) (e : Extent) (w : List ℕ) → length es ≡ length ws → laid_in (es ++ e ∷ []) (ws ++ w ∷ []) ≡ laid_in es ws ++ record { at = start_of e; bytes = w } ∷ []
 laid_last [] [] e w same = refl
 laid_last [] (x ∷ ws) e w same = absurd (omega (arith, same))
 laid_last (x ∷ es) [] e w same = absurd (omega (arith, same))

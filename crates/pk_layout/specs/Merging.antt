@@ -1,9 +1,9 @@
 -- What planning a merge answers.
-use Rattle.std.specs.Prelude.{◌≡◌, ◌⊎◌, ◌≤◌, ◌+◌, ◌&&◌, ◌||◌, ℕ, Bool, true, false, not, List, [], ◌∷◌, length}
-use Rattle.std.specs.Prelude.{take, drop}
+use Rattle.std.specs.Prelude.{◌≡◌, ◌⊎◌, ◌≤◌, ◌+◌, ◌-◌, ◌++◌, ◌&&◌, ◌||◌, ℕ, Bool, true, false, not, List, [], ◌∷◌}
+use Rattle.std.specs.Prelude.{length, map, take, drop}
 use Rattle.std.specs.Prelude.{Option, Some, None, Result, Ok, Err}
 use Rattle.std.specs.List.{list_any}
-use Rattle.pk_disk.specs.Disk.{in_range}
+use Rattle.pk_disk.specs.Disk.{also, in_range}
 use Rattle.pk_disk.specs.Units.{start_of}
 use Rattle.pk_disk.specs.declared.units.Extent.{Extent}
 use Rattle.pk_join.specs.declared.input.MergeInput.{MergeInput}
@@ -17,7 +17,8 @@ use Rattle.pk_model.specs.declared.commands.Refusal.TheVariants.{SegmentTooLarge
 use Rattle.pk_model.specs.declared.commands.Refusal.TheVariants.{Damaged, Disk}
 use Rattle.pk_model.specs.Collection.{Doc}
 use Rattle.pk_posting.specs.Posting.{IsPosting}
-use Rattle.pk_replace.specs.Claims.{IsAmong}
+use Rattle.pk_replace.specs.Claims.{AreApart, Claim, Each, IsAmong, IsInside, IsUntouched}
+use Rattle.pk_replace.specs.Claims.{claim_of, places}
 use Rattle.pk_search.specs.declared.opened.OpenSegment.{OpenSegment}
 use Rattle.pk_search.specs.Opened.{present}
 use Rattle.pk_segment.specs.Opened.{IsSegmentOf}
@@ -25,11 +26,12 @@ use Rattle.pk_segment.specs.Spelling.{AreDocuments, longest, segment_length}
 use Rattle.pk_space.specs.Places.{FullAs, PlacedAs}
 use Rattle.pk_state.specs.Committed.{Stored, lists, live_in}
 use Rattle.pk_state.specs.Writing.{after_merge, is_too_large, next_body, replaced, segment_writes}
-use Rattle.pk_state.specs.Writing.{written_kind}
+use Rattle.pk_state.specs.Writing.{table_writes, with_table, written_kind}
+use Rattle.pk_layout.specs.Placed.{AreLaid}
 use Rattle.pk_layout.specs.declared.merging.MergePlan.{MergePlan}
 use Rattle.pk_layout.specs.declared.merging.NewSegment.{NewSegment}
-use Rattle.pk_layout.specs.Plan.{GoesOn, GoesTo, IsPlan, IsPlanOf, entry_in, ids_in, laid_in}
-use Rattle.pk_layout.specs.Plan.{new_segments}
+use Rattle.pk_layout.specs.Plan.{GoesOn, GoesTo, IsPlan, IsPlanOf, PromisesTable, entry_in, ids_in, laid_in}
+use Rattle.pk_layout.specs.Plan.{new_segments, table_bytes, tabled}
 
 -- the entry's extent has no position of a stretch
 abbrev pub EntryApart : ℕ → ℕ → Entry → Type 0
@@ -133,30 +135,56 @@ abbrev pub body_merged : Body → ℕ → ℕ → Option Extent → Body
 body_merged b from n segment = next_body b b.next_number (ids_in segment)
     (replaced from n (entry_in b segment) b.entries)
 
--- a plan for the one segment, and its place; or why there is none
+-- how many entries there are after it
+abbrev pub count_merged : Body → ℕ → Option NewSegment → ℕ
+count_merged b n new = length b.entries - n + length (lengths_in new)
+
+-- the lengths of the segment that there may be, and of the table
+abbrev pub lengths_merged : Body → ℕ → Option NewSegment → List ℕ
+lengths_merged b n new = lengths_in new ++ table_writes (count_merged b n new)
+
+-- what is written behind the segment
+abbrev pub pieces_behind : MergePlan → List Claim
+pieces_behind m = map claim_of m.pieces.items
+
+-- all positions that are written
+abbrev pub merge_touches : MergePlan → ℕ → Bool
+merge_touches m = also (bytes_in (extents_in m.place)) (places (pieces_behind m))
+
+-- a plan for the one segment, its place, and the table behind it; or why there is none
 abbrev pub PlansMerged : Body → List OpenSegment → ℕ → ℕ → Option NewSegment
     → Result MergePlan Refusal → Type 0
 PlansMerged b opened from n new (Ok m) =
     (merged : List OpenSegment) × AreMerged (run_of from n opened) new merged
-    × PlacedAs b.units (named b) (lengths_in new) (extents_in m.place)
-    × IsPlanOf (body_merged b from n m.place) (replaced from n merged opened) m.plan
+    × (table : List Extent) × (length (extents_in m.place) ≡ length (lengths_in new))
+    × PlacedAs b.units (named b) (lengths_merged b n new) (extents_in m.place ++ table)
+    × IsPlanOf (tabled table (body_merged b from n m.place)) (replaced from n merged opened) m.plan
+    × (pieces_behind m ≡ laid_in table (table_bytes (body_merged b from n m.place).entries))
 PlansMerged b opened from n new (Err (Full need largest)) =
-    FullAs b.units (named b) (lengths_in new) need largest
+    FullAs b.units (named b) (lengths_merged b n new) need largest
 PlansMerged b opened from n new (Err Damaged) = AreTooMany (run_of from n opened)
 PlansMerged b opened from n new (Err Memory) = Unit {0}
 PlansMerged b opened from n new (Err why) = ⊥
 
+-- the lengths of the segment of these documents, and of the table
+abbrev pub writes_merged : Body → ℕ → List Doc → List ℕ
+writes_merged b n docs =
+    segment_writes docs ++ table_writes (length b.entries - n + length (segment_writes docs))
+
 -- THE PLAN OF A MERGE of n segments from a place on, where all stand for these: their live documents
--- in one segment, placed at the first fit; what is there now stays.
+-- in one segment, placed at the first fit, and the table behind it; what is there now stays.
 pub record PlansMerge (b : Body) (opened : List OpenSegment) (stored : List Stored) (from n : ℕ)
     (m : MergePlan) : Type 0 where
-  pub placed : PlacedAs b.units (named b) (segment_writes (live_in (run_of from n stored)))
-      (extents_in m.place)
+  pub table : List Extent
+  pub before : length (extents_in m.place) ≡ length (segment_writes (live_in (run_of from n stored)))
+  pub placed : PlacedAs b.units (named b) (writes_merged b n (live_in (run_of from n stored)))
+      (extents_in m.place ++ table)
   pub fits : is_too_large (live_in (run_of from n stored)) ≡ false
-  pub goes : GoesTo (bytes_in (extents_in m.place))
-      (λ c. IsAmong c (laid_in (extents_in m.place) (new_segments (live_in (run_of from n stored)))))
-      m.plan (record { body = b; stored = stored })
-      (after_merge (record { body = b; stored = stored }) from n (extents_in m.place))
+  pub goes : GoesTo (merge_touches m)
+      (λ c. IsAmong c (laid_in (extents_in m.place) (new_segments (live_in (run_of from n stored))))
+      ⊎ IsAmong c (pieces_behind m)) m.plan (record { body = b; stored = stored })
+      (with_table table
+      (after_merge (record { body = b; stored = stored }) from n (extents_in m.place)))
   pub now : live_in (present m.plan.opened.items
       (after_merge (record { body = b; stored = stored }) from n (extents_in m.place)).stored)
       ≡ live_in (present opened stored)
@@ -169,26 +197,38 @@ PlansMergeAs b opened stored from n (Err SegmentTooLarge) =
     is_too_large (live_in (run_of from n stored)) ≡ true
 PlansMergeAs b opened stored from n (Err (Full need largest)) =
     (is_too_large (live_in (run_of from n stored)) ≡ false)
-    × FullAs b.units (named b) (segment_writes (live_in (run_of from n stored))) need largest
+    × FullAs b.units (named b) (writes_merged b n (live_in (run_of from n stored))) need largest
 PlansMergeAs b opened stored from n (Err Memory) = Unit {0}
 PlansMergeAs b opened stored from n (Err Disk) = Unit {0}
 PlansMergeAs b opened stored from n (Err why) = ⊥
 
--- Whatever the segments are: it is a plan, which goes on with them, writes at its place alone, and
--- leaves the next number.
-pub record PlansRightly (size : ℕ) (b : Body) (opened : List OpenSegment) (new : Option NewSegment)
-    (m : MergePlan) : Type 0 where
-  pub plan : IsPlan size b m.plan
-  pub goes_on : GoesOn (bytes_in (extents_in m.place)) b opened m.plan
-  pub next_number : (view m.plan.manifest).next_number ≡ b.next_number
-  pub placed : PlacedAs b.units (named b) (lengths_in new) (extents_in m.place)
+-- What is written behind the segment lies on the disk, is apart, and touches nothing that lies in the
+-- place of the segment: so it may follow.
+pub record MayFollow (size : ℕ) (m : MergePlan) : Type 0 where
+  pub inside : Each (IsInside size) (pieces_behind m)
+  pub apart : AreApart (pieces_behind m)
+  pub missed : (c : Claim) → AreLaid (extents_in m.place) (c ∷ [])
+      → IsUntouched (places (pieces_behind m)) c
 
-abbrev pub PlansMergeRightly : ℕ → Body → List OpenSegment → Option NewSegment
+-- Whatever the segments are: it is a plan, which goes on with them, writes at its place and behind it
+-- alone, and leaves the next number.
+pub record PlansRightly (size : ℕ) (b : Body) (opened : List OpenSegment) (n : ℕ)
+    (new : Option NewSegment) (m : MergePlan) : Type 0 where
+  pub plan : IsPlan size b m.plan
+  pub goes_on : GoesOn (merge_touches m) b opened m.plan
+  pub next_number : (view m.plan.manifest).next_number ≡ b.next_number
+  pub table : List Extent
+  pub before : length (extents_in m.place) ≡ length (lengths_in new)
+  pub placed : PlacedAs b.units (named b) (lengths_merged b n new) (extents_in m.place ++ table)
+  pub follows : MayFollow size m
+  pub tabled : PromisesTable (λ c. IsAmong c (pieces_behind m)) m.plan
+
+abbrev pub PlansMergeRightly : ℕ → Body → List OpenSegment → ℕ → Option NewSegment
     → Result MergePlan Refusal → Type 0
-PlansMergeRightly size b opened new (Ok m) = PlansRightly size b opened new m
-PlansMergeRightly size b opened new (Err (Full need largest)) =
-    FullAs b.units (named b) (lengths_in new) need largest
-PlansMergeRightly size b opened new (Err why) = Unit {0}
+PlansMergeRightly size b opened n new (Ok m) = PlansRightly size b opened n new m
+PlansMergeRightly size b opened n new (Err (Full need largest)) =
+    FullAs b.units (named b) (lengths_merged b n new) need largest
+PlansMergeRightly size b opened n new (Err why) = Unit {0}
 
 -- what is prepared opens as what is going to be written, where it is a merge of some documents
 abbrev pub OpensRun : Option Prepared → Result (Option NewSegment) Refusal → Type 0

@@ -1,8 +1,9 @@
 -- What is going to be written, and what is committed once it is.
-use Rattle.std.specs.Prelude.{◌≡◌, ◌+◌, ◌≤◌, ◌<◌, ◌⊎◌, ◌&&◌, ℕ, Bool, true, false, not, List}
+use Rattle.std.specs.Prelude.{◌≡◌, ◌+◌, ◌*◌, ◌≤◌, ◌<◌, ◌⊎◌, ◌&&◌, ℕ, Bool, true, false, not, List}
 use Rattle.std.specs.Prelude.{[], ◌∷◌, ◌++◌, if◌then◌else◌}
 use Rattle.std.specs.Prelude.{get_or, map, length, All, Option, Some, None, Result, Ok, Err}
 use Rattle.std.specs.Global.{Vec}
+use Rattle.std.specs.List.{flat_map}
 use Rattle.std.specs.List.Sorted.{IsStrictlyIncreasing}
 use Rattle.pk_disk.specs.Disk.{in_range}
 use Rattle.pk_disk.specs.Units.{IsFitted, start_of, units_for, units_in}
@@ -10,13 +11,13 @@ use Rattle.pk_disk.specs.declared.units.Extent.{Extent}
 use Rattle.pk_manifest.specs.declared.half.Half.{Half}
 use Rattle.pk_manifest.specs.Sound.{IsBody, named, segment_limit}
 use Rattle.pk_manifest.specs.declared.manifest.Part.{Part as Entry}
-use Rattle.pk_manifest.specs.Spelling.{Body, spelling, view}
+use Rattle.pk_manifest.specs.Spelling.{Body, entry, spelling, view}
 use Rattle.pk_model.specs.Collection.{Doc, numbers_of}
 use Rattle.pk_model.specs.Limits.{end_of_ids, end_of_numbers, max_segments}
 use Rattle.pk_model.specs.declared.commands.Refusal.{Refusal}
 use Rattle.pk_model.specs.declared.commands.Refusal.TheVariants.{NumbersUsedUp, TooManySegments}
 use Rattle.pk_model.specs.declared.commands.Refusal.TheVariants.{SegmentTooLarge, Full, Memory}
-use Rattle.pk_replace.specs.Claims.{AreApart, Claim, Each, IsAmong, IsInside, IsUntouched}
+use Rattle.pk_replace.specs.Claims.{AreApart, Claim, Each, IsAmong, IsBehind, IsInside, IsUntouched}
 use Rattle.pk_replace.specs.Claims.{claim_of, places}
 use Rattle.pk_replace.specs.Held.{IsNext}
 use Rattle.pk_segment.specs.declared.segment.Segment.{Segment}
@@ -31,8 +32,9 @@ use Rattle.pk_space.specs.declared.runs.Full.{Full as NoRoom}
 use Rattle.pk_space.specs.Free.{IsFirstFit, IsFullAt}
 use Rattle.pk_space.specs.Places.{PlacedAs, FullAs}
 use Rattle.pk_state.specs.Committed.{Stored, Committed}
-use Rattle.pk_state.specs.Kept.{AreEntries, claims_of}
-use Rattle.pk_state.specs.Writing.{is_too_large, new_entry, new_stored, next_body, written_kind}
+use Rattle.pk_state.specs.Kept.{AreEntries, all_claims, table_claims}
+use Rattle.pk_state.specs.Writing.{is_too_large, new_entry, new_stored, next_body, table_writes}
+use Rattle.pk_state.specs.Writing.{with_table, written_kind}
 use Rattle.pk_layout.specs.declared.committing.CommitPlan.{CommitPlan}
 use Rattle.pk_layout.specs.declared.planning.Plan.{Plan}
 use Rattle.pk_layout.specs.Placed.{AreLaid}
@@ -62,9 +64,36 @@ abbrev pub new_segments : List Doc → List (List ℕ)
 new_segments [] = []
 new_segments (d ∷ docs) = segment_spelling (d ∷ docs) written_kind ∷ []
 
--- all that a commit writes besides the body
+-- all that a commit writes besides the body and its table
 abbrev pub commit_bytes : List OpenSegment → List Doc → List (List ℕ)
 commit_bytes opened docs = new_segments docs ++ new_lists opened
+
+-- how many entries there are after it
+abbrev pub commit_count : List Entry → List Doc → ℕ
+commit_count entries [] = length entries
+commit_count entries (d ∷ docs) = length entries + 1
+
+-- THE TABLE. The extent that there may be, in place of another one.
+abbrev pub table_at : List Extent → Extent → Extent
+table_at [] e = e
+table_at (t ∷ more) e = t
+
+-- a body with its table in this extent, if there is one
+abbrev pub tabled : List Extent → Body → Body
+tabled table b = record {
+  version = b.version;
+  generation = b.generation;
+  units = b.units;
+  next_number = b.next_number;
+  next_segment = b.next_segment;
+  table = table_at table b.table;
+  entries = b.entries;
+}
+
+-- the bytes of the table of these entries: none without an entry
+abbrev pub table_bytes : List Entry → List (List ℕ)
+table_bytes [] = []
+table_bytes (e ∷ entries) = flat_map entry (e ∷ entries) ∷ []
 
 -- an open segment whose deletions are committed
 abbrev pub settled : OpenSegment → OpenSegment
@@ -103,13 +132,15 @@ pub record IsPlanOf (b : Body) (opened : List OpenSegment) (p : Plan) : Type 0 w
   pub opened_is : p.opened.items ≡ opened
   pub body_is : p.body.items ≡ spelling (view p.manifest)
 
--- A PLAN FOR A BODY, on a disk of so many bytes: the body that follows is sound, a generation
--- later, with one open segment for each entry.
+-- A PLAN FOR A BODY, on a disk of so many bytes: the body that follows is sound, of version 2, a
+-- generation later, with one open segment and 40 bytes of its table for each entry.
 pub record IsPlan (size : ℕ) (b : Body) (p : Plan) : Type 0 where
   pub generation : b.generation < end_of_ids
   pub later : (view p.manifest).generation ≡ b.generation + 1
+  pub version : (view p.manifest).version ≡ 2
   pub sound : IsBody (units_in size) (view p.manifest)
   pub body_is : p.body.items ≡ spelling (view p.manifest)
+  pub table : (view p.manifest).table.bytes ≡ 40 * length (view p.manifest).entries
   pub opened : length p.opened.items ≡ length (view p.manifest).entries
   pub grown : All IsGrown p.opened.items
 
@@ -160,7 +191,12 @@ pub record GoesTo (touched : ℕ → Bool) (promised : Claim → Type 0) (p : Pl
   pub entries : AreEntries new.body.entries new.stored
   pub opened : AreOpenOf p.opened.items new.stored
   pub next : (spare : Half) → IsNext spare touched promised
-      (claims_of old.body.entries old.stored) (claims_of new.body.entries new.stored)
+      (all_claims old) (all_claims new)
+
+-- the table of the plan's body is promised, and lies behind the bodies
+abbrev pub PromisesTable : (Claim → Type 0) → Plan → Type 0
+PromisesTable promised p =
+    Each (λ c. promised c × IsBehind c) (table_claims (view p.manifest))
 
 -- documents and a next number that may follow a body
 pub record AreNext (b : Body) (docs : List Doc) (next : ℕ) : Type 0 where
@@ -195,17 +231,23 @@ BuildsAs docs (Err why) = ⊥
 abbrev pub CanBeWritten : List (List ℕ) → Type 0
 CanBeWritten writes = All (λ w. (5 ≤ length w) × (length w ≤ segment_limit)) writes
 
--- a plan that writes these bytes at the first fit, and puts the body of their extents in force with
--- these open segments, or why there is none
-abbrev pub PlansWith : Body → List (List ℕ) → List OpenSegment → (List Extent → Body)
+-- the byte lengths of these, and behind them that of the table of so many entries
+abbrev pub lengths_with : List (List ℕ) → ℕ → List ℕ
+lengths_with writes count = map length writes ++ table_writes count
+
+-- a plan that writes these bytes at the first fit, and behind them the table of so many entries, and
+-- puts the body of their extents in force with these open segments, or why there is none
+abbrev pub PlansWith : Body → List (List ℕ) → ℕ → List OpenSegment → (List Extent → Body)
     → Result CommitPlan Refusal → Type 0
-PlansWith b writes opened body (Ok p) =
-    (extents : List Extent) × PlacedAs b.units (named b) (map length writes) extents
-    × IsPlanOf (body extents) opened p.plan × (pieces_of p ≡ laid_in extents writes)
-PlansWith b writes opened body (Err (Full need largest)) =
-    FullAs b.units (named b) (map length writes) need largest
-PlansWith b writes opened body (Err Memory) = Unit {0}
-PlansWith b writes opened body (Err why) = ⊥
+PlansWith b writes count opened body (Ok p) =
+    (extents : List Extent) × (table : List Extent) × (length extents ≡ length writes)
+    × PlacedAs b.units (named b) (lengths_with writes count) (extents ++ table)
+    × IsPlanOf (tabled table (body extents)) opened p.plan
+    × (pieces_of p ≡ laid_in (extents ++ table) (writes ++ table_bytes (body extents).entries))
+PlansWith b writes count opened body (Err (Full need largest)) =
+    FullAs b.units (named b) (lengths_with writes count) need largest
+PlansWith b writes count opened body (Err Memory) = Unit {0}
+PlansWith b writes count opened body (Err why) = ⊥
 
 -- an open segment just built
 abbrev pub fresh_segment : Segment → OpenSegment
@@ -235,13 +277,17 @@ pub record PlansCommit (b : Body) (opened : List OpenSegment) (docs : List Doc) 
   pub next_is : (view p.plan.manifest).next_number ≡ next
   pub settled : AreSettled p.plan.opened.items
   pub extents : List Extent
-  pub placed : PlacedAs b.units (named b) (map length (commit_bytes opened docs)) extents
+  pub table : List Extent
+  pub before : length extents ≡ length (commit_bytes opened docs)
+  pub placed : PlacedAs b.units (named b)
+      (lengths_with (commit_bytes opened docs) (commit_count b.entries docs)) (extents ++ table)
   pub fits : is_too_large docs ≡ false
   pub goes_on : GoesOn (places (pieces_of p)) b opened p.plan
+  pub tabled : PromisesTable (λ c. IsAmong c (pieces_of p)) p.plan
   pub goes : (stored : List Stored) → AreEntries b.entries stored → AreOpenOf opened stored
       → GoesTo (places (pieces_of p)) (λ c. IsAmong c (pieces_of p)) p.plan
       (record { body = b; stored = stored })
-      (commit_to (record { body = b; stored = stored }) opened docs next extents)
+      (with_table table (commit_to (record { body = b; stored = stored }) opened docs next extents))
 
 -- a plan, or why there is none
 abbrev pub PlansAs : ℕ → Body → List OpenSegment → List Doc → ℕ → Result CommitPlan Refusal
@@ -250,7 +296,8 @@ PlansAs size b opened docs next (Ok p) =
     IsPlan size b p.plan × PlansCommit b opened docs next p × HavePlace size p
 PlansAs size b opened docs next (Err SegmentTooLarge) = is_too_large docs ≡ true
 PlansAs size b opened docs next (Err (Full need largest)) = (is_too_large docs ≡ false)
-    × FullAs b.units (named b) (map length (commit_bytes opened docs)) need largest
+    × FullAs b.units (named b)
+    (lengths_with (commit_bytes opened docs) (commit_count b.entries docs)) need largest
 PlansAs size b opened docs next (Err Memory) = Unit {0}
 PlansAs size b opened docs next (Err why) = ⊥
 

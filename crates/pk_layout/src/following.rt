@@ -2,12 +2,12 @@
 //! what is written: the extents and the open segments do.
 ghost use Rattle.std.specs.Prelude.{◌≡◌, ◌<◌, ◌++◌, ◌∷◌, [], map, IfOk, OnOk};
 ghost use Rattle.pk_layout.specs.Plan.{entry_in, fresh_segment, ids_in, relisted, settled};
-ghost use Rattle.pk_layout.specs.Plan.{with_list};
+ghost use Rattle.pk_layout.specs.Plan.{tabled, with_list};
 ghost use Rattle.pk_manifest.specs.Spelling.{view};
 ghost use Rattle.pk_model.specs.Limits.{end_of_ids};
 ghost use Rattle.pk_state.specs.Writing.{next_body};
 
-use crate::planning::written_kind;
+use crate::planning::{table_in, written_kind};
 use pk_dead::Dead;
 use pk_disk::Extent;
 use pk_manifest::{Manifest, Part};
@@ -113,18 +113,20 @@ pub(crate) fn settled_with(
 }
 
 /// The body that follows: these entries, behind them that of a new segment in this extent, if there
-/// is one, and behind it these.
+/// is one, and behind it these; its table in the first of these extents, if there is one.
 pub(crate) fn next_manifest(
     manifest: &Manifest,
     next_number: u32,
     mut entries: Vec<Part>,
     segment: Option<Extent>,
     behind: &[Part],
+    table: &[Extent],
 ) -> Result<Manifest, AllocError>
     requires generation { manifest.now.generation < end_of_ids }
     requires id { manifest.now.next_segment < end_of_ids }
-    ensures { IfOk result (λ m. view m ≡ next_body (view manifest.now) next_number (ids_in segment)
-        (entries.items ++ (entry_in (view manifest.now) segment ++ behind.now))) }
+    ensures { IfOk result (λ m. view m ≡ tabled table.now (next_body (view manifest.now)
+        next_number (ids_in segment)
+        (entries.items ++ (entry_in (view manifest.now) segment ++ behind.now)))) }
 {
     let mut next_segment = manifest.next_segment;
     if let Some(extent) = segment {
@@ -138,6 +140,8 @@ pub(crate) fn next_manifest(
     }
     entries.extend_from_slice(behind)?;
     Ok(Manifest {
+        version: 2,
+        table: table_in(table),
         generation: manifest.generation + 1,
         units: manifest.units,
         next_number,

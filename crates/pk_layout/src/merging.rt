@@ -8,6 +8,7 @@ ghost use Rattle.std.specs.Prelude.{IfOk};
 ghost use Rattle.pk_layout.specs.Merging.{BeginsFrom, EntryApart};
 ghost use Rattle.pk_layout.specs.Merging.{IsSized, OpensRun, PlansMerged, PutsPending, TakesPending};
 ghost use Rattle.pk_layout.specs.Merging.{body_merged, opened_in};
+ghost use Rattle.pk_layout.specs.Plan.{tabled};
 ghost use Rattle.pk_layout.specs.Refusing.{merge_refusal};
 ghost use Rattle.pk_manifest.specs.Sound.{IsBody};
 ghost use Rattle.pk_manifest.specs.Spelling.{view};
@@ -23,13 +24,14 @@ ghost use Rattle.pk_state.specs.Kept.{HaveKinds, LieInside};
 ghost use Rattle.pk_state.specs.Writing.{replaced};
 
 use crate::following::{next_manifest, put_copies};
-use crate::placing::place_all;
-use crate::planning::{Plan, plan_for};
+use crate::placing::place_behind;
+use crate::planning::{Plan, pieces_with, plan_for};
 use pk_dead::Dead;
 use pk_disk::Extent;
 use pk_manifest::{Manifest, Part};
 use pk_merge::{MergeFault, MergeInput, Prepared};
 use pk_model::Refusal;
+use pk_replace::Piece;
 use pk_search::OpenSegment;
 use pk_segment::Segment;
 use std::alloc::{AllocError, Global};
@@ -50,6 +52,8 @@ pub struct MergePlan {
     pub plan: Plan,
     /// The place of the segment.
     pub place: Option<Extent>,
+    /// What is written behind the segment: the table, unless no entry is left.
+    pub pieces: Vec<Piece>,
 }
 
 /// The most numbers of a deletion list.
@@ -148,16 +152,25 @@ fn manifest_merged(
     from: usize,
     count: usize,
     segment: Option<Extent>,
+    table: &[Extent],
 ) -> Result<Manifest, AllocError>
     requires generation { manifest.now.generation < end_of_ids }
     requires id { manifest.now.next_segment < end_of_ids }
     requires within { from + count ≤ length manifest.now.entries.items }
-    ensures { IfOk result (λ m. view m ≡ body_merged (view manifest.now) from count segment) }
+    ensures { IfOk result (λ m. view m
+        ≡ tabled table.now (body_merged (view manifest.now) from count segment)) }
 {
     let mut entries = Vec::new(alloc);
     entries.extend_from_slice(&manifest.entries[..from])?;
     let behind = &manifest.entries[from + count..];
-    next_manifest(manifest, manifest.next_number, entries, segment, behind)
+    next_manifest(
+        manifest,
+        manifest.next_number,
+        entries,
+        segment,
+        behind,
+        table,
+    )
 }
 
 // The plan of a merge of a run that leaves no document.
@@ -167,18 +180,24 @@ fn plan_none(
     opened: &[OpenSegment],
     from: usize,
     count: usize,
-) -> Result<MergePlan, AllocError>
+) -> Result<MergePlan, Refusal>
     requires sound { IsBody manifest.now.units (view manifest.now) }
     requires generation { manifest.now.generation < end_of_ids }
     requires id { manifest.now.next_segment < end_of_ids }
     requires same { length opened.now ≡ length manifest.now.entries.items }
     requires within { from + count ≤ length opened.now }
-    ensures { IfOk result (λ m. PlansMerged (view manifest.now) opened.now from count None (Ok m)) }
+    ensures { PlansMerged (view manifest.now) opened.now from count None result }
 {
-    let next = manifest_merged(alloc, manifest, from, count, None)?;
+    let extents = place_behind(alloc, manifest, &[], manifest.entries.len() - count)?;
+    let next = manifest_merged(alloc, manifest, from, count, None, &extents)?;
     let kept = opened_merged(alloc, opened, from, count, None)?;
+    let pieces = pieces_with(alloc, Vec::new(alloc), &next, &extents)?;
     let plan = plan_for(alloc, next, kept)?;
-    Ok(MergePlan { plan, place: None })
+    Ok(MergePlan {
+        plan,
+        place: None,
+        pieces,
+    })
 }
 
 // The plan of a merge of a run into this segment.
@@ -200,9 +219,13 @@ fn plan_one(
     ensures { PlansMerged (view manifest.now) opened.now from count (Some new) result }
 {
     let deleted = pending_of(alloc, &opened[from..from + count])?;
-    let extents = place_all(alloc, manifest, &[new.bytes])?;
-    let place = extents[0];
-    let next = manifest_merged(alloc, manifest, from, count, Some(place))?;
+    let left = manifest.entries.len() - count;
+    let extents = place_behind(alloc, manifest, &[new.bytes], left + 1)?;
+    let Some((place, table)) = extents.split_first() else {
+        unreachable!()
+    };
+    let next = manifest_merged(alloc, manifest, from, count, Some(*place), table)?;
+    let pieces = pieces_with(alloc, Vec::new(alloc), &next, table)?;
     let merged = OpenSegment {
         segment: new.segment,
         dead: Dead::new(alloc),
@@ -212,7 +235,8 @@ fn plan_one(
     let plan = plan_for(alloc, next, kept)?;
     Ok(MergePlan {
         plan,
-        place: Some(place),
+        place: Some(*place),
+        pieces,
     })
 }
 
@@ -236,7 +260,7 @@ pub fn plan_merged(
 {
     match new {
         Some(new) => plan_one(alloc, manifest, opened, from, count, new),
-        None => Ok(plan_none(alloc, manifest, opened, from, count)?),
+        None => plan_none(alloc, manifest, opened, from, count),
     }
 }
 

@@ -1,18 +1,19 @@
 //! The plan: the body that is going to be in force, and what is kept once it is. All its memory is
 //! taken, and nothing of the disk was touched.
-ghost use Rattle.std.specs.Prelude.{◌≡◌, ◌≤◌, ◌++◌, ◌∷◌, [], List, length, map, All};
+ghost use Rattle.std.specs.Prelude.{◌≡◌, ◌≤◌, ◌+◌, ◌++◌, ◌∷◌, [], List, length, map, All};
 ghost use Rattle.std.specs.Prelude.{IfOk, OnOk};
 ghost use Rattle.pk_layout.specs.Plan.{CanBeWritten, IsGrown, IsPlanOf, laid_in, new_lists};
+ghost use Rattle.pk_layout.specs.Plan.{table_at, table_bytes};
 ghost use Rattle.pk_manifest.specs.Sound.{entry_limit};
-ghost use Rattle.pk_manifest.specs.Spelling.{view};
+ghost use Rattle.pk_manifest.specs.Spelling.{no_extent, view};
 ghost use Rattle.pk_model.specs.Collection.{Doc};
 ghost use Rattle.pk_replace.specs.Claims.{claim_of};
 ghost use Rattle.pk_segment.specs.Opened.{IsSegmentOf};
 ghost use Rattle.pk_segment.specs.Spelling.{IsKind, SegmentSpells};
-ghost use Rattle.pk_state.specs.Writing.{written_kind};
+ghost use Rattle.pk_state.specs.Writing.{table_writes, written_kind};
 
 use pk_disk::Extent;
-use pk_manifest::Manifest;
+use pk_manifest::{Manifest, NO_TABLE};
 use pk_posting::SliceSource;
 use pk_replace::Piece;
 use pk_search::OpenSegment;
@@ -102,13 +103,69 @@ pub(crate) fn pieces_for(
     Ok(pieces)
 }
 
+/// Puts the length of the table of so many entries behind the others, of none none.
+pub(crate) fn put_table(lengths: &mut Vec<u32>, count: usize) -> Result<(), AllocError>
+    requires { count ≤ entry_limit 2 }
+    ensures { OnOk result (lengths.new.items ≡ lengths.old.items ++ table_writes count) }
+{
+    if count == 0 {
+        return Ok(());
+    }
+    lengths.push(40 * count as u32)?;
+    Ok(())
+}
+
+// Puts the table of a body behind what is to be written, unless it has no entry.
+fn put_table_bytes(
+    alloc: Global,
+    writes: &mut Vec<Vec<u8>>,
+    manifest: &Manifest,
+) -> Result<(), AllocError>
+    ensures { OnOk result (map (λ w. w.items) writes.new.items
+        ≡ map (λ w. w.items) writes.old.items ++ table_bytes manifest.now.entries.items) }
+{
+    if manifest.entries.is_empty() {
+        return Ok(());
+    }
+    let bytes = manifest.spell_table(alloc)?;
+    writes.push(bytes)?;
+    Ok(())
+}
+
+/// These bytes and the table of the body, each at the start of the extent at its place.
+pub(crate) fn pieces_with(
+    alloc: Global,
+    mut writes: Vec<Vec<u8>>,
+    manifest: &Manifest,
+    extents: &[Extent],
+) -> Result<Vec<Piece>, AllocError>
+    requires { length writes.items + length (table_bytes manifest.now.entries.items)
+        ≡ length extents.now }
+    ensures { IfOk result (λ v. map claim_of v.items ≡ laid_in extents.now
+        (map (λ w. w.items) writes.items ++ table_bytes manifest.now.entries.items)) }
+{
+    put_table_bytes(alloc, &mut writes, manifest)?;
+    pieces_for(alloc, writes, extents)
+}
+
+/// Where the table lies: in the first of these, if there is one.
+pub(crate) fn table_in(extents: &[Extent]) -> Extent
+    ensures { result ≡ table_at extents.now no_extent }
+{
+    match extents.split_first() {
+        Some((table, _)) => *table,
+        None => NO_TABLE,
+    }
+}
+
 /// The plan that puts this body in force, with these open segments.
 pub(crate) fn plan_for(
     alloc: Global,
     manifest: Manifest,
     opened: Vec<OpenSegment>,
 ) -> Result<Plan, AllocError>
-    requires { length manifest.entries.items ≤ entry_limit }
+    requires version { manifest.version ≡ 2 }
+    requires few { length manifest.entries.items ≤ entry_limit 2 }
     ensures { IfOk result (IsPlanOf (view manifest) opened.items) }
 {
     let body = manifest.spell(alloc)?;

@@ -5,4 +5,5 @@ pub mod Far
 pub mod Fields
 pub mod Firm
 pub mod Sound
+pub mod Tables
 mod Windows

@@ -1,19 +1,19 @@
 -- What a body may say.
 use Rattle.std.specs.Prelude.{◌≡◌, ℕ, ◌<◌, ◌≤◌, ◌^◌, Bool, true, ◌&&◌, nat_le, nat_lt, ◌==◌, List, []}
-use Rattle.std.specs.Prelude.{◌∷◌, length, Option, Some, None}
+use Rattle.std.specs.Prelude.{◌∷◌, ◌++◌, length, Option, Some, None, if◌then◌else◌}
 use Rattle.std.specs.List.{flat_map, list_all}
 use Rattle.pk_disk.specs.declared.units.Extent.{Extent}
 use Rattle.pk_disk.specs.Units.{apart, lies_within, overlap, units_for}
 use Rattle.pk_manifest.specs.declared.manifest.Part.{Part}
-use Rattle.pk_manifest.specs.Spelling.{Body}
+use Rattle.pk_manifest.specs.Spelling.{Body, table_size}
 
 -- the most bytes of a segment
 abbrev pub segment_limit : ℕ
 segment_limit = 1073741824
 
--- the most entries
-abbrev pub entry_limit : ℕ
-entry_limit = 64
+-- the most entries of a body of this version
+abbrev pub entry_limit : ℕ → ℕ
+entry_limit version = if version == 1 then 64 else 4096
 
 -- of at least that many bytes, within the units that extents may take
 abbrev pub is_extent : ℕ → ℕ → Extent → Bool
@@ -35,6 +35,12 @@ is_part units next p =
 abbrev pub same_segment : Part → Part → Bool
 same_segment p q = p.segment == q.segment
 
+-- the place of a table of so many bytes, of none zeros
+abbrev pub is_table : ℕ → ℕ → Extent → Bool
+is_table units size e =
+    (e.bytes == size) && (if size == 0 then (e.first == 0) && (e.units == 0)
+    else is_extent units 1 e)
+
 abbrev pub dead_extents : Option Extent → List Extent
 dead_extents None = []
 dead_extents (Some e) = e ∷ []
@@ -43,25 +49,37 @@ dead_extents (Some e) = e ∷ []
 abbrev pub extents_of : Part → List Extent
 extents_of p = p.extent ∷ dead_extents p.dead
 
--- the extents that a body names
+-- the table, if there is one
+abbrev pub table_extents : Extent → List Extent
+table_extents e = if e.bytes == 0 then [] else e ∷ []
+
+-- the extents that a body names: its table's first
 abbrev pub named : Body → List Extent
-named b = flat_map extents_of b.entries
+named b = table_extents b.table ++ flat_map extents_of b.entries
+
+-- the numbers of a body on a disk of that many units
+abbrev pub are_numbers : ℕ → Body → Bool
+are_numbers units b =
+    nat_le 1 b.version && nat_le b.version 2 && nat_le 1 b.generation && (b.units == units)
+    && nat_le 1 b.next_number && nat_le 1 b.next_segment
 
 -- what a body on a disk of that many units may say
 abbrev pub is_sound : ℕ → Body → Bool
 is_sound units b =
-    nat_le 1 b.generation && (b.units == units) && nat_le 1 b.next_number
-    && nat_le 1 b.next_segment && nat_le (length b.entries) entry_limit
-    && list_all (is_part units b.next_segment) b.entries
+    are_numbers units b && nat_le (length b.entries) (entry_limit b.version)
+    && is_table units (table_size b) b.table && list_all (is_part units b.next_segment) b.entries
     && apart same_segment b.entries && apart overlap (named b)
 
 -- WHAT A SOUND BODY SAYS, part by part.
 pub record SaysSound (units : ℕ) (b : Body) : Type 0 where
+  pub low : 1 ≤ b.version
+  pub high : b.version ≤ 2
   pub generation : 1 ≤ b.generation
   pub of_disk : b.units ≡ units
   pub next_number : 1 ≤ b.next_number
   pub next_segment : 1 ≤ b.next_segment
-  pub few : length b.entries ≤ entry_limit
+  pub few : length b.entries ≤ entry_limit b.version
+  pub table : is_table units (table_size b) b.table ≡ true
   pub parts : list_all (is_part units b.next_segment) b.entries ≡ true
   pub ids : apart same_segment b.entries ≡ true
   pub places : apart overlap (named b) ≡ true

@@ -9,9 +9,12 @@
 //!
 //! # What a caller sees
 //!
-//! A `Manifest` is the record of its numbers and the list of its entries (`view` in specs/); its
-//! 8,192 bytes are a function of that (`spelling`), and a sound one has one spelling
-//! (`laws::one_body`).
+//! A `Manifest` is the record of its version, its numbers, the place of its table and the list of
+//! its entries (`view` in specs/); its 8,192 bytes (`spelling`) and those of its table (`table_of`)
+//! are functions of that, and a sound one has one spelling with one table (`laws::one_body`).
+//!
+//! Both versions are read; `install` writes version 2. In version 1 the entries stand in the body,
+//! at most 64; in version 2 they stand in a table, an extent of its own, at most 4,096.
 //!
 //! # Layout
 //!
@@ -27,13 +30,20 @@
 //!
 //! | place in a body | field |
 //! |---|---|
-//! | 0 | `PKSRCH01` |
+//! | 0 | `PKSRCH01`, in version 2 `PKSRCH02` |
 //! | 8 | generation, u64 |
 //! | 16 | units of the disk, u32 |
 //! | 20 | next document number, u32 |
 //! | 24 | next segment id, u64 |
-//! | 32 | number of entries, u32, at most 64 |
-//! | 36 | entries of 40 bytes, then zeros to the end |
+//! | 32 | number of entries, u32, at most 64, in version 2 at most 4,096 |
+//! | 36 | entries of 40 bytes, then zeros to the end; in version 2 see below |
+//!
+//! | place in a body of version 2 | field |
+//! |---|---|
+//! | 36 | the table's first unit, units and bytes, each u32; zeros without entries |
+//! | 48 | zeros to the end |
+//!
+//! The table is the entries in a row, 40 bytes each.
 //!
 //! | place in an entry | field |
 //! |---|---|
@@ -45,16 +55,17 @@
 //!
 //! # What is refused
 //!
-//! A body is sound if and only if its 8,192 bytes are the spelling of numbers and entries with: a
-//! generation, a next document number and a next segment id of at least 1; the disk's units;
-//! ids distinct, at least 1 and below the next id; kinds of 1 or 2; lengths of 1 to 1,073,741,824
-//! bytes (a deletion list's from 5); units that follow from the length; extents within the units
-//! from 34 to the disk's last; no two extents sharing a unit.
+//! A body is sound if and only if its 8,192 bytes and its table are the spelling of a version, 1 or
+//! 2, of numbers and of entries with: a generation, a next document number and a next segment id of
+//! at least 1; the disk's units; ids distinct, at least 1 and below the next id; kinds of 1 or 2;
+//! lengths of 1 to 1,073,741,824 bytes (a deletion list's from 5); units that follow from the
+//! length; extents within the units from 34 to the disk's last; no two extents sharing a unit, the
+//! table's included.
 //!
 //! `read_current` answers the sound body in force, `NotAStore` exactly where both gates are closed,
-//! and `Damaged` where a half is in force whose bytes are no sound body's. A refused `install` that
-//! met no failed write leaves the disk as it was; after a failed write each image still has the old
-//! body or the new one in force.
+//! and `Damaged` where a half is in force whose bytes, with those of its table, are no sound body's.
+//! A refused `install` that met no failed write leaves the disk as it was; after a failed write each
+//! image still has the old body or the new one with its table in force.
 //!
 //! # For the crates above
 //!
@@ -78,6 +89,6 @@ pub use creating::establish;
 pub use fault::ManifestFault;
 pub use gates::{close_spare, gate_open, open_spare, write_body};
 pub use half::Half;
-pub use manifest::{Manifest, Part};
+pub use manifest::{Manifest, NO_TABLE, Part};
 pub use reading::read_current;
 pub use steps::{finish, install, shut_spare};

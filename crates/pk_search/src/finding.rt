@@ -64,11 +64,12 @@ fn find_from<S: ByteSource>(
     Ok(())
 }
 
-// What the dictionary of an entry's segment says of each word; of kind 1 nothing.
+// What the dictionary of the segment of the entry at a place says of each word; of kind 1 nothing.
 fn look_up_in<'a, D: Disk>(
     alloc: Global,
     disk: &mut D,
     pivots: &mut PivotTables,
+    place: usize,
     entry: &Part,
     opened: &OpenSegment,
     words: &[&'a str],
@@ -86,7 +87,7 @@ fn look_up_in<'a, D: Disk>(
         return Ok(Vec::new(alloc));
     }
     let mut source = ExtentSource::on(disk, entry.extent);
-    let _ = pivots.prepare(alloc, entry);
+    let _ = pivots.prepare(alloc, place, entry);
     if let Some(tables) = &mut pivots.tables {
         if let Some(table) = tables.get_mut(&entry.segment) {
             return look_up(alloc, &mut source, &opened.segment, table, words);
@@ -117,7 +118,7 @@ fn look_up_all<'a, D: Disk>(
 {
     let mut kept = Vec::new(alloc);
     for i in 0..entries.len().min(opened.len()) {
-        let words = look_up_in(alloc, disk, pivots, &entries[i], &opened[i], words)?;
+        let words = look_up_in(alloc, disk, pivots, i, &entries[i], &opened[i], words)?;
         let Ok(()) = kept.push(words) else {
             return Err(ReadFault::Memory);
         };

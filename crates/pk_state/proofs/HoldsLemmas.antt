@@ -1,5 +1,6 @@
 -- What a disk keeps for a body, what its bytes hold, and that these say the same.
-use Rattle.std.proofs.Common.{◌≡◌, inl, inr, ℕ, zero, suc, ◌+◌, ◌*◌, ◌/◌, ◌<◌, ◌≤◌, ◌&&◌, Bool, true, false, eqb, leb, ltb, List, [], ◌∷◌, ◌++◌, length, take, drop, Option, Some, None, refl, sym, ◌∙◌, ap, subst, arith, length-drop}
+use Rattle.std.specs.Prelude.{if◌then◌else◌}
+use Rattle.std.proofs.Common.{◌≡◌, ◌==◌, inl, inr, ℕ, zero, suc, ◌+◌, ◌*◌, ◌/◌, ◌<◌, ◌≤◌, ◌&&◌, Bool, true, false, eqb, leb, ltb, List, [], ◌∷◌, ◌++◌, length, take, drop, Option, Some, None, refl, sym, ◌∙◌, ap, subst, arith, length-drop}
 use Rattle.std.specs.List.{AllByRecursion, flat_map, list_all}
 use Rattle.std.proofs.Math.Nat.{lt-mul-div-succ, min-le_left, mul-div-le}
 use Rattle.std.proofs.lemmas.Bool.{and_parts, eqb-true, leb-true, ltb-true}
@@ -16,10 +17,10 @@ use Rattle.pk_manifest.specs.declared.half.Half.{Half}
 use Rattle.pk_manifest.specs.declared.half.Half.TheVariants.{A, B}
 use Rattle.pk_manifest.specs.declared.manifest.Part.{Part as Entry}
 use Rattle.pk_manifest.specs.Bodies.{body_of, generation_of, half_in_force, half_of, has_open_gate, other}
-use Rattle.pk_manifest.specs.Current.{HasBody, units_of_disk}
-use Rattle.pk_manifest.specs.Sound.{IsBody, dead_extents, extents_of, is_dead, is_extent, is_part, named}
-use Rattle.pk_manifest.specs.Spelling.{Body, spelling as body_spelling}
-use Rattle.pk_manifest.proofs.Fields.{one_body_in_force}
+use Rattle.pk_manifest.specs.Current.{HasBody, IsTabled, units_of_disk}
+use Rattle.pk_manifest.specs.Sound.{IsBody, dead_extents, extents_of, is_dead, is_extent, is_part, named, table_extents}
+use Rattle.pk_manifest.specs.Spelling.{Body, table_of, table_size, spelling as body_spelling}
+use Rattle.pk_manifest.proofs.Fields.{length_table, one_body_in_force, table_long}
 use Rattle.pk_manifest.proofs.Sound.{says_sound}
 use Rattle.pk_manifest.proofs.Firm.{in_force_open}
 use Rattle.pk_model.specs.Collection.{Collection, Doc, IsCollection}
@@ -34,7 +35,7 @@ use Rattle.pk_segment.proofs.SegmentLemmas.{length_segment}
 use Rattle.pk_segment.proofs.SegmentLemmas.{one_list as one_segment}
 use Rattle.pk_state.specs.Committed.{Stored, Committed, collection_of, whole_of}
 use Rattle.pk_state.specs.Holds.{AgreeWith, Holds, ListSpells, SpellsEntries, SpellsEntry}
-use Rattle.pk_state.specs.Kept.{AreEntries, EndsInside, HaveKinds, IsKept, IsList, IsSegment, LieInside, ListEndsInside, claims_in, claims_of, list_claims, segment_claim}
+use Rattle.pk_state.specs.Kept.{AreEntries, EndsInside, HaveKinds, IsKept, IsList, IsSegment, LieInside, ListEndsInside, all_claims, claims_in, claims_of, list_claims, segment_claim, table_claims, table_claims_by}
 use Rattle.pk_state.proofs.CallerLemmas.{held_closed, held_has, held_now}
 
 -- ---- claims that are put together
@@ -193,6 +194,39 @@ entries_spelled bytes (e ∷ es) (s ∷ stored) are there =
       entries_spelled bytes es stored are.1 (each_back (IsThere bytes) (claims_in e s) (claims_of es stored) there),
     )
 
+-- ---- tables
+
+-- a table is as long as the body says
+table_is_long : (units : ℕ) (b : Body) → IsBody units b → length (table_of b) ≡ b.table.bytes
+table_is_long units b is = length_table b ∙ sym (table_long units (table_size b) b.table (says_sound units b is.sound).table)
+
+no_item : (xs : List ℕ) → length xs ≡ 0 → xs ≡ []
+no_item [] none = refl
+no_item (x ∷ xs) none = absurd (omega (arith, none))
+
+no_bytes : (bytes : List ℕ) (e : Extent) → e.bytes ≡ 0 → extent_bytes bytes e ≡ []
+no_bytes bytes e none = ap (λ (n : ℕ). take n (drop (start_of e) bytes)) none
+
+table_kept_by : (t : Bool) (bytes : List ℕ) (b : Body) → (b.table.bytes == 0) ≡ t → length (table_of b) ≡ b.table.bytes → IsTabled bytes b → Each (IsThere bytes) (table_claims_by t b)
+table_kept_by true bytes b is long tabled = tt
+table_kept_by false bytes b is long tabled = (ap (λ (n : ℕ). take n (drop (start_of b.table) bytes)) long ∙ tabled, tt)
+
+pub table_kept : (bytes : List ℕ) (units : ℕ) (b : Body) → IsBody units b → IsTabled bytes b → Each (IsThere bytes) (table_claims b)
+table_kept bytes units b is tabled = table_kept_by (b.table.bytes == 0) bytes b refl (table_is_long units b is) tabled
+
+table_there_by : (t : Bool) (bytes : List ℕ) (b : Body) → (b.table.bytes == 0) ≡ t → length (table_of b) ≡ b.table.bytes → Each (IsThere bytes) (table_claims_by t b) → IsTabled bytes b
+table_there_by true bytes b is long there =
+    let none : b.table.bytes ≡ 0 = eqb-true _ _ is in
+    no_bytes bytes b.table none ∙ sym (no_item (table_of b) (long ∙ none))
+table_there_by false bytes b is long there = ap (λ (n : ℕ). take n (drop (start_of b.table) bytes)) (sym long) ∙ there.0
+
+pub table_there : (bytes : List ℕ) (units : ℕ) (b : Body) → IsBody units b → Each (IsThere bytes) (table_claims b) → IsTabled bytes b
+table_there bytes units b is there = table_there_by (b.table.bytes == 0) bytes b refl (table_is_long units b is) there
+
+table_agrees_by : (t : Bool) (bytes image : List ℕ) (e : Extent) → (e.bytes == 0) ≡ t → AllByRecursion (λ (x : Extent). extent_bytes image x ≡ extent_bytes bytes x) (if t then [] else e ∷ []) → extent_bytes image e ≡ extent_bytes bytes e
+table_agrees_by true bytes image e is all = (let none : e.bytes ≡ 0 = eqb-true _ _ is in no_bytes image e none ∙ sym (no_bytes bytes e none))
+table_agrees_by false bytes image e is all = all.0
+
 -- ---- what a disk keeps
 
 -- with nothing open, a body in force is kept with what its extents spell
@@ -202,17 +236,23 @@ kept_closed bytes is_open spare c has spells closed =
     record {
       sound = has.sound;
       entries = entries.0;
-      held = held_closed bytes is_open spare (body_spelling c.body) (claims_of c.body.entries c.stored) closed (record { in_force = has.in_force; has_body = has.spelled }) entries.1;
+      held = held_closed bytes is_open spare (body_spelling c.body) (all_claims c) closed (record { in_force = has.in_force; has_body = has.spelled })
+          (each_append (IsThere bytes) (table_claims c.body) (claims_of c.body.entries c.stored) (table_kept bytes (units_of_disk bytes) c.body has.sound has.tabled) entries.1);
     }
 
 -- an image that has the body and its claims holds its collection
 pub has_holds : (image : List ℕ) (committed : Committed) (c : Collection) → IsBody (units_of_disk image) committed.body → AreEntries committed.body.entries committed.stored
-    → Has image (body_spelling committed.body) (claims_of committed.body.entries committed.stored) → IsCollection (whole_of committed) → collection_of committed ≡ c → Holds image c
+    → Has image (body_spelling committed.body) (all_claims committed) → IsCollection (whole_of committed) → collection_of committed ≡ c → Holds image c
 has_holds image committed c sound are has numbers is = record {
   half = has.half;
   committed = committed;
-  current = record { in_force = has.current.in_force; spelled = has.current.has_body; sound = sound };
-  spelled = entries_spelled image committed.body.entries committed.stored are has.there;
+  current = record {
+    in_force = has.current.in_force;
+    spelled = has.current.has_body;
+    tabled = table_there image (units_of_disk image) committed.body sound (each_front (IsThere image) (table_claims committed.body) (claims_of committed.body.entries committed.stored) has.there);
+    sound = sound;
+  };
+  spelled = entries_spelled image committed.body.entries committed.stored are (each_back (IsThere image) (table_claims committed.body) (claims_of committed.body.entries committed.stored) has.there);
   numbers = numbers;
   stands_for = is;
 }
@@ -222,11 +262,11 @@ module _ (b : List ℕ) (o : ℕ → Bool) (s : Half) (c : Committed) (kept : Is
   pub kept_holds : IsCollection (whole_of c) → (image : List ℕ) → IsImage b o image → Holds image (collection_of c)
   kept_holds numbers image is = has_holds image c (collection_of c)
       (subst (λ (n : ℕ). IsBody (units_in n) c.body) (sym is.size) kept.sound) kept.entries
-      (held_has b o s (body_spelling c.body) (claims_of c.body.entries c.stored) kept.held image is) numbers refl
+      (held_has b o s (body_spelling c.body) (all_claims c) kept.held image is) numbers refl
 
   -- and its entries spell what they stand for
   pub kept_spelled : SpellsEntries b c.body.entries c.stored
-  kept_spelled = entries_spelled b c.body.entries c.stored kept.entries (held_now b o s (body_spelling c.body) (claims_of c.body.entries c.stored) kept.held).there
+  kept_spelled = entries_spelled b c.body.entries c.stored kept.entries (each_back (IsThere b) (table_claims c.body) (claims_of c.body.entries c.stored) (held_now b o s (body_spelling c.body) (all_claims c) kept.held).there)
 
 -- what is kept stays kept in a run of reads
 pub kept_read : {D : Type 0} (d : Ghosts D) (old new : D) (s : Half) (c : Committed) → IsOnlyRead d.content d.is_open d.moment d.images_since old new
@@ -314,15 +354,22 @@ module _ (bytes image : List ℕ) (b : Body) (agree : AgreeWith bytes image b) w
       ∙ same_half (has_open_gate bytes A) (has_open_gate bytes B) _ _ (generation_of (body_of bytes A)) (generation_of (body_of bytes B))
       (λ is_open. ap generation_of (agree.bodies A is_open)) (λ is_open. ap generation_of (agree.bodies B is_open))
 
+  abbrev same : Extent → Type 0
+  same x = extent_bytes image x ≡ extent_bytes bytes x
+
+  each : AllByRecursion same (named b)
+  each = recursion_from_All same (named b) agree.extents
+
   pub same_body : (half : Half) → HasBody bytes half b → HasBody image half b
   same_body half has = record {
     in_force = same_in_force ∙ has.in_force;
     spelled = agree.bodies half (in_force_open bytes half has.in_force) ∙ has.spelled;
+    tabled = table_agrees_by (b.table.bytes == 0) bytes image b.table refl (all_front same (table_extents b.table) (flat_map extents_of b.entries) each) ∙ has.tabled;
     sound = subst (λ (n : ℕ). IsBody (units_in n) b) (sym agree.size) has.sound;
   }
 
   pub same_entries : (stored : List Stored) → SpellsEntries bytes b.entries stored → SpellsEntries image b.entries stored
-  same_entries stored spells = entries_agree bytes image b.entries stored (recursion_from_All (λ (e : Extent). extent_bytes image e ≡ extent_bytes bytes e) (named b) agree.extents) spells
+  same_entries stored spells = entries_agree bytes image b.entries stored (all_back same (table_extents b.table) (flat_map extents_of b.entries) each) spells
 
   pub agree_back : AgreeWith image bytes b
   agree_back = record {

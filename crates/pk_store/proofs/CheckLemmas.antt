@@ -4,7 +4,7 @@ use Rattle.pk_check.specs.declared.body.Checked.{Checked}
 use Rattle.pk_check.specs.Holding.{ChecksBodyAs, IsOfBody}
 use Rattle.pk_disk.specs.declared.disk.Disk.{Ghosts}
 use Rattle.pk_manifest.specs.Bodies.{other}
-use Rattle.pk_manifest.specs.Current.{HasBody}
+use Rattle.pk_manifest.specs.Current.{HasBody, units_of_disk}
 use Rattle.pk_model.specs.Collection.{Collection}
 use Rattle.pk_model.specs.declared.commands.Refusal.{Refusal}
 use Rattle.pk_model.specs.declared.commands.Refusal.TheVariants.{Reopen, TextTooLong, BufferFull, NumbersUsedUp, NoSuchDocument, TooManySegments, SegmentTooLarge, Memory, Full, Damaged, Disk}
@@ -12,7 +12,10 @@ use Rattle.pk_segment.specs.Reading.{CountsReads}
 use Rattle.pk_segment.specs.declared.fault.ReadFault.{ReadFault}
 use Rattle.pk_segment.specs.declared.fault.ReadFault.TheVariants as fault
 use Rattle.pk_state.specs.Holds.{Holds}
-use Rattle.pk_state.proofs.HoldsLemmas.{holds_one}
+use Rattle.pk_replace.proofs.ClaimLemmas.{each_weaker}
+use Rattle.pk_replace.specs.Claims.{IsThere, Stands}
+use Rattle.pk_state.specs.Kept.{table_claims}
+use Rattle.pk_state.proofs.HoldsLemmas.{holds_one, table_there}
 use Rattle.pk_store.specs.Checking.{CheckCause, Checks, ChecksBytes, TellsOf}
 use Rattle.pk_store.specs.Refusing.{refusal_for}
 use Rattle.pk_store.specs.Steps.{refuses_find}
@@ -20,11 +23,13 @@ use Rattle.pk_store.specs.View.{IsReady, KeepsVolume, StoreView, VolumeView}
 use Rattle.pk_store.proofs.ReadSteps.{means_read, on_volume}
 use Rattle.pk_store.proofs.StoreSteps.{clear_flag}
 
--- the half beside the spare one is in force, and its body is the one that is kept
+-- the half beside the spare one is in force, and its body and its table are those that are kept
 pub has_body : {D : Type 0} (d : Ghosts D) (v : VolumeView D) → IsReady d v → d.honest → v.reopen ≡ false → HasBody (d.content v.disk) (other v.spare) v.body
 has_body d v ready h clear = record {
   in_force = (ready.firm h clear).in_force;
   spelled = ready.in_force h clear;
+  tabled = table_there (d.content v.disk) (units_of_disk (d.content v.disk)) v.body ready.sound
+      (each_weaker (Stands (d.content v.disk) (d.is_open v.disk)) (IsThere (d.content v.disk)) (λ c stands. stands.there) (table_claims v.body) (ready.tabled h clear));
   sound = ready.sound;
 }
 

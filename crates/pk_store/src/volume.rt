@@ -20,7 +20,7 @@ ghost use Rattle.pk_merge.specs.Choosing.{ChoosesAs};
 ghost use Rattle.pk_state.specs.Writing.{sizes_of};
 ghost use Rattle.pk_store.specs.Ways.{MergesAllAs};
 ghost use Rattle.pk_store.specs.Merging.{AreInputsOf, MergesRun, PlansRun};
-ghost use Rattle.pk_layout.specs.Plan.{AreNext, DueAs, GoesOn, IsPlan, PlansAs};
+ghost use Rattle.pk_layout.specs.Plan.{AreNext, DueAs, GoesOn, IsPlan, PlansAs, PromisesTable};
 ghost use Rattle.pk_store.specs.Carrying.{Carries, Goes, MeetsNone};
 ghost use Rattle.pk_store.specs.View.{IsCached, IsReady, KeepsVolume, StandFor, committed_by};
 ghost use Rattle.pk_store.specs.View.{volume_of};
@@ -39,7 +39,7 @@ use pk_model::limits::{END_OF_IDS, MAX_SEGMENTS};
 use pk_model::{DocNo, Document, Query, Refusal};
 use pk_plan::Plan as SearchPlan;
 use pk_posting::SourceFault;
-use pk_replace::{Pieces, StreamFault, WritesExtent, replace_with};
+use pk_replace::{Followed, Pieces, StreamFault, WritesExtent, replace_with};
 use pk_search::{OpenSegment, PivotTables, count_stored, find_stored, place_stored, text_stored};
 use pk_segment::ReadFault;
 use std::alloc::Global;
@@ -208,7 +208,7 @@ impl<D: Disk> Volume<D> {
         ensures is { D.honest → (stored : List Stored) → StandFor D.Disk self.now stored
             → IsCollection (whole_of (committed_by self.now stored))
             → result ≡ length (live_in (present self.now.opened stored)) }
-        ensures few { result < 2 ^ 38 }
+        ensures few { result < 2 ^ 44 }
     {
         count_stored(&self.opened)
     }
@@ -362,16 +362,25 @@ impl<D: Disk> Volume<D> {
         ensures { MergesRun D.Disk self.old from count result self.new }
     {
         let RunPlan { merge, prepared } = self.plan_run(alloc, from, count, inputs)?;
-        match (prepared, merge.place) {
+        let MergePlan {
+            plan,
+            place,
+            pieces,
+        } = merge;
+        match (prepared, place) {
             (Some(prepared), Some(place)) => {
-                let writer = MergeWriter {
+                let first = MergeWriter {
                     prepared,
-                    inputs,
+                    inputs: &*inputs,
                     first: place.first,
                 };
-                self.carry_out(merge.plan, writer)
+                let writer = Followed {
+                    first,
+                    pieces: &pieces,
+                };
+                self.carry_out(plan, writer)
             }
-            _ => self.carry_out(merge.plan, Pieces(&[])),
+            _ => self.carry_out(plan, Pieces(&pieces)),
         }
     }
 
@@ -413,6 +422,7 @@ impl<D: Disk> Volume<D> {
         requires planned { IsPlan (length (D.content self.old.disk)) self.old.body plan }
         requires can { W.can_write writer (length (D.content self.old.disk)) }
         requires goes_on { GoesOn (W.touches writer) self.old.body self.old.opened plan }
+        requires tabled { PromisesTable (W.promises writer (D.content self.old.disk)) plan }
         ensures carried { Carries D.Disk (Goes D.Disk (W.touches writer)
             (W.promises writer (D.content self.old.disk)) self.old plan) self.old plan result
             self.new }

@@ -1,11 +1,13 @@
 //! The bytes of a body, what reading answers on damaged ones, and installations that are cut off.
-ghost use Rattle.std.specs.Prelude.{◌≡◌, ◌≤◌, ◌+◌, IfOk, length};
+ghost use Rattle.std.specs.Prelude.{◌≡◌, ◌≤◌, ◌+◌, true, [], IfOk, length};
 ghost use Rattle.pk_disk.specs.Disk.{nowhere};
 ghost use Rattle.pk_manifest.specs.Bodies.{bodies_end};
+ghost use Rattle.pk_manifest.specs.Sound.{is_table};
+ghost use Rattle.pk_manifest.specs.Spelling.{no_extent, table_size, view};
 
 use pk_disk::{Disk, DiskFault, Extent, FaultDisk, LossyDisk, MemoryDisk};
 use pk_manifest::{
-    Half, Manifest, ManifestFault, Part, establish, gate_open, install, read_current,
+    Half, Manifest, ManifestFault, NO_TABLE, Part, establish, gate_open, install, read_current,
 };
 use std::alloc::{AllocError, Global};
 use std::process::Abort;
@@ -39,23 +41,30 @@ const SIZE: usize = 32_768;
 // Where body A begins.
 const BODY_A: usize = 1024;
 
+// Where the table of three entries lies.
+const TABLE: usize = 22_528;
+
 // A manifest without entries on 64 units. Of generation 1 it is that of a new store.
 fn empty(alloc: Global, generation: u64) -> Manifest
-    ensures few { length result.entries.items ≤ 64 }
+    ensures version { result.version ≡ 2 }
+    ensures none { result.entries.items ≡ [] }
+    ensures table { result.table ≡ no_extent }
     ensures generation { result.generation ≡ generation }
 {
     Manifest {
+        version: 2,
         generation,
         units: 64,
         next_number: 1,
         next_segment: 1,
+        table: NO_TABLE,
         entries: Vec::new(alloc),
     }
 }
 
-// Three entries, two with deletion lists, on 64 units.
-fn three(alloc: Global) -> Result<Manifest, AllocError>
-    ensures { IfOk result (λ m. length m.entries.items ≤ 64) }
+// Three entries, two with deletion lists.
+fn three_entries(alloc: Global) -> Result<Vec<Part>, AllocError>
+    ensures { IfOk result (λ v. length v.items ≡ 3) }
 {
     let entries = Vec::from_array(
         alloc,
@@ -80,13 +89,57 @@ fn three(alloc: Global) -> Result<Manifest, AllocError>
             },
         ],
     )?;
+    Ok(entries)
+}
+
+// A manifest with these entries on 64 units, of version 1.
+fn three(alloc: Global) -> Result<Manifest, AllocError>
+    ensures { IfOk result (λ m. length m.entries.items ≤ 64) }
+{
     Ok(Manifest {
+        version: 1,
         generation: 258,
         units: 64,
         next_number: 77,
         next_segment: 6,
-        entries,
+        table: NO_TABLE,
+        entries: three_entries(alloc)?,
     })
+}
+
+// The same of version 2 and this generation, with its table at unit 44.
+fn three_in_a_table(alloc: Global, generation: u64) -> Result<Manifest, AllocError>
+    ensures version { IfOk result (λ m. m.version ≡ 2) }
+    ensures three { IfOk result (λ m. length m.entries.items ≡ 3) }
+    ensures table { IfOk result (λ m. m.table ≡ record { first = 44; units = 1; bytes = 120 }) }
+    ensures generation { IfOk result (λ m. m.generation ≡ generation) }
+{
+    Ok(Manifest {
+        version: 2,
+        generation,
+        units: 64,
+        next_number: 77,
+        next_segment: 6,
+        table: Extent {
+            first: 44,
+            units: 1,
+            bytes: 120,
+        },
+        entries: three_entries(alloc)?,
+    })
+}
+
+// The body of this generation that is installed: without entries, or with three in a table.
+fn following(alloc: Global, generation: u64, has_table: bool) -> Result<Manifest, AllocError>
+    ensures version { IfOk result (λ m. m.version ≡ 2) }
+    ensures few { IfOk result (λ m. length m.entries.items ≤ 3) }
+    ensures table { IfOk result (λ m. is_table 64 (table_size (view m)) m.table ≡ true) }
+    ensures generation { IfOk result (λ m. m.generation ≡ generation) }
+{
+    if has_table {
+        return three_in_a_table(alloc, generation);
+    }
+    Ok(empty(alloc, generation))
 }
 
 // Opens gate A over these bytes of a body, and fills body B with one byte.
@@ -159,7 +212,7 @@ fn in_force<D: Disk>(alloc: Global, disk: &mut D) -> Result<InForce, ManifestFau
 fn the_body_of_a_new_store_has_these_bytes(rt: HostRuntime) -> Result<(), Fail> {
     let body = empty(rt.alloc(), 1).spell(rt.alloc())?;
     let front = [
-        0x50, 0x4B, 0x53, 0x52, 0x43, 0x48, 0x30, 0x31, 1, 0, 0, 0, 0, 0, 0, 0, 0x40, 0, 0, 0, 1,
+        0x50, 0x4B, 0x53, 0x52, 0x43, 0x48, 0x30, 0x32, 1, 0, 0, 0, 0, 0, 0, 0, 0x40, 0, 0, 0, 1,
         0, 0, 0, 1, 0, 0, 0, 0, 0, 0, 0,
     ];
     assert!(rt; body.len() == 8192);
@@ -168,18 +221,36 @@ fn the_body_of_a_new_store_has_these_bytes(rt: HostRuntime) -> Result<(), Fail> 
     Ok(())
 }
 
+// The bytes of the first of three entries.
+static ENTRY: [u8; 40] = [
+    3, 0, 0, 0, 0, 0, 0, 0, 40, 0, 0, 0, 2, 0, 0, 0, 0x58, 2, 0, 0, 2, 0, 0, 0, 34, 0, 0, 0, 1, 0,
+    0, 0, 5, 0, 0, 0, 0, 0, 0, 0,
+];
+
 #[test]
 fn an_entry_has_these_bytes(rt: HostRuntime) -> Result<(), Fail> {
     let body = three(rt.alloc())?.spell(rt.alloc())?;
-    let entry = [
-        3, 0, 0, 0, 0, 0, 0, 0, 40, 0, 0, 0, 2, 0, 0, 0, 0x58, 2, 0, 0, 2, 0, 0, 0, 34, 0, 0, 0, 1,
-        0, 0, 0, 5, 0, 0, 0, 0, 0, 0, 0,
-    ];
     assert!(rt; body.len() == 8192);
+    assert!(rt; body.starts_with(b"PKSRCH01"));
     assert!(rt; body[8..].starts_with(&[2, 1]));
     assert!(rt; body[32..].starts_with(&[3, 0, 0, 0]));
-    assert!(rt; body[36..].starts_with(&entry));
+    assert!(rt; body[36..].starts_with(&ENTRY));
     assert!(rt; body.iter().skip(156).all(|b| *b == 0));
+    Ok(())
+}
+
+// The body says where the table lies, and the table has the entries.
+#[test]
+fn a_table_has_these_bytes(rt: HostRuntime) -> Result<(), Fail> {
+    let manifest = three_in_a_table(rt.alloc(), 258)?;
+    let body = manifest.spell(rt.alloc())?;
+    let table = manifest.spell_table(rt.alloc())?;
+    assert!(rt; body.len() == 8192);
+    assert!(rt; body.starts_with(b"PKSRCH02"));
+    assert!(rt; body[32..].starts_with(&[3, 0, 0, 0, 44, 0, 0, 0, 1, 0, 0, 0, 120, 0, 0, 0]));
+    assert!(rt; body.iter().skip(48).all(|b| *b == 0));
+    assert!(rt; table.len() == 120);
+    assert!(rt; table.starts_with(&ENTRY));
     Ok(())
 }
 
@@ -204,9 +275,92 @@ fn a_body_is_read_as_it_was_spelled(rt: HostRuntime) -> Result<(), Fail> {
     let mut disk = disk_with(alloc, &manifest.spell(alloc)?, 0)?;
     let (found, half) = read_current(alloc, &mut disk)?;
     assert!(rt; half == Half::A);
+    assert!(rt; found.version == 1);
     has_numbers(&rt, &found);
     assert!(rt; found.entries.as_slice() == manifest.entries.as_slice());
     assert!(rt; first_units(alloc, &found)?.as_slice() == [40, 34, 35, 63, 42].as_slice());
+    Ok(())
+}
+
+// A disk with the three entries in a table, and with another byte at a place, if one is named.
+fn tabled_disk(alloc: Global, other: Option<(usize, u8)>) -> Result<MemoryDisk, AllocError>
+    ensures { IfOk result (λ d. length (⟦<MemoryDisk as Disk>⟧.content d) ≡ 32768) }
+{
+    let manifest = three_in_a_table(alloc, 258)?;
+    let mut bytes = bytes_with(alloc, &manifest.spell(alloc)?, 0)?;
+    let table = manifest.spell_table(alloc)?;
+    for (i, byte) in table.iter().enumerate() {
+        if TABLE + i < bytes.len() {
+            bytes[TABLE + i] = *byte;
+        }
+    }
+    if let Some((at, to)) = other {
+        if at < bytes.len() {
+            bytes[at] = to;
+        }
+    }
+    Ok(MemoryDisk::of_bytes(alloc, bytes))
+}
+
+#[test]
+fn a_table_is_read_as_it_was_spelled(rt: HostRuntime) -> Result<(), Fail> {
+    let alloc = rt.alloc();
+    let (found, half) = read_current(alloc, &mut tabled_disk(alloc, None)?)?;
+    assert!(rt; half == Half::A);
+    assert!(rt; found.version == 2);
+    assert!(rt; found.table == Extent::of_bytes(44, 120));
+    has_numbers(&rt, &found);
+    assert!(rt; found.entries.as_slice() == three_entries(alloc)?.as_slice());
+    assert!(rt; first_units(alloc, &found)?.as_slice() == [44, 40, 34, 35, 63, 42].as_slice());
+    Ok(())
+}
+
+// A place of the disk and another byte there, each damage alone. In the body: the version; a count
+// of 4,099; the table's bytes, its units; a place before unit 34, one past the disk, and one that
+// shares a unit; a byte behind its fields, and the last. In the table: an id, a kind, and the zeros
+// of an entry.
+static DAMAGE: [(usize, u8); 13] = [
+    (BODY_A + 7, 0x33),
+    (BODY_A + 33, 0x10),
+    (BODY_A + 44, 121),
+    (BODY_A + 40, 2),
+    (BODY_A + 36, 33),
+    (BODY_A + 36, 64),
+    (BODY_A + 36, 35),
+    (BODY_A + 48, 1),
+    (BODY_A + 8191, 1),
+    (TABLE, 0),
+    (TABLE, 5),
+    (TABLE + 20, 3),
+    (TABLE + 36, 1),
+];
+
+#[test]
+fn another_byte_of_a_table_is_damage(rt: HostRuntime) -> Result<(), Fail> {
+    let alloc = rt.alloc();
+    for other in &DAMAGE {
+        let told = read_current(alloc, &mut tabled_disk(alloc, Some(*other))?);
+        assert!(rt;
+            told.err() == Some(ManifestFault::Damaged),
+            "at {}",
+            other.0
+        );
+    }
+    Ok(())
+}
+
+// Without entries there is no table: its fields are zeros.
+#[test]
+fn a_table_without_entries_is_damage(rt: HostRuntime) -> Result<(), Fail> {
+    let alloc = rt.alloc();
+    let body = empty(alloc, 1).spell(alloc)?;
+    assert!(rt; judge(&rt, alloc, &body)?);
+    for (at, to) in [(36, 34), (40, 1), (44, 40)] {
+        assert!(rt;
+            !judge(&rt, alloc, &changed(alloc, &body, at, to)?)?,
+            "at {at}"
+        );
+    }
     Ok(())
 }
 
@@ -371,16 +525,16 @@ fn faulty(disk: MemoryDisk, passed: u32, once: bool) -> FaultDisk<MemoryDisk>
 fn install_next(
     alloc: Global,
     mut disk: MemoryDisk,
+    has_table: bool,
     passed: u32,
     once: bool,
 ) -> Result<(MemoryDisk, bool), Fail>
-    requires size { bodies_end ≤ length (⟦<MemoryDisk as Disk>⟧.content disk) }
+    requires size { length (⟦<MemoryDisk as Disk>⟧.content disk) ≡ 32768 }
     requires closed { ⟦<MemoryDisk as Disk>⟧.is_open disk ≡ nowhere }
-    ensures { IfOk result (λ r. length (⟦<MemoryDisk as Disk>⟧.content r.0)
-        ≡ length (⟦<MemoryDisk as Disk>⟧.content disk)) }
+    ensures { IfOk result (λ r. length (⟦<MemoryDisk as Disk>⟧.content r.0) ≡ 32768) }
 {
     let (old, half) = read_current(alloc, &mut disk)?;
-    let next = empty(alloc, old.next_generation()?);
+    let next = following(alloc, old.next_generation()?, has_table)?;
     let mut over = faulty(disk, passed, once);
     let answer = install(alloc, &mut over, &next, half.other());
     Ok((over.into_inner(), answer == Err(ManifestFault::Disk)))
@@ -424,6 +578,8 @@ fn left_by(alloc: Global, disk: MemoryDisk, pick: u8) -> Result<Option<InForce>,
 enum Start {
     // A new store, with body B so filled: half B is installed.
     Created(u8),
+    // A new store: half B is installed, with a table.
+    Tabled,
     // Both halves were installed: now half A is again.
     Installed,
     // No store: the first body is put in force.
@@ -440,10 +596,11 @@ fn put_in_force(
     ensures { IfOk result (λ r. length (⟦<MemoryDisk as Disk>⟧.content r.0) ≡ 32768) }
 {
     match start {
-        Start::Created(fill) => install_next(alloc, created(alloc, fill)?, passed, once),
+        Start::Created(fill) => install_next(alloc, created(alloc, fill)?, false, passed, once),
+        Start::Tabled => install_next(alloc, created(alloc, 0)?, true, passed, once),
         Start::Installed => {
-            let (first, _) = install_next(alloc, created(alloc, 0)?, 5, false)?;
-            install_next(alloc, first.crash(&[]), passed, once)
+            let (first, _) = install_next(alloc, created(alloc, 0)?, false, 5, false)?;
+            install_next(alloc, first.crash(&[]), false, passed, once)
         }
         Start::Zeros => establish_on(alloc, zeros(alloc)?, passed, once),
     }
@@ -460,9 +617,10 @@ struct Row {
     new: Option<InForce>,
 }
 
-// On a closed half five calls: the read of its gate, the body, a sync, the gate, a sync. On an open
-// one its gate is closed and synced first. For a first body no gate is read.
-static ROWS: [Row; 4] = [
+// On a closed half five calls: the read of its gate, the body, a sync, the gate, a sync. A table is
+// written before the body. On an open half its gate is closed and synced first. For a first body no
+// gate is read.
+static ROWS: [Row; 5] = [
     Row {
         start: Start::Created(0x00),
         calls: 5,
@@ -474,6 +632,13 @@ static ROWS: [Row; 4] = [
         start: Start::Created(0xFF),
         calls: 5,
         before_gate: 3,
+        old: Some(FIRST),
+        new: Some(SECOND),
+    },
+    Row {
+        start: Start::Tabled,
+        calls: 6,
+        before_gate: 4,
         old: Some(FIRST),
         new: Some(SECOND),
     },
@@ -546,21 +711,19 @@ fn a_failed_read_writes_nothing(rt: HostRuntime) -> Result<(), Fail> {
 }
 
 // What a lossy disk gives is answered too.
-fn try_lossy(rt: &impl Abort, alloc: Global, next: &Manifest, seed: u64) -> Result<(), Fail>
-    requires { length next.now.entries.items ≤ 64 }
-{
+fn try_lossy(rt: &impl Abort, alloc: Global, seed: u64) -> Result<(), Fail> {
+    let next = empty(alloc, 1);
     let mut disk = LossyDisk::of_bytes(bytes_with(alloc, &[], 0)?, seed);
     assert!(rt; read_current(alloc, &mut disk).is_err());
-    assert!(rt; install(alloc, &mut disk, next, Half::B) == Ok(()));
+    assert!(rt; install(alloc, &mut disk, &next, Half::B) == Ok(()));
     assert!(rt; gate_open(&mut disk, Half::A).is_ok());
     Ok(())
 }
 
 #[test]
 fn a_disk_that_is_not_honest_is_answered(rt: HostRuntime) -> Result<(), Fail> {
-    let manifest = three(rt.alloc())?;
     for seed in 0..200 {
-        try_lossy(&rt, rt.alloc(), &manifest, seed)?;
+        try_lossy(&rt, rt.alloc(), seed)?;
     }
     Ok(())
 }

@@ -12,7 +12,7 @@ ghost use Rattle.pk_replace.specs.Claims.{AreApart, CanFollow, Each, IsInside, c
 ghost use Rattle.pk_replace.specs.Copying.{CanCopy, PromisesCopy};
 
 use pk_disk::{Disk, Extent, FaultDisk, LossyDisk, MemoryDisk};
-use pk_manifest::{Half, Manifest, Part, read_current};
+use pk_manifest::{Half, Manifest, NO_TABLE, Part, read_current};
 use pk_replace::{CopyExtent, Followed, Piece, Pieces, StreamFault, WritesExtent, replace_with};
 use std::alloc::{AllocError, Global};
 use std::process::Abort;
@@ -189,10 +189,12 @@ fn body(alloc: Global, generation: u64, entries: Vec<Part>) -> Result<Vec<u8>, A
     ensures generation { IfOk result (λ v. generation_of v.items ≡ generation) }
 {
     let manifest = Manifest {
+        version: 1,
         generation,
         units: 64,
         next_number: 3,
         next_segment: 3,
+        table: NO_TABLE,
         entries,
     };
     manifest.spell(alloc)

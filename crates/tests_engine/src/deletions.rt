@@ -5,7 +5,7 @@ use crate::sessions::SMALL;
 use std::test::Fail;
 
 /// What stores answer.
-pub static SESSIONS: [&str; 10] = [
+pub static SESSIONS: [&str; 11] = [
     // A deletion that no commit has taken is gone with a crash.
     "
     add x => added 1
@@ -62,11 +62,11 @@ pub static SESSIONS: [&str; 10] = [
     count => count 0 next 3
     ",
     // A commit, a merge and a tidy with nothing to write make no call of the device. Opening makes
-    // four calls, the commit of a document six: the read of gate B, the segment, the body, a sync,
-    // the gate, a sync. The eleventh call would fail.
+    // four calls, the commit of a document seven: the read of gate B, the segment, the table, the
+    // body, a sync, the gate, a sync. The twelfth call would fail.
     "
     !close
-    !fail 11
+    !fail 12
     !open => opened
     merge => merged
     tidy => tidied
@@ -80,12 +80,13 @@ pub static SESSIONS: [&str; 10] = [
     merge => merged
     commit => refused disk
     ",
-    // A segment without a list, opened again, in nine calls: the tenth would fail.
+    // A segment without a list, opened again, in ten calls, one of them for the table: the eleventh
+    // would fail.
     "
     add x => added 1
     commit => committed
     !close
-    !fail 10
+    !fail 11
     !open => opened
     merge => merged
     commit => committed
@@ -191,16 +192,17 @@ pub static SESSIONS: [&str; 10] = [
     find apple => found 1: 3
     count => count 3 next 5
     ",
-    // Segments of 20 units and of one, 53 and 54, leave nine; the segment of both has 24 bytes, 24
-    // of directory and 10,205 of texts: 10,253, 21 units. What is refused leaves all as it was.
+    // Segments at units 34 to 53 and at 55, and the table at 56, leave seven in a row; the segment of
+    // both has 24 bytes, 24 of directory and 10,205 of texts: 10,253, 21 units. What is refused leaves
+    // all as it was. The next commit takes unit 54, where the first table was, and 57.
     "
     add {-*10204} => added 1
     commit => committed
     add x => added 2
     commit => committed
     add y => added 3
-    merge => refused full need 21 largest 9
-    merge => refused full need 21 largest 9
+    merge => refused full need 21 largest 7
+    merge => refused full need 21 largest 7
     count => count 3 next 4
     find NOT z => found 3: 1 2 3
     show 1 => text {-*10204}
@@ -209,9 +211,9 @@ pub static SESSIONS: [&str; 10] = [
     !open => opened
     count => count 3 next 4
     find NOT z => found 3: 1 2 3
-    merge => refused full need 21 largest 8
+    merge => refused full need 21 largest 6
     delete 1 => deleted 1
-    merge => refused full need 21 largest 8
+    merge => refused full need 21 largest 6
     commit => committed
     merge => merged
     find NOT z => found 2: 2 3
@@ -219,16 +221,15 @@ pub static SESSIONS: [&str; 10] = [
     commit => committed
     find NOT z => found 3: 2 3 4
     ",
-    // A list finds no room: segments of 20 and of 10 units take all. Nothing is lost, and the
-    // deletion stays to be committed.
+    // A list finds no room: a segment of 14,848 bytes, 29 units, and its table take all. Nothing is
+    // lost, and the deletion stays to be committed.
     "
-    add {-*10204} => added 1
-    commit => committed
-    add {-*5084} => added 2
+    add {-*7400} => added 1
+    add {-*7400} => added 2
     commit => committed
     delete 1 => deleted 1
     commit => refused full need 1 largest 0
-    merge => refused full need 30 largest 0
+    merge => merged
     find NOT x => found 1: 2
     count => count 1 next 3
     !close
@@ -236,8 +237,26 @@ pub static SESSIONS: [&str; 10] = [
     find NOT x => found 2: 1 2
     count => count 2 next 3
     ",
-    // Of nine segments the first is long: a tidy makes one of the eight behind it, segment 10.
-    // Uncommitted deletions stay so, in the segments of both; the committed one is applied.
+    // A table finds none: segments of 20 and of 8 units and the table at unit 63 leave unit 54, which
+    // the list takes. The segment of both has 14,312 bytes, 28 units.
+    "
+    add {-*10204} => added 1
+    commit => committed
+    add {-*4060} => added 2
+    commit => committed
+    delete 1 => deleted 1
+    commit => refused full need 1 largest 0
+    merge => refused full need 28 largest 1
+    find NOT x => found 1: 2
+    count => count 1 next 3
+    !close
+    !open => opened
+    find NOT x => found 2: 1 2
+    count => count 2 next 3
+    ",
+    // Of nine segments the first is long: a tidy makes one of the eight behind it, segment 10, the
+    // second entry of the table at unit 51. Uncommitted deletions stay so, in the segments of both;
+    // the committed one is applied.
     "
     add {-*3000} => added 1
     add red => added 2
@@ -271,8 +290,9 @@ pub static SESSIONS: [&str; 10] = [
     count => count 8 next 12
     tidy => tidied
     !close
-    !bytes 9248 12 => 02 00 00 00 01 00 00 00 00 00 00 00
-    !bytes 9292 8 => 0A 00 00 00 00 00 00 00
+    !bytes 9248 16 => 02 00 00 00 33 00 00 00 01 00 00 00 50 00 00 00
+    !bytes 26112 8 => 01 00 00 00 00 00 00 00
+    !bytes 26152 8 => 0A 00 00 00 00 00 00 00
     !open => opened
     find red => found 5: 2 4 6 8 10
     find green => found 3: 5 7 9
@@ -283,9 +303,9 @@ pub static SESSIONS: [&str; 10] = [
 
 /// What is written where. The first segment lies at unit 34, which is byte 17,408.
 pub static PLACES: [&str; 5] = [
-    // A commit with deletions alone writes no segment, and the next segment id stays. Its list goes
-    // to unit 35, the first free one; the next list to 36, beside the one in force; the next
-    // segment to 35, which is free again.
+    // A commit with deletions alone writes no segment, and the next segment id stays. The first
+    // table is at unit 35, so the list goes to 36 and its table to 37; the next list to 35, which is
+    // free again, and its table to 38; the next segment to 36, and its table to 37.
     "
     add x => added 1
     add y => added 2
@@ -296,10 +316,11 @@ pub static PLACES: [&str; 5] = [
     !bytes 1032 8 => 03 00 00 00 00 00 00 00
     !bytes 1044 4 => 03 00 00 00
     !bytes 1048 12 => 02 00 00 00 00 00 00 00 01 00 00 00
-    !bytes 1060 8 => 01 00 00 00 00 00 00 00
-    !bytes 1068 16 => 22 00 00 00 01 00 00 00 4B 00 00 00 02 00 00 00
-    !bytes 1084 16 => 23 00 00 00 01 00 00 00 05 00 00 00 00 00 00 00
-    !bytes 17920 6 => 01 00 00 00 81 00
+    !bytes 1060 12 => 25 00 00 00 01 00 00 00 28 00 00 00
+    !bytes 18944 8 => 01 00 00 00 00 00 00 00
+    !bytes 18952 16 => 22 00 00 00 01 00 00 00 4B 00 00 00 02 00 00 00
+    !bytes 18968 16 => 24 00 00 00 01 00 00 00 05 00 00 00 00 00 00 00
+    !bytes 18432 6 => 01 00 00 00 81 00
     !open => opened
     delete 2 => deleted 2
     commit => committed
@@ -309,17 +330,19 @@ pub static PLACES: [&str; 5] = [
     !close
     !bytes 9224 8 => 04 00 00 00 00 00 00 00
     !bytes 9240 12 => 02 00 00 00 00 00 00 00 01 00 00 00
-    !bytes 9276 16 => 24 00 00 00 01 00 00 00 06 00 00 00 00 00 00 00
-    !bytes 18432 6 => 02 00 00 00 81 81
+    !bytes 9252 12 => 26 00 00 00 01 00 00 00 28 00 00 00
+    !bytes 19480 16 => 23 00 00 00 01 00 00 00 06 00 00 00 00 00 00 00
+    !bytes 17920 6 => 02 00 00 00 81 81
     !bytes 1032 8 => 05 00 00 00 00 00 00 00
     !bytes 1048 12 => 03 00 00 00 00 00 00 00 02 00 00 00
-    !bytes 1084 16 => 24 00 00 00 01 00 00 00 06 00 00 00 00 00 00 00
-    !bytes 1100 8 => 02 00 00 00 00 00 00 00
-    !bytes 1108 16 => 23 00 00 00 01 00 00 00 33 00 00 00 02 00 00 00
-    !bytes 1124 16 => {00 *15}00
+    !bytes 1060 12 => 25 00 00 00 01 00 00 00 50 00 00 00
+    !bytes 18968 16 => 23 00 00 00 01 00 00 00 06 00 00 00 00 00 00 00
+    !bytes 18984 8 => 02 00 00 00 00 00 00 00
+    !bytes 18992 16 => 24 00 00 00 01 00 00 00 33 00 00 00 02 00 00 00
+    !bytes 19008 16 => {00 *15}00
     ",
-    // A commit places its segment first, at unit 36, then the lists in the order of the segments,
-    // at 37 and 38.
+    // A commit places its segment first, at unit 35, where the first table was, then the lists in the
+    // order of the segments, at 38 and 39, and then the table, at 40.
     "
     add red apple => added 1
     add red pear => added 2
@@ -335,17 +358,20 @@ pub static PLACES: [&str; 5] = [
     !bytes 9224 8 => 04 00 00 00 00 00 00 00
     !bytes 9236 4 => 06 00 00 00
     !bytes 9240 12 => 04 00 00 00 00 00 00 00 03 00 00 00
-    !bytes 9276 16 => 25 00 00 00 01 00 00 00 05 00 00 00 00 00 00 00
-    !bytes 9316 16 => 26 00 00 00 01 00 00 00 05 00 00 00 00 00 00 00
-    !bytes 9332 8 => 03 00 00 00 00 00 00 00
-    !bytes 9340 16 => 24 00 00 00 01 00 00 00 52 00 00 00 02 00 00 00
-    !bytes 18944 5 => 01 00 00 00 81
-    !bytes 19456 5 => 01 00 00 00 84
+    !bytes 9252 12 => 28 00 00 00 01 00 00 00 78 00 00 00
+    !bytes 20504 16 => 26 00 00 00 01 00 00 00 05 00 00 00 00 00 00 00
+    !bytes 20544 16 => 27 00 00 00 01 00 00 00 05 00 00 00 00 00 00 00
+    !bytes 20560 8 => 03 00 00 00 00 00 00 00
+    !bytes 20568 16 => 23 00 00 00 01 00 00 00 52 00 00 00 02 00 00 00
+    !bytes 20584 16 => {00 *15}00
+    !bytes 19456 5 => 01 00 00 00 81
+    !bytes 19968 5 => 01 00 00 00 84
     !open => opened
     find NOT x => found 3: 2 3 5
     ",
     // Two segments with lists are one segment without, of the documents that are left, in the first
-    // run beside them: unit 38. It has the next id, and takes the places of the others.
+    // run beside them: unit 37, where the second table was; its own table goes to 40. It has the next
+    // id, and takes the places of the others.
     "
     add red apple => added 1
     add red pear => added 2
@@ -362,30 +388,32 @@ pub static PLACES: [&str; 5] = [
     !bytes 1032 8 => 05 00 00 00 00 00 00 00
     !bytes 1044 4 => 05 00 00 00
     !bytes 1048 12 => 04 00 00 00 00 00 00 00 01 00 00 00
-    !bytes 1060 8 => 03 00 00 00 00 00 00 00
-    !bytes 1068 16 => 26 00 00 00 01 00 00 00 7F 00 00 00 02 00 00 00
-    !bytes 1084 56 => {00 *55}00
-    !bytes 19456 12 => 02 00 00 00 02 00 00 00 13 00 00 00
-    !bytes 19468 12 => 14 00 00 00 28 00 00 00 04 00 00 00
-    !bytes 19480 12 => 02 00 00 00 00 00 00 00 08 00 00 00
-    !bytes 19492 12 => 03 00 00 00 08 00 00 00 0B 00 00 00
-    !bytes 19504 8 => 72 65 64 20 70 65 61 72
-    !bytes 19512 11 => 67 72 65 65 6E 20 61 70 70 6C 65
-    !bytes 19523 20 => 01 00 00 00 83 01 00 00 00 83 01 00 00 00 82 01 00 00 00 82
-    !bytes 19543 4 => 00 00 00 00
-    !bytes 19547 9 => 85 61 70 70 6C 65 81 80 85
-    !bytes 19556 10 => 80 85 67 72 65 65 6E 81 85 85
-    !bytes 19566 9 => 80 84 70 65 61 72 81 8A 85
-    !bytes 19575 8 => 80 83 72 65 64 81 8F 85
+    !bytes 1060 12 => 28 00 00 00 01 00 00 00 28 00 00 00
+    !bytes 1072 56 => {00 *55}00
+    !bytes 20480 8 => 03 00 00 00 00 00 00 00
+    !bytes 20488 16 => 25 00 00 00 01 00 00 00 7F 00 00 00 02 00 00 00
+    !bytes 20504 16 => {00 *15}00
+    !bytes 18944 12 => 02 00 00 00 02 00 00 00 13 00 00 00
+    !bytes 18956 12 => 14 00 00 00 28 00 00 00 04 00 00 00
+    !bytes 18968 12 => 02 00 00 00 00 00 00 00 08 00 00 00
+    !bytes 18980 12 => 03 00 00 00 08 00 00 00 0B 00 00 00
+    !bytes 18992 8 => 72 65 64 20 70 65 61 72
+    !bytes 19000 11 => 67 72 65 65 6E 20 61 70 70 6C 65
+    !bytes 19011 20 => 01 00 00 00 83 01 00 00 00 83 01 00 00 00 82 01 00 00 00 82
+    !bytes 19031 4 => 00 00 00 00
+    !bytes 19035 9 => 85 61 70 70 6C 65 81 80 85
+    !bytes 19044 10 => 80 85 67 72 65 65 6E 81 85 85
+    !bytes 19054 9 => 80 84 70 65 61 72 81 8A 85
+    !bytes 19063 8 => 80 83 72 65 64 81 8F 85
     !open => opened
     find NOT x => found 2: 2 3
     add z => added 5
     commit => committed
     !close
-    !bytes 9248 4 => 02 00 00 00
-    !bytes 9292 12 => 04 00 00 00 00 00 00 00 22 00 00 00
+    !bytes 9248 16 => 02 00 00 00 23 00 00 00 01 00 00 00 50 00 00 00
+    !bytes 17960 12 => 04 00 00 00 00 00 00 00 22 00 00 00
     ",
-    // A merge that leaves no document leaves no segment, and the next segment id.
+    // A merge that leaves no document leaves no segment, no table, and the next segment id.
     "
     add x => added 1
     commit => committed
@@ -423,16 +451,17 @@ pub static PLACES: [&str; 5] = [
     !bytes 1032 8 => 05 00 00 00 00 00 00 00
     !bytes 1044 4 => 03 00 00 00
     !bytes 1048 12 => 03 00 00 00 00 00 00 00 00 00 00 00
+    !bytes 1060 40 => {00 *39}00
     !open => opened
     count => count 0 next 3
     ",
 ];
 
-/// A segment of kind 1, of `a b` and `a`, that an earlier version wrote: a find reads its texts, until
-/// a merge writes it anew, in kind 2 at unit 35.
+/// A segment of kind 1, of `a b` and `a`, that an earlier version wrote, in a body of version 1: a
+/// find reads its texts, until a merge writes it anew, in kind 2 at unit 35, and the table behind it.
 pub const KIND_1: &str = "
     !close
-    !set 1032 02
+    !set 1031 31 02
     !set 1044 03 00 00 00 02 00 00 00 00 00 00 00 01 00 00 00
     !set 1060 01 00 00 00 00 00 00 00 22 00 00 00 01 00 00 00 34 00 00 00 01
     !set 17408 01 00 00 00 02 00 00 00 04 00 00 00 00 00 00 00 00 00 00 00 00 00 00 00
@@ -444,10 +473,11 @@ pub const KIND_1: &str = "
     find a => found 2: 1 2
     find b => found 1: 1
     !close
-    !bytes 9224 8 => 03 00 00 00 00 00 00 00
+    !bytes 9216 16 => 50 4B 53 52 43 48 30 32 03 00 00 00 00 00 00 00
     !bytes 9236 12 => 03 00 00 00 03 00 00 00 00 00 00 00
-    !bytes 9248 12 => 01 00 00 00 02 00 00 00 00 00 00 00
-    !bytes 9260 16 => 23 00 00 00 01 00 00 00 4E 00 00 00 02 00 00 00
+    !bytes 9248 16 => 01 00 00 00 24 00 00 00 01 00 00 00 28 00 00 00
+    !bytes 18432 8 => 02 00 00 00 00 00 00 00
+    !bytes 18440 16 => 23 00 00 00 01 00 00 00 4E 00 00 00 02 00 00 00
     !bytes 17920 12 => 02 00 00 00 02 00 00 00 04 00 00 00
     !bytes 17932 12 => 0B 00 00 00 0F 00 00 00 02 00 00 00
     !bytes 17944 12 => 01 00 00 00 00 00 00 00 03 00 00 00
@@ -458,9 +488,9 @@ pub const KIND_1: &str = "
     !bytes 17992 6 => 80 81 62 81 86 85
 ";
 
-/// A second merge makes no call of the device: opening makes nine, and the tenth fails.
+/// A second merge makes no call of the device: opening makes ten, and the eleventh fails.
 const MERGED: &str = "
-    !fail 10
+    !fail 11
     !open => opened
     merge => merged
     find a => refused disk
@@ -468,7 +498,7 @@ const MERGED: &str = "
 ";
 
 /// On a page cache opening makes five: a sync, the page of both gates and of one generation, that of
-/// the other, the body, and the segment's page, which the find needs.
+/// the other, the body, and the page of the table and the segment, which the find needs.
 const MERGED_ON_PAGES: &str = "
     !fail 6
     !open => opened

@@ -79,13 +79,13 @@ const TWO_COMMITS: &str = "
     !close
 ";
 
-/// A store of two segments is opened, in twelve calls: a sync, the reads of two gates, two
-/// generations and a body, and three of each segment.
+/// A store of two segments is opened, in thirteen calls: a sync, the reads of two gates, two
+/// generations, a body and its table, and three of each segment.
 const OPENING: [Sweep; 2] = [
     Sweep {
         before: TWO_COMMITS,
         first: 1,
-        last: 12,
+        last: 13,
         how: EITHER,
         session: "!open => disk\n",
         shut: TWO,
@@ -93,8 +93,8 @@ const OPENING: [Sweep; 2] = [
     },
     Sweep {
         before: TWO_COMMITS,
-        first: 13,
-        last: 13,
+        first: 14,
+        last: 14,
         how: EITHER,
         session: "!open => opened\ncount => count 2 next 3\n!close\n",
         shut: TWO,
@@ -129,9 +129,9 @@ const SECOND_CUT: &str = "
 /// | calls | of |
 /// |---|---|
 /// | 1 to 4 | opening: a sync, the reads of two gates and a body |
-/// | 5 to 10 | the first commit: a read of gate B, segment, body, a sync, the gate, a sync |
-/// | 11 to 18 | the second: the read of gate A, its close, a sync, and the last five again |
-/// | 19 to 26 | the find: of each segment its directory, its header, and two pieces of its dictionary |
+/// | 5 to 11 | the first commit: a read of gate B, segment, table, body, a sync, the gate, a sync |
+/// | 12 to 20 | the second: the read of gate A, its close, a sync, and the last six again |
+/// | 21 to 28 | the find: of each segment its directory, its header, and two pieces of its dictionary |
 const COMMITTING: [Sweep; 11] = [
     Sweep {
         before: NEW,
@@ -181,7 +181,7 @@ const COMMITTING: [Sweep; 11] = [
     Sweep {
         before: NEW,
         first: 6,
-        last: 8,
+        last: 9,
         how: EITHER,
         session: FIRST_CUT,
         shut: NONE,
@@ -189,8 +189,8 @@ const COMMITTING: [Sweep; 11] = [
     },
     Sweep {
         before: NEW,
-        first: 9,
-        last: 10,
+        first: 10,
+        last: 11,
         how: EITHER,
         session: FIRST_CUT,
         shut: NONE,
@@ -198,8 +198,8 @@ const COMMITTING: [Sweep; 11] = [
     },
     Sweep {
         before: NEW,
-        first: 11,
-        last: 11,
+        first: 12,
+        last: 12,
         how: ONCE,
         session: "
             !open => opened
@@ -215,8 +215,8 @@ const COMMITTING: [Sweep; 11] = [
     },
     Sweep {
         before: NEW,
-        first: 11,
-        last: 11,
+        first: 12,
+        last: 12,
         how: ON,
         session: "
             !open => opened
@@ -232,8 +232,8 @@ const COMMITTING: [Sweep; 11] = [
     },
     Sweep {
         before: NEW,
-        first: 12,
-        last: 16,
+        first: 13,
+        last: 18,
         how: EITHER,
         session: SECOND_CUT,
         shut: ONE,
@@ -241,8 +241,8 @@ const COMMITTING: [Sweep; 11] = [
     },
     Sweep {
         before: NEW,
-        first: 17,
-        last: 18,
+        first: 19,
+        last: 20,
         how: EITHER,
         session: SECOND_CUT,
         shut: ONE,
@@ -250,8 +250,8 @@ const COMMITTING: [Sweep; 11] = [
     },
     Sweep {
         before: NEW,
-        first: 19,
-        last: 26,
+        first: 21,
+        last: 28,
         how: EITHER,
         session: "
             !open => opened
@@ -267,8 +267,8 @@ const COMMITTING: [Sweep; 11] = [
     },
     Sweep {
         before: NEW,
-        first: 27,
-        last: 27,
+        first: 29,
+        last: 29,
         how: EITHER,
         session: "
             !open => opened
@@ -284,8 +284,8 @@ const COMMITTING: [Sweep; 11] = [
     },
 ];
 
-/// A store without documents in half A. The body of B has a greater generation and next number 77,
-/// and would take force if its gate were opened, which FF closes.
+/// A store of version 1 without documents in half A. The body of B has a greater generation and next
+/// number 77, and would take force if its gate were opened, which FF closes.
 const OVER_A_GREATER_BODY: &str = "
     !disk 32768
     !set 1024 50 4B 53 52 43 48 30 31 03 00 00 00 00 00 00 00 40 00 00 00 01 00 00 00 01
@@ -303,13 +303,13 @@ const CUT: &str = "
 ";
 
 /// A gate that is closed with another byte than 00 isn't written before the new body is synced.
-/// Opening makes four calls, the commit six: the read of gate B, the segment, the body, a sync, the
-/// gate, a sync.
+/// Opening makes four calls, the commit seven: the read of gate B, the segment, the table, the body, a
+/// sync, the gate, a sync.
 const SHUT_GATE: [Sweep; 3] = [
     Sweep {
         before: OVER_A_GREATER_BODY,
         first: 5,
-        last: 8,
+        last: 9,
         how: EITHER,
         session: CUT,
         shut: NONE,
@@ -317,8 +317,8 @@ const SHUT_GATE: [Sweep; 3] = [
     },
     Sweep {
         before: OVER_A_GREATER_BODY,
-        first: 9,
-        last: 10,
+        first: 10,
+        last: 11,
         how: EITHER,
         session: CUT,
         shut: NONE,
@@ -326,8 +326,8 @@ const SHUT_GATE: [Sweep; 3] = [
     },
     Sweep {
         before: OVER_A_GREATER_BODY,
-        first: 11,
-        last: 11,
+        first: 12,
+        last: 12,
         how: EITHER,
         session: "
             !open => opened
@@ -390,15 +390,15 @@ const COMMIT_CUT_AND_OPENED: &str = "
     !close
 ";
 
-/// Document 2 is committed over a store of document 1, with both gates open. Opening makes nine
-/// calls; the commit eight: the read of gate A, its close, a sync, the segment, the body, a sync,
-/// the gate, a sync.
+/// Document 2 is committed over a store of document 1, with both gates open. Opening makes ten
+/// calls; the commit nine: the read of gate A, its close, a sync, the segment, the table, the body, a
+/// sync, the gate, a sync.
 const SECOND_COMMIT: [Sweep; 3] = [
     // Its second sync and all later calls fail.
     Sweep {
         before: ONE_COMMIT,
-        first: 15,
-        last: 15,
+        first: 17,
+        last: 17,
         how: ON,
         session: COMMIT_CUT,
         shut: ONE,
@@ -407,8 +407,8 @@ const SECOND_COMMIT: [Sweep; 3] = [
     // Its last sync alone fails: it is there, or isn't after a crash.
     Sweep {
         before: ONE_COMMIT,
-        first: 17,
-        last: 17,
+        first: 19,
+        last: 19,
         how: ONCE,
         session: COMMIT_CUT_AND_ASKED,
         shut: ONE,
@@ -416,8 +416,8 @@ const SECOND_COMMIT: [Sweep; 3] = [
     },
     Sweep {
         before: ONE_COMMIT,
-        first: 17,
-        last: 17,
+        first: 19,
+        last: 19,
         how: ONCE,
         session: COMMIT_CUT_AND_OPENED,
         shut: TWO,
@@ -426,41 +426,10 @@ const SECOND_COMMIT: [Sweep; 3] = [
 ];
 
 /// The same on a page cache. Opening makes five calls: a sync, the page of both gates and of one
-/// generation, that of the other, the body, and the segment's page. The commit makes seven, as the
-/// gates' page is kept: the close of gate A, a sync, the segment, the body, a sync, the gate, a
-/// sync.
+/// generation, that of the other, the body, and the page of the table and the segment. The commit
+/// makes eight, as the gates' page is kept: the close of gate A, a sync, the segment, the table, the
+/// body, a sync, the gate, a sync.
 const SECOND_COMMIT_ON_64_PAGES: [Sweep; 3] = [
-    Sweep {
-        before: ONE_COMMIT,
-        first: 10,
-        last: 10,
-        how: ON,
-        session: COMMIT_CUT,
-        shut: ONE,
-        open: ONE,
-    },
-    Sweep {
-        before: ONE_COMMIT,
-        first: 12,
-        last: 12,
-        how: ONCE,
-        session: COMMIT_CUT_AND_ASKED,
-        shut: ONE,
-        open: TWO,
-    },
-    Sweep {
-        before: ONE_COMMIT,
-        first: 12,
-        last: 12,
-        how: ONCE,
-        session: COMMIT_CUT_AND_OPENED,
-        shut: TWO,
-        open: TWO,
-    },
-];
-
-/// Where one page is kept, which is the segment's, that of the gates is read before them.
-const SECOND_COMMIT_ON_ONE_PAGE: [Sweep; 3] = [
     Sweep {
         before: ONE_COMMIT,
         first: 11,
@@ -483,6 +452,37 @@ const SECOND_COMMIT_ON_ONE_PAGE: [Sweep; 3] = [
         before: ONE_COMMIT,
         first: 13,
         last: 13,
+        how: ONCE,
+        session: COMMIT_CUT_AND_OPENED,
+        shut: TWO,
+        open: TWO,
+    },
+];
+
+/// Where one page is kept, which is the segment's, that of the gates is read before them.
+const SECOND_COMMIT_ON_ONE_PAGE: [Sweep; 3] = [
+    Sweep {
+        before: ONE_COMMIT,
+        first: 12,
+        last: 12,
+        how: ON,
+        session: COMMIT_CUT,
+        shut: ONE,
+        open: ONE,
+    },
+    Sweep {
+        before: ONE_COMMIT,
+        first: 14,
+        last: 14,
+        how: ONCE,
+        session: COMMIT_CUT_AND_ASKED,
+        shut: ONE,
+        open: TWO,
+    },
+    Sweep {
+        before: ONE_COMMIT,
+        first: 14,
+        last: 14,
         how: ONCE,
         session: COMMIT_CUT_AND_OPENED,
         shut: TWO,

@@ -32,6 +32,8 @@ mod lying;
 #[cfg(test)]
 mod memory;
 #[cfg(test)]
+mod migrating;
+#[cfg(test)]
 mod opening;
 #[cfg(test)]
 mod paged;

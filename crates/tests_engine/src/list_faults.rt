@@ -52,21 +52,21 @@ const CUT: &str = "
 ";
 
 /// A document is added, and one of each segment deleted. Opening begins with a sync, and reads two
-/// gates, two generations and a body, and three times of each segment. Halving reads the entries of
-/// documents 2 and 1 for document 1, and that of document 4.
+/// gates, two generations, a body and its table, and three times of each segment. Halving reads the
+/// entries of documents 2 and 1 for document 1, and that of document 4.
 ///
 /// | calls | of |
 /// |---|---|
-/// | 1 to 12 | opening |
-/// | 13 to 15 | the deletions, two and one |
-/// | 16 to 18 | the commit: the read of gate B, its close, a sync |
-/// | 19 to 23 | the segment, two lists, the body, a sync |
-/// | 24, 25 | the gate, a sync |
+/// | 1 to 13 | opening |
+/// | 14 to 16 | the deletions, two and one |
+/// | 17 to 19 | the commit: the read of gate B, its close, a sync |
+/// | 20 to 25 | the segment, two lists, the table, the body, a sync |
+/// | 26, 27 | the gate, a sync |
 const COMMITTING: [Sweep; 9] = [
     Sweep {
         before: TWO_SEGMENTS,
-        first: 13,
-        last: 14,
+        first: 14,
+        last: 15,
         how: ONCE,
         session: "
             !open => opened
@@ -84,8 +84,8 @@ const COMMITTING: [Sweep; 9] = [
     },
     Sweep {
         before: TWO_SEGMENTS,
-        first: 13,
-        last: 14,
+        first: 14,
+        last: 15,
         how: ON,
         session: "
             !open => opened
@@ -103,8 +103,8 @@ const COMMITTING: [Sweep; 9] = [
     },
     Sweep {
         before: TWO_SEGMENTS,
-        first: 15,
-        last: 15,
+        first: 16,
+        last: 16,
         how: ONCE,
         session: "
             !open => opened
@@ -121,8 +121,8 @@ const COMMITTING: [Sweep; 9] = [
     },
     Sweep {
         before: TWO_SEGMENTS,
-        first: 15,
-        last: 15,
+        first: 16,
+        last: 16,
         how: ON,
         session: "
             !open => opened
@@ -140,8 +140,8 @@ const COMMITTING: [Sweep; 9] = [
     // After the failed read of a gate the next commit writes all.
     Sweep {
         before: TWO_SEGMENTS,
-        first: 16,
-        last: 16,
+        first: 17,
+        last: 17,
         how: ONCE,
         session: "
             !open => opened
@@ -160,8 +160,8 @@ const COMMITTING: [Sweep; 9] = [
     },
     Sweep {
         before: TWO_SEGMENTS,
-        first: 16,
-        last: 16,
+        first: 17,
+        last: 17,
         how: ON,
         session: "
             !open => opened
@@ -179,8 +179,8 @@ const COMMITTING: [Sweep; 9] = [
     },
     Sweep {
         before: TWO_SEGMENTS,
-        first: 17,
-        last: 23,
+        first: 18,
+        last: 25,
         how: EITHER,
         session: CUT,
         shut: OLD,
@@ -188,8 +188,8 @@ const COMMITTING: [Sweep; 9] = [
     },
     Sweep {
         before: TWO_SEGMENTS,
-        first: 24,
-        last: 25,
+        first: 26,
+        last: 27,
         how: EITHER,
         session: CUT,
         shut: OLD,
@@ -197,8 +197,8 @@ const COMMITTING: [Sweep; 9] = [
     },
     Sweep {
         before: TWO_SEGMENTS,
-        first: 26,
-        last: 26,
+        first: 28,
+        last: 28,
         how: ON,
         session: "
             !open => opened
@@ -242,13 +242,13 @@ const KEPT: &str = "
     count => count 3 next 5
 ";
 
-/// Opening makes sixteen calls: a sync, the reads of two gates, two generations and a body, three
-/// of each segment, and one of the list.
+/// Opening makes seventeen calls: a sync, the reads of two gates, two generations, a body and its
+/// table, three of each segment, and one of the list.
 const OPENING: [Sweep; 2] = [
     Sweep {
         before: THREE_SEGMENTS,
         first: 1,
-        last: 16,
+        last: 17,
         how: EITHER,
         session: "!open => disk\n",
         shut: KEPT,
@@ -256,8 +256,8 @@ const OPENING: [Sweep; 2] = [
     },
     Sweep {
         before: THREE_SEGMENTS,
-        first: 17,
-        last: 17,
+        first: 18,
+        last: 18,
         how: ON,
         session: "
             !open => opened
@@ -332,22 +332,22 @@ const MERGE_DONE: &str = "
 ///
 /// | calls | of |
 /// |---|---|
-/// | 1 to 16 | opening |
-/// | 17 | the deletion: the entry of document 2 |
-/// | 18 to 20 | the segments, each at once |
-/// | 21 to 23 | the segments' lists, those of each at once |
-/// | 24 to 26 | the read of gate B, its close, a sync |
-/// | 27 to 30 | the texts that are left, at once, and the lists once more |
-/// | 31 to 33 | the segment, the body, a sync |
-/// | 34, 35 | the gate, a sync |
+/// | 1 to 17 | opening |
+/// | 18 | the deletion: the entry of document 2 |
+/// | 19 to 21 | the segments, each at once |
+/// | 22 to 24 | the segments' lists, those of each at once |
+/// | 25 to 27 | the read of gate B, its close, a sync |
+/// | 28 to 31 | the texts that are left, at once, and the lists once more |
+/// | 32 to 35 | the segment, the table, the body, a sync |
+/// | 36, 37 | the gate, a sync |
 static MERGING: [(u64, u64, &[&str], &str); 7] = [
-    (18, 24, ONCE, MERGE_AGAIN),
-    (18, 24, ON, MERGE_REFUSED),
-    (25, 26, EITHER, MERGE_CUT),
-    (27, 30, ONCE, MERGE_AGAIN),
-    (27, 30, ON, MERGE_REFUSED),
-    (31, 35, EITHER, MERGE_CUT),
-    (36, 36, ON, MERGE_DONE),
+    (19, 25, ONCE, MERGE_AGAIN),
+    (19, 25, ON, MERGE_REFUSED),
+    (26, 27, EITHER, MERGE_CUT),
+    (28, 31, ONCE, MERGE_AGAIN),
+    (28, 31, ON, MERGE_REFUSED),
+    (32, 37, EITHER, MERGE_CUT),
+    (38, 38, ON, MERGE_DONE),
 ];
 
 #[test]

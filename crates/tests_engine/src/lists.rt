@@ -11,7 +11,7 @@ use std::alloc::{AllocError, Global};
 use std::process::Abort;
 use std::test::Fail;
 
-/// A store with one segment, of documents 1 `a b` and 3 `a`. The place of a deletion list in its
+/// A store of version 1 with one segment, of documents 1 `a b` and 3 `a`. The place of a deletion list in its
 /// entry is byte 1084; unit 40 is byte 20,480.
 const STORE: &str = "
     !disk 32768
@@ -111,15 +111,16 @@ const DOCUMENTS: u32 = 200;
 
 const DELETED: u32 = 130;
 
-/// Where its list stands: behind the segment of 2,624 bytes, which takes six units.
-const PLACE: usize = 20_480;
+/// Where its list stands: behind the segment of 2,624 bytes, which takes six units, and the table of
+/// the commit before, which takes unit 40.
+const PLACE: usize = 20_992;
 
 /// How long the list is: its number of numbers, a skip entry, sixteen widths, a block of 128 at
 /// width 3, and two numbers of a byte each.
 const LENGTH: usize = 4 + 20 + 16 + 48 + 2;
 
-/// Where the entry says how long.
-const LENGTH_PLACE: usize = 1_092;
+/// Where the entry says how long, in the table behind the list, at unit 42.
+const LENGTH_PLACE: usize = 21_536;
 
 /// Adds those documents to a store, and deletes of them those.
 fn fill(alloc: Global, store: &mut Store<MemoryDisk>) -> Result<(), Refusal> {

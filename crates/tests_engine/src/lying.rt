@@ -192,14 +192,14 @@ fn with_document(rt: &impl Abort, alloc: Global) -> Result<MemoryDisk, Fail> {
     Ok(store.close())
 }
 
-// Opening makes nine calls, so the commands meet the first lie.
+// Opening makes ten calls, so the commands meet the first lie.
 #[test]
 fn a_disk_that_begins_to_lie_is_answered(rt: HostRuntime) -> Result<(), Fail> {
     let alloc = rt.alloc();
     for served in 0..120 {
         let below = with_document(&rt, alloc)?;
         let is_store = has_store(&rt, alloc, Liar { below, served })?;
-        assert_eq!(rt; is_store, served >= 9, "{served} calls");
+        assert_eq!(rt; is_store, served >= 10, "{served} calls");
     }
     Ok(())
 }

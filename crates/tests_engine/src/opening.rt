@@ -167,7 +167,7 @@ pub static DISKS: [&str; 2] = [
     count => count 0 next 1
     !close
     !bytes 0 1 => A7
-    !bytes 1024 8 => 50 4B 53 52 43 48 30 31
+    !bytes 1024 8 => 50 4B 53 52 43 48 30 32
     !bytes 1032 8 => 01 00 00 00 00 00 00 00
     !bytes 1040 8 => 40 00 00 00 01 00 00 00
     !bytes 1048 8 => 01 00 00 00 00 00 00 00

@@ -13,7 +13,7 @@ use std::test::Fail;
 
 /// Sessions with a failing call below a page cache. A new store is opened in three calls: a sync,
 /// the page of both gates, and the body. One with both gates open needs a page more, for the
-/// generation of half B, and one with a segment the page of that.
+/// generation of half B, and one with a segment the page of its table, and of that.
 static NUMBERED: [&str; 4] = [
     // The first sync fails, and the disk is handed back.
     "
@@ -24,11 +24,11 @@ static NUMBERED: [&str; 4] = [
     count => count 0 next 1
     ",
     // A commit, a merge and a tidy with nothing to write make no call. The commit of a document
-    // makes five, as the page of the gates is kept: the segment, the body, a sync, the gate, a sync.
-    // The ninth call would fail.
+    // makes six, as the page of the gates is kept: the segment, the table, the body, a sync, the gate,
+    // a sync. The tenth call would fail.
     "
     !close
-    !fail 9
+    !fail 10
     !open => opened
     merge => merged
     tidy => tidied
@@ -42,7 +42,8 @@ static NUMBERED: [&str; 4] = [
     merge => merged
     commit => refused disk
     ",
-    // A segment without a list, opened again, in five calls. The find needs the page that is kept.
+    // A segment without a list, opened again, in five calls, as the table lies in its page. The find
+    // needs the page that is kept.
     "
     add x => added 1
     commit => committed
@@ -56,13 +57,14 @@ static NUMBERED: [&str; 4] = [
     add y => added 2
     commit => refused disk
     ",
-    // A find reads the page of the lists, which opening didn't: the text of 4,002 bytes begins at
-    // byte 17,444, in the page before. The read fails once, and the same find again is answered.
+    // A find reads the page of the lists, which opening didn't: the text of 7,002 bytes begins at
+    // byte 17,444, in the page before, and the table in the page behind, at 24,576. The read fails
+    // once, and the same find again is answered.
     "
-    add {-*4000} x => added 1
+    add {-*7000} x => added 1
     commit => committed
     !close
-    !fail 6 once
+    !fail 7 once
     !open => opened
     find x => refused disk
     find x => found 1: 1

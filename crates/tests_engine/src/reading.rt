@@ -10,9 +10,9 @@ use std::test::Fail;
 /// The texts of the documents, by the rest of their number divided by 7.
 static TEXTS: [&str; 7] = ["", "a", "a b", "one two", "three", "four five six", "seven"];
 
-/// What opening reads: two gates, two generations of 8 bytes, a body of 8,192, and of each segment
-/// the header of 24 bytes and two entries of 12.
-const OPENING: usize = 2 + 16 + 8_192 + 3 * 48;
+/// What opening reads: two gates, two generations of 8 bytes, a body of 8,192, a table of 40 bytes a
+/// segment, and of each segment the header of 24 bytes and two entries of 12.
+const OPENING: usize = 2 + 16 + 8_192 + 3 * 40 + 3 * 48;
 
 /// The text of a document. In a script the last part keeps the blank before an empty text.
 fn text_of(number: u32) -> &'static str {
@@ -103,7 +103,7 @@ const BESIDE: &str = "
     delete 109 => refused no such document
     count => count 107 next 110
     !close
-    !reads 8354
+    !reads 8474
 ";
 
 #[test]

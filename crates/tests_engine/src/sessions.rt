@@ -144,11 +144,11 @@ pub static SESSIONS: [&str; 17] = [
     count => count 1 next 3
     ",
     // A commit with nothing to write makes no call of the device. Opening makes four calls, the
-    // first commit six: the read of gate B, the segment, the body, a sync, the gate, a sync. The
-    // eleventh call would fail.
+    // first commit seven: the read of gate B, the segment, the table, the body, a sync, the gate, a
+    // sync. The twelfth call would fail.
     "
     !close
-    !fail 11
+    !fail 12
     !open => opened
     add x => added 1
     commit => committed
@@ -181,12 +181,13 @@ pub static SESSIONS: [&str; 17] = [
     count => count 4 next 5
     ",
     // The segment of 10,204 hyphens has 24 bytes of header, 12 of directory and the text: 10,240
-    // bytes, 20 units. Of the 30 units for segments two don't fit, until the first is merged away.
+    // bytes, 20 units. Of the 30 units for segments two and a table don't fit, until the first is
+    // merged away.
     "
     add {-*10204} => added 1
     commit => committed
     add {-*10204} => added 2
-    commit => refused full need 20 largest 10
+    commit => refused full need 20 largest 9
     count => count 2 next 3
     delete 2 => deleted 2
     delete 1 => deleted 1
@@ -200,19 +201,23 @@ pub static SESSIONS: [&str; 17] = [
     count => count 1 next 4
     show 3 => text {-*10204}
     ",
-    // The text that just fits into the 10 units that are left has 5,084 bytes.
+    // Beside 20 units and their table nine are left. A text of 4,572 bytes takes them all, and
+    // leaves none for the next table; one of 4,060 bytes takes eight.
     "
     add {-*10204} => added 1
     commit => committed
-    add {-*5085} => added 2
-    commit => refused full need 11 largest 10
+    add {-*4573} => added 2
+    commit => refused full need 10 largest 9
     delete 2 => deleted 2
-    add {-*5084} => added 3
+    add {-*4572} => added 3
+    commit => refused full need 1 largest 0
+    delete 3 => deleted 3
+    add {-*4060} => added 4
     commit => committed
     !close
     !open => opened
-    count => count 2 next 4
-    show 3 => text {-*5084}
+    count => count 2 next 5
+    show 4 => text {-*4060}
     ",
     // A segment that doesn't fit an empty store: 20,036 bytes, 40 units.
     "
@@ -254,25 +259,23 @@ fn sessions_go_as_written(rt: HostRuntime) -> Result<(), Fail> {
 
 /// The last number, lines for each number from 1 to it, and the lines behind them.
 pub static MANY: [(u32, &str, &str); 3] = [
-    // 64 segments. Without a document a commit isn't refused, and a merge makes room.
+    // 65 segments, more than a body of version 1 had. A commit without a document and a merge leave
+    // the documents.
     (
-        64,
+        65,
         "
         add a => added #
         commit => committed
         ",
         "
-        add b => added 65
-        commit => refused too many segments
         count => count 65 next 66
-        find b => found 1: 65
         delete 65 => deleted 65
         commit => committed
         !close
         !open => opened
         count => count 64 next 66
         add c => added 66
-        commit => refused too many segments
+        commit => committed
         merge => merged
         commit => committed
         merge => merged
@@ -283,17 +286,15 @@ pub static MANY: [(u32, &str, &str); 3] = [
         find c => found 1: 66
         ",
     ),
-    // A tidy makes room too: of the 64 segments there are 57 after it, and 58 after a commit, which
-    // the body in force has at byte 1,056.
+    // Of the 65 segments there are 58 after a tidy, which the body in force has at byte 1,056. The
+    // commit behind it writes nothing.
     (
-        64,
+        65,
         "
         add a => added #
         commit => committed
         ",
         "
-        add a => added 65
-        commit => refused too many segments
         tidy => tidied
         commit => committed
         count => count 65 next 66
@@ -349,6 +350,29 @@ fn stores_are_filled_up(rt: HostRuntime) -> Result<(), Fail> {
         let script = filled(alloc, *last, lines, end)?;
         play_in_each_setting(alloc, &[script.as_str()])?;
     }
+    Ok(())
+}
+
+/// Behind 65 commits a tidy leaves 58 segments, and a commit behind it makes no call of the device:
+/// opening makes 181, seven and three of each segment, and the next one would fail.
+const TIDIED: &str = "
+    !close
+    !bytes 9248 4 => 41 00 00 00
+    !open => opened
+    tidy => tidied
+    !close
+    !bytes 1056 4 => 3A 00 00 00
+    !fail 182
+    !open => opened
+    commit => committed
+    merge => refused disk
+";
+
+#[test]
+fn a_commit_behind_a_tidy_makes_no_call(rt: HostRuntime) -> Result<(), Fail> {
+    let alloc = rt.alloc();
+    let lines = "add a => added #\ncommit => committed\n";
+    play(alloc, filled(alloc, 65, lines, TIDIED)?.as_str())?;
     Ok(())
 }
 

@@ -1,5 +1,5 @@
 -- What the entries stand for is what the disk holds.
-use Rattle.std.proofs.Common.{◌∙◌, List, Result, Err, refl, sym, ap, subst, arith}
+use Rattle.std.proofs.Common.{◌∙◌, List, Result, Err, length, refl, sym, ap, subst, arith}
 use Rattle.std.proofs.lemmas.Result.{err_from_is_err_and}
 use Rattle.pk_check.specs.declared.body.Checked.{Checked}
 use Rattle.pk_check.specs.Entries.{EntriesFailAs, StandsFor}
@@ -7,9 +7,15 @@ use Rattle.pk_check.specs.Holding.{ChecksBodyAs}
 use Rattle.pk_manifest.specs.declared.manifest.Part.{Part as Entry}
 use Rattle.pk_manifest.specs.Spelling.{view}
 use Rattle.pk_segment.specs.declared.fault.ReadFault.{ReadFault}
+use Rattle.pk_state.specs.Kept.{LieInside}
 use Rattle.pk_state.proofs.HoldsLemmas.{have_kinds, lie_inside}
 use Rattle.pk_check.proofs.BodyLemmas.{fault_held, stands_checked}
 use Rattle.pk_check.proofs.body.check_body.Goals as goal
+
+pub check_entries-requires-clause-inside : goal.check_entries-requires-clause-inside
+check_entries-requires-clause-inside g c =
+    let bytes = g.D.Disk.content c.args.disk.now in
+    subst (λ (es : List Entry). LieInside (length bytes) es) (sym c.deref.ensures.value) (lie_inside bytes (view c.args.body.now) c.requires)
 
 pub returns-in_err-documents-clause-checked : goal.returns-in_err-documents-clause-checked
 returns-in_err-documents-clause-checked g c = λ honest half has.
