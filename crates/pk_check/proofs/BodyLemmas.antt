@@ -1,7 +1,6 @@
 -- What the entries of the body in force stand for is what the bytes hold.
-use Rattle.std.proofs.Common.{◌≡◌, ℕ, List, length, refl, ap, subst, ◌∙◌, Ok, Err}
-use Rattle.pk_manifest.specs.Current.{HasBody, units_of_disk}
-use Rattle.pk_manifest.specs.Sound.{IsBody}
+use Rattle.std.proofs.Common.{◌≡◌, ℕ, List, refl, subst, ◌∙◌}
+use Rattle.pk_manifest.specs.Current.{HasBody}
 use Rattle.pk_manifest.specs.Spelling.{Body}
 use Rattle.pk_manifest.specs.declared.half.Half.{Half}
 use Rattle.pk_manifest.proofs.Fields.{one_body_in_force}

@@ -25,3 +25,4 @@ pub mod Sizes
 pub mod Slices
 pub mod Starts
 pub mod Terms
+pub mod Told

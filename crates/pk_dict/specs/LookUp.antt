@@ -1,5 +1,8 @@
 -- What a look-up answers, as a function of any bytes.
 use Rattle.std.specs.Prelude.{
+  ◌≡◌,
+  ◌<◌,
+  ◌≤◌,
   ◌+◌,
   ◌-◌,
   ◌*◌,
@@ -24,6 +27,8 @@ use Rattle.pk_posting.specs.declared.source.SourceFault.{SourceFault}
 use Rattle.pk_posting.specs.declared.source.SourceFault.TheVariants as faults
 use Rattle.pk_dict.specs.declared.entry.DictPlace.{DictPlace}
 use Rattle.pk_dict.specs.declared.entry.Entry.{Entry}
+use Rattle.pk_dict.specs.declared.head.Search.{Search}
+use Rattle.pk_dict.specs.declared.head.Search.TheVariants.{Open, Done}
 use Rattle.pk_dict.specs.declared.head.Standing.{Standing}
 use Rattle.pk_dict.specs.declared.head.Standing.TheVariants.{First, After}
 use Rattle.pk_dict.specs.declared.head.Step.{Step}
@@ -73,3 +78,33 @@ unfoldable pub look_up_of : List ℕ → DictPlace → List ℕ → Result (Opti
 look_up_of content place term =
     if nat_lt (length content) (place.at + place.bytes) then Err faults.Damaged
     else look_up_at (bytes_at content place) place.terms term
+
+-- what first terms of groups say of the groups from low to high: the last one below shares so much
+-- with the term and ends before next, and the first one from high on is greater
+pub record AreTold (bytes : List ℕ) (terms : ℕ) (term : List ℕ) (low high matched next : ℕ)
+    : Type 0 where
+  pub under : 0 < low
+      → group_at bytes (4 * group_count terms) (low - 1) term ≡ Ok (Less matched next)
+  pub above : high < group_count terms
+      → group_at bytes (4 * group_count terms) high term ≡ Ok Past
+
+-- a term stands where first terms of groups say it
+abbrev pub IsToldAt : List ℕ → ℕ → List ℕ → Standing → Type 0
+IsToldAt bytes terms term (First group entry) =
+    (group < group_count terms)
+    × (group_at bytes (4 * group_count terms) group term ≡ Ok (Found entry))
+IsToldAt bytes terms term (After groups matched next) =
+    (groups ≤ group_count terms) × AreTold bytes terms term groups groups matched next
+
+-- so does what a search knows
+abbrev pub IsToldIn : List ℕ → ℕ → List ℕ → Search → Type 0
+IsToldIn bytes terms term (Open b) =
+    AreTold bytes terms term b.low b.high b.matched b.next
+IsToldIn bytes terms term (Done standing) = IsToldAt bytes terms term standing
+
+-- an answer is what the group says in which the term may be, as first terms of groups say it
+pub record IsSaid (bytes : List ℕ) (terms : ℕ) (term : List ℕ) (answer : Option Entry)
+    : Type 0 where
+  pub standing : Standing
+  pub told : IsToldAt bytes terms term standing
+  pub said : scanned bytes terms term standing ≡ Ok answer

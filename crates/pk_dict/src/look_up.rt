@@ -10,16 +10,19 @@ ghost use Rattle.std.specs.Prelude.{
   ◌^◌,
   ℕ,
   List,
+  Ok,
   length,
   IfOk,
   IsOk,
   MatchResult,
 };
 ghost use Rattle.pk_dict.specs.Dictionary.{DictSpells, Item, entry_of, group_count};
+ghost use Rattle.pk_dict.specs.LookUp.{IsSaid, IsToldAt, IsToldIn};
 ghost use Rattle.pk_dict.specs.LookUp.{look_up_of, narrow_at, scanned, standing_at};
 ghost use Rattle.pk_dict.specs.Place.{LiesIn, bytes_at};
 ghost use Rattle.pk_dict.specs.Reading.{Gives};
 ghost use Rattle.pk_dict.specs.Search.{Goes, IsAmid, IsAmong, IsKnown, IsStanding};
+ghost use Rattle.pk_keys.specs.Keys.{pivot_at};
 ghost use Rattle.pk_posting.specs.Source.{IsLeft, IsRead};
 ghost use Rattle.pk_dict.specs.Source.{stretches_of};
 
@@ -64,12 +67,14 @@ pub fn look_up_in<S: ByteSource>(
 
 /// The entry of a term in a dictionary that lies in a source, or None where the term is not in it,
 /// as `look_up_in` says it of the bytes of a dictionary; any other bytes may be refused as Damaged,
-/// or not.
+/// or not, but both answers are what a group says, between whose first term and the next group's
+/// the term stands.
 ///
 /// `pivots` is a table of pk_keys for the groups of this dictionary, by which the search begins
 /// where earlier ones have been: the first terms at both ends of that range are read. A key that was
-/// not known is put in. No number in the table is believed: a wrong one costs two reads. It takes no
-/// memory.
+/// not known is put in. No number in the table is believed: a wrong one costs two reads. As long as
+/// nothing is known, it is `look_up_in` of any bytes. It takes no memory.
+#[tactic(auto, unfolding(crate::specs::LookUp::look_up_of, crate::specs::LookUp::look_up_at))]
 pub fn look_up_near<S: ByteSource>(
     source: &mut S,
     place: DictPlace,
@@ -80,6 +85,13 @@ pub fn look_up_near<S: ByteSource>(
         → place.at + place.bytes ≤ length (S.content source.old)
         → DictSpells (bytes_at (S.content source.old) place) es → length es ≡ place.terms
         → MatchResult result (λ r. r ≡ entry_of es term.now) (λ e. e ≡ SourceFault.Disk) }
+
+    // Of any bytes.
+    ensures said { S.honest → IfOk result
+        (IsSaid (bytes_at (S.content source.old) place) place.terms term.now) }
+    ensures unknown { S.honest → pivot_at pivots.old 1 ≡ 0 → Gives result
+        (look_up_of (S.content source.old) place term.now) }
+
     ensures inside { IsOk result → place.at + place.bytes ≤ length (S.content source.old) }
     ensures left { IsLeft S.honest S.content S.failures S.keeps result source.old source.new }
     ensures asks { (k : ℕ) → group_count place.terms ≤ 2 ^ k → S.asked source.new
@@ -219,6 +231,11 @@ fn probe<S: ByteSource>(
         → IsKnown (bytes_at (S.content source.old) place) es term.now search
         → MatchResult result (IsKnown (bytes_at (S.content source.old) place) es term.now)
         (λ e. e ≡ SourceFault.Disk) }
+    ensures told { S.honest
+        → IsToldIn (bytes_at (S.content source.old) place) place.terms term.now search
+        → IfOk result (IsToldIn (bytes_at (S.content source.old) place) place.terms term.now) }
+    ensures past { (b : Between) → search ≡ Search.Open b → b.high ≤ group
+        → result ≡ Ok (Search.Open b) }
     ensures left { IsRead S.honest S.content S.asked S.failures S.keeps
         (6 + stretches_of (length term.now)) result source.old source.new }
 {
@@ -260,6 +277,10 @@ fn stand_near<S: ByteSource>(
         → DictSpells (bytes_at (S.content source.old) place) es → length es ≡ place.terms
         → MatchResult result (IsStanding (bytes_at (S.content source.old) place) es term.now)
         (λ e. e ≡ SourceFault.Disk) }
+    ensures told { S.honest → IfOk result
+        (IsToldAt (bytes_at (S.content source.old) place) place.terms term.now) }
+    ensures unknown { S.honest → pivot_at pivots.old 1 ≡ 0 → Gives result
+        (standing_at (bytes_at (S.content source.old) place) place.terms term.now) }
     ensures among { IfOk result (IsAmong (group_count place.terms) (length term.now)) }
     ensures left { IsLeft S.honest S.content S.failures S.keeps result source.old source.new }
     ensures asks { (k : ℕ) → group_count place.terms ≤ 2 ^ k → S.asked source.new

@@ -1,6 +1,6 @@
 //! The disk in a file.
 
-ghost use Rattle.std.specs.Prelude.{◌≡◌, ◌≤◌, ◌*◌, ◌^◌, length, replicate, IfErr, IfOk, IsTrue};
+ghost use Rattle.std.specs.Prelude.{◌≡◌, ◌≤◌, ◌*◌, ◌^◌, length, replicate, IfErr, IfOk, IsTrue, false};
 ghost use Rattle.pk_disk.specs.Disk.{nowhere};
 ghost use Rattle.pk_filedisk.specs.File.{IsDiskLength, IsOfMake, IsOfOpening};
 
@@ -14,15 +14,19 @@ use pk_disk::{Disk, DiskFault, MAX_UNITS, UNIT};
 const LEAST_UNITS: u64 = 64;
 
 /// A file as a disk. Over an honest file it is honest. Its length is read once, as it is made or
-/// opened. The file is locked until the disk is dropped.
+/// opened. The file is locked until the disk is dropped. After a sync that failed each later one
+/// does, and the file is not asked.
 #[derive(Drop)]
 pub struct FileDisk<F: RawFile> {
     file: F,
     len: u64,
     failed_reads: u64,
     failed_writes: u64,
+    // A sync failed, so what the file answered to another one would say nothing.
+    unsure: bool,
     ghost locked: { IsTrue (F.is_locked file) },
     ghost settled: { IsTrue (F.is_settled file) },
+    ghost sure: { unsure ≡ false → IsTrue (F.is_sure file) },
     ghost fits: { F.honest → length (F.content file) ≡ len },
 }
 
@@ -92,6 +96,7 @@ impl<F: RawFile + Drop> FileDisk<F> {
     fn of_file(file: F, len: u64) -> FileDisk<F>
         requires locked { IsTrue (F.is_locked file) }
         requires settled { IsTrue (F.is_settled file) }
+        requires sure { IsTrue (F.is_sure file) }
         requires fits { F.honest → length (F.content file) ≡ len }
         ensures file { result.file ≡ file }
         ensures len { result.len ≡ len }
@@ -103,6 +108,7 @@ impl<F: RawFile + Drop> FileDisk<F> {
             len,
             failed_reads: 0,
             failed_writes: 0,
+            unsure: false,
         }
     }
 }
@@ -111,6 +117,7 @@ impl<F: RawFile + Drop> FileDisk<F> {
 fn locked<F: RawFile + Drop>(mut file: F) -> Result<F, FileFault>
     ensures locked { IfOk result (λ f. IsTrue (F.is_locked f)) }
     ensures bytes { F.honest → IfOk result (λ f. F.content f ≡ F.content file) }
+    ensures sure { IfOk result (λ f. F.is_sure f ≡ F.is_sure file) }
     ensures fault { IfErr result (λ fault. fault ≡ FileFault.Disk) }
 {
     match file.try_lock() {
@@ -167,7 +174,12 @@ impl<F: RawFile> Disk for FileDisk<F> {
         if self.failed_writes == u64::MAX {
             return Err(DiskFault);
         }
+        if self.unsure {
+            self.failed_writes += 1;
+            return Err(DiskFault);
+        }
         let Ok(()) = self.file.sync_data() else {
+            self.unsure = true;
             self.failed_writes += 1;
             return Err(DiskFault);
         };

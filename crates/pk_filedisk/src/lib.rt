@@ -9,14 +9,15 @@
 //!
 //! `RawFile` is an open file, with what its calls keep if it is *honest*: a read gives what was
 //! last written; a write changes and opens its own range and nothing else, whatever it answers; a
-//! sync that succeeds closes all positions. Lock, length and name are three facts, which its calls
-//! ask for and give on every file, honest or not:
+//! sync that succeeds closes all positions, as long as none has failed before. Lock, length, name and
+//! that are four facts, which its calls ask for and give on every file, honest or not:
 //!
 //! | fact | given by | asked for by |
 //! |---|---|---|
 //! | `is_locked`: no one else has the file | `try_lock` | each other call |
 //! | `is_settled`: a crash leaves its length | `sync_all` | a disk in it |
 //! | `is_named`: a crash leaves its name | `sync_folder` of a `FileSystem` | a disk that is made |
+//! | `is_sure`: no sync of it has failed | a file that is made or opened | each sync |
 //!
 //! `std::fs::File` is the system's file, and promises nothing: what it does, no clause says. Each of
 //! its calls is one of the system.
@@ -26,12 +27,14 @@
 //! | `make` | the system is asked for a new file; to be locked, to take its length, to be synced with it; and its folder to be synced |
 //! | `on` | the system is asked for the file; to be locked, to be synced, and for its length |
 //! | `read`, `write` | to be read or written at a position, until all bytes are done |
-//! | `sync` | to sync its data |
+//! | `sync` | to sync its data, unless that failed once |
 //!
 //! The folder of a path is opened as a file and synced, which Linux allows; where the system
 //! refuses that, `make` answers `Disk`. The length is read once: a file that another program
-//! shortens answers faults past its end. The lock is exclusive and lasts until the disk is dropped;
-//! it keeps out those that ask for it, as a second disk in the file.
+//! shortens answers faults past its end. A sync that failed may have lost what was to be written,
+//! and the system tells it once: so each later one fails too, and the file is not asked. The lock is
+//! exclusive and lasts until the disk is dropped; it keeps out those that ask for it, as a second
+//! disk in the file.
 //!
 //! # What is refused
 //!

@@ -1,5 +1,5 @@
 -- The body that follows another one, and the claims of entries.
-use Rattle.std.proofs.Common.{◌≡◌, ◌⊎◌, inl, inr, ℕ, suc, ◌+◌, ◌*◌, ◌<◌, ◌≤◌, ◌^◌, true, false, ◌&&◌, eqb, leb, ltb, List, [], ◌∷◌, ◌++◌, Bool, length, Option, Some, None, refl, sym, ◌∙◌, ap, subst, arith, append-nil, append_assoc}
+use Rattle.std.proofs.Common.{◌≡◌, ℕ, suc, ◌+◌, ◌*◌, ◌<◌, ◌≤◌, ◌^◌, true, false, ◌&&◌, eqb, leb, ltb, List, [], ◌∷◌, ◌++◌, Bool, length, Option, Some, None, refl, sym, ◌∙◌, ap, subst, arith, append-nil, append_assoc}
 use Rattle.std.specs.Prelude.{if◌then◌else◌}
 use Rattle.std.specs.List.{flat_map, list_all, list_any}
 use Rattle.std.proofs.lemmas.Bool.{and_from, and_parts, eqb-true, le-leb, ltb-true, lt-ltb}
@@ -9,10 +9,10 @@ use Rattle.pk_disk.proofs.Ranges.{or_both}
 use Rattle.pk_disk.specs.Units.{IsFitted, apart, lies_within, overlap, start_of, units_for}
 use Rattle.pk_disk.specs.declared.units.Extent.{Extent}
 use Rattle.pk_manifest.specs.declared.manifest.Part.{Part as Entry}
-use Rattle.pk_manifest.specs.Sound.{IsBody, SaysSound, are_numbers, dead_extents, entry_limit, extents_of, is_dead, is_extent, is_part, is_sound, is_table, named, same_segment, table_extents}
+use Rattle.pk_manifest.specs.Sound.{IsBody, SaysSound, dead_extents, entry_limit, extents_of, is_dead, is_extent, is_part, is_table, named, same_segment, table_extents}
 use Rattle.pk_manifest.specs.Spelling.{Body, no_extent, table_of, table_size}
 use Rattle.pk_manifest.proofs.Sound.{eqb_same, is_sound_by, says_sound}
-use Rattle.pk_manifest.proofs.Fields.{if_false, length_table, no_table, table_extent, table_long, zero_or_not}
+use Rattle.pk_manifest.proofs.Fields.{if_false, length_table, table_extent, table_long}
 use Rattle.pk_model.specs.Limits.{end_of_ids, end_of_numbers}
 use Rattle.pk_posting.specs.Spelling.{spelling}
 use Rattle.pk_posting.proofs.SpellingLemmas.{length_spelling}

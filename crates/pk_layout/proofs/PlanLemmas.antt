@@ -5,7 +5,7 @@ use Rattle.std.specs.List.{AllByRecursion, flat_map, list_all}
 use Rattle.std.proofs.lemmas.Bool.{and_from, and_parts, le-ltb, lt-ltb, or_from, or_left}
 use Rattle.std.proofs.lemmas.List.{get_or-map, length-map, take-append-drop}
 use Rattle.pk_disk.proofs.Ranges.{or_both}
-use Rattle.std.proofs.lemmas.List.Elements.{All-append, All-cons, All-head, All-map, All-nil, recursion_from_All}
+use Rattle.std.proofs.lemmas.List.Elements.{All-append, All-cons, All-head, All-nil, recursion_from_All}
 use Rattle.pk_manifest.specs.Sound.{IsBody, SaysSound, entry_limit, named, segment_limit}
 use Rattle.pk_model.specs.Collection.{Doc}
 use Rattle.pk_model.specs.declared.documents.Document.{Document}

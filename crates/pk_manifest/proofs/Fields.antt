@@ -2,7 +2,6 @@
 use Rattle.std.proofs.Common.{◌≡◌, ◌⊎◌, inl, inr, ◌==◌, Bool, ℕ, zero, suc, ◌+◌, ◌*◌, ◌-◌, ◌/◌, ◌^◌, ◌<◌, ◌≤◌, true, false, ◌&&◌, eqb, ltb, leb, List, [], ◌∷◌, ◌++◌, length, drop, Option, Some, None, refl, sym, ap, ◌∙◌, append_assoc, arith}
 use Rattle.std.specs.Prelude.{IfSome}
 use Rattle.std.specs.List.{flat_map, list_all}
-use Rattle.std.specs.Int.{w32}
 use Rattle.std.specs.Prelude.{if◌then◌else◌}
 use Rattle.std.proofs.lemmas.Bool.{and_from, and_parts, cases_Bool, leb-true, ltb-true, eqb-true, ne_eqb}
 use Rattle.std.proofs.lemmas.List.Concat.{flat_map-cons}
@@ -17,8 +16,8 @@ use Rattle.pk_manifest.specs.declared.half.Half.{Half}
 use Rattle.pk_manifest.specs.Bodies.{body_size, body_of, generation_of}
 use Rattle.pk_disk.specs.Units.{extent_bytes}
 use Rattle.pk_manifest.specs.Current.{HasBody, units_of_disk}
-use Rattle.pk_manifest.specs.Sound.{are_numbers, entry_limit, same_segment, named, extents_of, dead_extents, table_extents, is_extent, is_dead, is_part, is_table, is_sound, IsBody, SaysSound}
-use Rattle.pk_manifest.specs.Fields.{number_at, extent_at, dead_at, part_at, parts_at, version_at, count_at, table_at, size_at, is_placed, entries_in, body_at}
+use Rattle.pk_manifest.specs.Sound.{entry_limit, named, extents_of, dead_extents, table_extents, is_extent, is_dead, is_part, is_table, is_sound, IsBody, SaysSound}
+use Rattle.pk_manifest.specs.Fields.{extent_at, dead_at, part_at, parts_at, version_at, count_at, table_at, size_at, is_placed, entries_in, body_at}
 use Rattle.pk_manifest.proofs.Sound.{at_most, says_sound}
 
 pub record ExtentFits (e : Extent) : Type 0 where

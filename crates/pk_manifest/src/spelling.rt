@@ -4,7 +4,7 @@ ghost use Rattle.std.specs.List.{flat_map};
 ghost use lib.ListN.{replicate};
 ghost use Rattle.pk_manifest.specs.Bodies.{body_size};
 ghost use Rattle.pk_manifest.specs.Spelling.{dead_fields, entry, extent_fields, front, le32, le64};
-ghost use Rattle.pk_manifest.specs.Spelling.{magic, numbers, places, spelling, table_of, text};
+ghost use Rattle.pk_manifest.specs.Spelling.{numbers, places, spelling, table_of, text};
 ghost use Rattle.pk_manifest.specs.Spelling.{view};
 ghost use Rattle.pk_manifest.specs.Sound.{entry_limit};
 

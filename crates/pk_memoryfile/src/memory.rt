@@ -1,6 +1,6 @@
 //! A file in memory, whose calls are short, interrupted or refused by a script.
 
-ghost use Rattle.std.specs.Prelude.{◌≡◌, IfOk, IsTrue};
+ghost use Rattle.std.specs.Prelude.{◌≡◌, IfOk, IsTrue, true};
 ghost use Rattle.pk_disk.specs.Since.{IsOnlyRead};
 ghost use Rattle.pk_disk.specs.Memory.{image_now, only_image_now};
 ghost use Rattle.pk_filedisk.specs.Resized.{resized};
@@ -112,6 +112,8 @@ impl RawFile for MemoryFile {
     ghost is_settled = { λ m. m.is_settled };
 
     ghost is_named = { λ m. m.is_named };
+
+    ghost is_sure = { λ _. true };
 
     ghost honest = { Unit {0} };
 

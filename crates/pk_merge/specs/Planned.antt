@@ -17,6 +17,8 @@ pub record HasPlanned (p : WordPlan) (words : List (List ℕ)) (docs : List Doc)
   pub postings_are : p.postings ≡ length (lists_of words docs)
   pub terms_are : p.terms ≡ length words
   pub longest_is : All (λ w. length (list_spelling (list_with w docs)) ≤ p.longest_list) words
+  pub no_longer : (n : ℕ) → All (λ w. length (list_spelling (list_with w docs)) ≤ n) words
+      → p.longest_list ≤ n
 
 -- its dictionary is of some entries
 abbrev pub IsWritten : WordPlan → Type 0

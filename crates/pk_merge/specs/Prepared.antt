@@ -28,6 +28,9 @@ pub record IsPrepared (bytes : List ℕ) (inputs : List MergeInput) (stored : Li
   pub front_is : p.front.items ≡ header_in (live_in stored) 2 ++ directory 0 (live_in stored)
   pub enough : All (λ w. length (list_spelling (list_with w (live_in stored)))
       ≤ length p.encoded.items) (terms_of (live_in stored))
+  -- and no more than the longest list needs
+  pub no_more : (n : ℕ) → All (λ w. length (list_spelling (list_with w (live_in stored))) ≤ n)
+      (terms_of (live_in stored)) → length p.encoded.items ≤ n
   pub size_is : p.size ≡ segment_length (live_in stored) 2
   pub fits : p.size ≤ longest
 

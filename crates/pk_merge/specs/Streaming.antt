@@ -125,6 +125,7 @@ merge_still bytes bytes' inputs p stored agree is =
         dictionary_is = was.dictionary_is;
         front_is = was.front_is;
         enough = was.enough;
+        no_more = was.no_more;
         size_is = was.size_is;
         fits = was.fits;
       };

@@ -31,6 +31,7 @@ pub(crate) struct WordPlan {
 fn greater(a: u32, b: u32) -> u32
     ensures first { a ≤ result }
     ensures second { b ≤ result }
+    ensures least { (n : ℕ) → a ≤ n → b ≤ n → result ≤ n }
 {
     if a < b { b } else { a }
 }

@@ -1,7 +1,7 @@
 -- A list from its blocks and its tail.
 use Rattle.std.proofs.Common.{◌≡◌, ℕ, zero, suc, ◌<◌, ◌≤◌, ◌+◌, ◌-◌, ◌*◌, ◌/◌, ◌%◌, ◌^◌, inl, inr, List, [], ◌∷◌, ◌++◌, length, take, drop, slice_index, arith, refl, sym, ap, ap₂, ◌∙◌, length-append, length-drop}
 use Rattle.std.proofs.lemmas.Bool.{cases_lt}
-use Rattle.std.proofs.lemmas.List.{take-append-drop, drop_at, get_or_append_left, get_or-append_right, get_or-drop}
+use Rattle.std.proofs.lemmas.List.{take-append-drop, drop_at, get_or_append_left, get_or-append_right, get_or-drop, get_or-take, length-take-le}
 use Rattle.pk_posting.specs.Posting.{word, Spells, tail_place, tail_bytes}
 use Rattle.pk_posting.specs.Reading.{ReadTo}
 use Rattle.pk_posting.specs.declared.decoding.DecodeFault.{DecodeFault}
@@ -13,6 +13,15 @@ climbs_at : (before : ℕ) (xs : List ℕ) → Climbs before xs → (i : ℕ) �
 climbs_at before [] c i h = absurd (omega arith)
 climbs_at before (x ∷ xs) c zero h = (c.0, c.1)
 climbs_at before (x ∷ xs) c (suc i) h = climbs_at x xs c.2 i (omega arith)
+
+-- from whatever number they climb, they rise from 0
+pub climbs_rise : (before n : ℕ) (xs : List ℕ) → n ≤ length xs → Climbs before (take n xs) → (i : ℕ) → i < n → slice_index (0 ∷ xs) i < slice_index xs i
+climbs_rise before n xs h c zero l =
+    let long = length-take-le n xs h in
+    omega (arith, (climbs_at before (take n xs) c 0 (omega (arith, long))).0, get_or-take n xs 0 0 l)
+climbs_rise before n xs h c (suc i) l =
+    let long = length-take-le n xs h in
+    omega (arith, (climbs_at before (take n xs) c (suc i) (omega (arith, long))).0, get_or-take n xs i 0 (omega arith), get_or-take n xs (suc i) 0 l)
 
 pub climbs_from : (before : ℕ) (xs : List ℕ) → ((i : ℕ) → i < length xs → slice_index (before ∷ xs) i < slice_index xs i) → ((i : ℕ) → i < length xs → slice_index xs i < 2 ^ 32) → Climbs before xs
 climbs_from before [] f g = tt

@@ -56,6 +56,15 @@ pub record ReadTo (bytes : List ℕ) (B k : ℕ) (out before : List ℕ) (at wid
   pub below : (i : ℕ) → i < 128 * k → slice_index out i < 2 ^ 32
   pub only : (xs : List ℕ) → Spells bytes xs → length xs / 128 ≡ B → take (128 * k) xs ≡ out
 
+-- how many bytes spell so many numbers at least: a block's width is 3 or more
+abbrev pub least_bytes : ℕ → ℕ
+least_bytes count = 4 + 68 * (count / 128) + 16 * ((count / 128 + 15) / 16) + count % 128
+
+-- the bytes have room for the numbers that they count
+pub record HaveRoom (bytes : List ℕ) : Type 0 where
+  pub most : word bytes 0 ≤ 134217728
+  pub long : least_bytes (word bytes 0) ≤ length bytes
+
 -- Damaged says that no list of B blocks is spelled
 abbrev pub NotSpelled : List ℕ → ℕ → DecodeFault → Type 0
 NotSpelled bytes B Damaged = (xs : List ℕ) → Spells bytes xs → length xs / 128 ≡ B → ⊥

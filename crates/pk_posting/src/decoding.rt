@@ -2,11 +2,11 @@
 
 ghost use Rattle.std.specs.Prelude.{◌≡◌, ◌+◌, ◌*◌, ◌/◌, ◌%◌, ◌<◌, ◌≤◌, ◌++◌, ◌↔◌};
 ghost use Rattle.std.specs.Prelude.{ℕ, List, [], length, IfOk, IfErr, OnOk, IsTrue, MatchResult};
-ghost use Rattle.std.specs.Prelude.{true, slice_index, MatchOption, vec_capacity, vec_len};
+ghost use Rattle.std.specs.Prelude.{true, slice_index, IsErrOf, MatchOption, vec_capacity, vec_len};
 ghost use Rattle.pk_posting.specs.Posting.{word, differences, IsRightBlock, NeedsBits, Spells};
 ghost use Rattle.pk_posting.specs.Posting.{base};
-ghost use Rattle.pk_posting.specs.Reading.{Begun, Breaks, Gives, IsRestored, IsTaken, ReadTo};
-ghost use Rattle.pk_posting.specs.Reading.{NotSpelled};
+ghost use Rattle.pk_posting.specs.Reading.{Begun, Breaks, Gives, HaveRoom, IsRestored, IsTaken};
+ghost use Rattle.pk_posting.specs.Reading.{NotSpelled, ReadTo};
 ghost use Rattle.pk_posting.specs.Tails.{TailRead, NoTail, NoList};
 ghost use Rattle.pk_posting.specs.declared.decoding.DecodeFault.TheVariants.{Memory};
 
@@ -46,6 +46,10 @@ pub fn decode(alloc: Global, bytes: &[u8]) -> Result<Vec<u32>, DecodeFault>
     ensures list { IfOk result (λ v. Spells bytes.now v.items) }
     ensures memory { IfOk result (λ v. vec_capacity v ≡ length v.items) }
     ensures damaged { IfErr result (NoList bytes.now) }
+
+    // No memory is asked for where the bytes have no room for as many numbers as they count.
+    ensures asks { IsErrOf result DecodeFault.Memory → HaveRoom bytes.now }
+
     ensures spelled { (xs : List ℕ) → Spells bytes.now xs
         → MatchResult result (λ v. v.items ≡ xs) (λ fault. fault ≡ Memory) }
 {

@@ -1,10 +1,10 @@
 //! The parts of a list that lies in a source, each taken out by a few stretches.
 
-ghost use Rattle.std.specs.Prelude.{◌≡◌, ◌+◌, ◌*◌, ◌/◌, ◌%◌, ◌<◌, ◌≤◌};
+ghost use Rattle.std.specs.Prelude.{◌≡◌, ◌+◌, ◌*◌, ◌/◌, ◌%◌, ◌<◌, ◌≤◌, ◌∷◌};
 ghost use Rattle.std.specs.Prelude.{ℕ, List, length, take, drop, slice_index};
-ghost use Rattle.std.specs.Prelude.{IfOk, IfErr, IsOk, MatchResult, true};
+ghost use Rattle.std.specs.Prelude.{IfOk, IfErr, IsOk, IsTrue, MatchResult, true};
 ghost use Rattle.pk_posting.specs.Posting.{Spells, base, block, tail_place, word};
-ghost use Rattle.pk_posting.specs.Tails.{IsTail};
+ghost use Rattle.pk_posting.specs.Tails.{Climbs, IsTail};
 ghost use Rattle.pk_posting.specs.Parts.{Fits, HasShape, LiesIn, bytes_at};
 ghost use Rattle.pk_posting.specs.Source.{IsRead};
 
@@ -85,7 +85,7 @@ pub fn block_in<S: ByteSource>(
 
 /// Puts the numbers after the whole blocks into the front of `xs`, by two stretches at most, and
 /// says how many they are: fewer than 128. It is Damaged where what is read shows that no list is
-/// spelled. After a refusal nothing is known of `xs`.
+/// spelled: the numbers that it gives rise, from 1 on. After a refusal nothing is known of `xs`.
 pub fn tail_in<S: ByteSource>(
     source: &mut S,
     place: ListPlace,
@@ -99,6 +99,8 @@ pub fn tail_in<S: ByteSource>(
         → MatchResult result (λ n. take n xs.new ≡ drop (128 * shape.blocks) ys)
         (λ e. e ≡ SourceFault.Disk) }
     ensures count { IfOk result (λ n. n ≡ shape.count % 128) }
+    ensures rises { IfOk result (λ n. (i : ℕ) → i < n
+        → slice_index (0 ∷ xs.new) i < slice_index xs.new i) }
     ensures left { IsRead S.honest S.content S.asked S.failures S.keeps
         2 result source.old source.new }
 {
@@ -213,6 +215,7 @@ fn read_tail_in<S: ByteSource>(
     ensures spelled { S.honest → (ys : List ℕ)
         → IsTail (bytes_at (S.content source.old) place) tail before count ys
         → MatchResult result (λ _. take count xs.new ≡ ys) (λ e. e ≡ SourceFault.Disk) }
+    ensures climbs { IsOk result → Climbs before (take count xs.new) }
     ensures left { IsRead S.honest S.content S.asked S.failures S.keeps
         1 result source.old source.new }
 {
@@ -229,7 +232,8 @@ fn read_tail_in<S: ByteSource>(
 // Whether the first bytes are so many numbers that rise; then they are the front of `xs`.
 fn take_tail(bytes: &[u8], before: u32, count: usize, xs: &mut [u32; 128]) -> bool
     requires { count < 128 }
-    ensures { (ys : List ℕ) → IsTail bytes.now 0 before count ys
+    ensures climbs { IsTrue result → Climbs before (take count xs.new) }
+    ensures only { (ys : List ℕ) → IsTail bytes.now 0 before count ys
         → (result ≡ true) × (take count xs.new ≡ ys) }
 {
     let mut at = 0;

@@ -1,5 +1,5 @@
 -- What a read does to what was read and done so far.
-use Rattle.std.proofs.Common.{◌≡◌, ℕ, ◌+◌, ◌<◌, ◌≤◌, ◌^◌, true, false, Option, Some, None, List, [], ◌++◌, length, take, refl, sym, ap, ◌∙◌, subst, append_assoc, length-append, arith, Result, Ok, Err}
+use Rattle.std.proofs.Common.{◌≡◌, ℕ, ◌+◌, ◌*◌, ◌<◌, ◌≤◌, ◌^◌, true, false, Option, Some, None, List, [], ◌++◌, length, take, refl, sym, ap, ◌∙◌, subst, append_assoc, length-append, arith, Result, Ok, Err}
 use Rattle.std.proofs.lemmas.Grind.{common_steps}
 use Rattle.std.proofs.lemmas.List.{append-nil}
 use Rattle.std.specs.Io.KnownBytes.{Consumes, Keeps, IsAtEnd}
@@ -7,7 +7,7 @@ use Rattle.pk_model.specs.Steps.{Request, Answer}
 use Rattle.pk_model.specs.declared.commands.Refusal.{Refusal}
 use Rattle.pk_shell.specs.Asked.{asked_held, is_blank}
 use Rattle.pk_shell.specs.Transcript.{AnswersLine, Continues, Quits, IsCutOff}
-use Rattle.pk_shell.specs.Script.{Served, CutShort, Broken, Overlong}
+use Rattle.pk_shell.specs.Script.{Served, CutShort, Broken, Overlong, TakesAtMost}
 use Rattle.pk_shell.specs.Progress.{Progress}
 use Rattle.pk_shell.specs.declared.ending.Ended.TheVariants.{Quit, InputEnd}
 use Rattle.pk_shell.proofs.Transcripts.{begun, served_quit, served_end, served_last, cut_short, cut_last, broken, overlong}
@@ -54,16 +54,54 @@ pub read_end : (r r' : Option (List ℕ)) (n : ℕ) (buffer : List ℕ) → n �
     → Consumes r r' [] × IsAtEnd r'
 read_end r r' n buffer z p room = (rw z at p.0, p.1 z room)
 
+reads_fewer : (reads : ℕ) (read chunk : List ℕ) → length read ≤ 16384 * reads → length chunk ≤ 16384
+    → length (read ++ chunk) ≤ 16384 * (reads + 1)
+reads_fewer reads read chunk few less =
+    let k : length (read ++ chunk) ≡ length read + length chunk = length-append read chunk in
+    rw k (omega (arith, few, less))
+
+pub few_came : (n : ℕ) (buffer chunk : List ℕ) → length buffer ≡ 16384 → chunk ≡ take n buffer → length chunk ≤ 16384
+few_came n buffer chunk long e = rw e (grind (arith, common_steps, long))
+
+-- the same of what a read that consumed it put there
+pub few_read : (r r' : Option (List ℕ)) (n : ℕ) (buffer chunk : List ℕ) → Consumes r r' (take n buffer)
+    → length buffer ≡ 16384 → chunk ≡ take n buffer → length chunk ≤ 16384
+few_read r r' n buffer chunk k = few_came n buffer chunk
+
+-- no more is taken than the reads gave
+took : (most : ℕ) (r0 r r' : Option (List ℕ)) (read chunk : List ℕ) → Consumes r0 r read → Consumes r r' chunk
+    → length read + length chunk ≤ most → TakesAtMost most r0 r'
+took most None r r' read chunk h k few = tt
+took most (Some xs) None r' read chunk h k few = absurd h
+took most (Some xs) (Some ys) None read chunk h k few = absurd k
+took most (Some xs) (Some ys) (Some zs) read chunk h k few =
+    omega (arith, few, ap length h ∙ length-append read ys, ap length k ∙ length-append chunk zs)
+
+pub consumes_kept_none : (r r' : Option (List ℕ)) → Keeps r r' → Consumes r r' []
+consumes_kept_none None r' k = tt
+consumes_kept_none (Some xs) None k = absurd k
+consumes_kept_none (Some xs) (Some ys) k = sym k
+
+pub takes_none : (most : ℕ) (r : Option (List ℕ)) → TakesAtMost most r r
+takes_none most None = tt
+takes_none most (Some xs) = omega arith
+
 module _ {S : Type 0} (Step : S → Request → Result Answer Refusal → S → Type 0) where
   pub started : (s : S) (r w h : Option (List ℕ)) → h ≡ Some [] → Progress Step s r r w 0 h s w
   started s r w h e = rw e (record {
     read = [];
     consumed = consumes_start r;
     many = omega arith;
+    few = omega arith;
     transcript = begun Step s w;
   })
 
   -- no read more
+  pub all_taken : (s0 s : S) (r0 r w0 w h : Option (List ℕ)) (reads : ℕ) → Progress Step s0 r0 r w0 reads h s w
+      → reads ≤ 2 ^ 40 → TakesAtMost (2 ^ 54) r0 r
+  all_taken s0 s r0 r w0 w h reads p k =
+      took (2 ^ 54) r0 r r p.read [] p.consumed (consumes_start r) (omega (arith, p.few, k))
+
   pub too_many : (s0 s : S) (r0 r w0 w h : Option (List ℕ)) (reads : ℕ) → Progress Step s0 r0 r w0 reads h s w
       → 2 ^ 40 ≤ reads → Overlong Step s0 r0 r w0 w s
   too_many s0 s r0 r w0 w h reads p k =
@@ -75,12 +113,13 @@ module _ {S : Type 0} (Step : S → Request → Result Answer Refusal → S → 
       read_all : Consumes r0 r' (p.read ++ chunk)
       read_all = consumes_more r0 r r' p.read chunk p.consumed came
 
-      pub goes_on : (h' : Option (List ℕ)) → 0 < length chunk → Continues Step h s w chunk h' s' w'
+      pub goes_on : (h' : Option (List ℕ)) → 0 < length chunk → length chunk ≤ 16384 → Continues Step h s w chunk h' s' w'
           → Progress Step s0 r0 r' w0 (reads + 1) h' s' w'
-      goes_on h' some k = record {
+      goes_on h' some less k = record {
         read = p.read ++ chunk;
         consumed = read_all;
         many = reads_more reads p.read chunk p.many some;
+        few = reads_fewer reads p.read chunk p.few less;
         transcript = k s0 w0 p.read p.transcript;
       }
 
@@ -89,6 +128,10 @@ module _ {S : Type 0} (Step : S → Request → Result Answer Refusal → S → 
 
       pub is_cut : IsCutOff Step h s w chunk s' w' → CutShort Step s0 r0 r' w0 w' s'
       is_cut k = cut_short Step s0 s' r0 r' w0 w' (p.read ++ chunk) read_all (k s0 w0 p.read p.transcript)
+
+    -- a read that was one of 2^40 at most
+    pub takes : (chunk : List ℕ) → Consumes r r' chunk → length chunk ≤ 16384 → reads < 2 ^ 40 → TakesAtMost (2 ^ 54) r0 r'
+    takes chunk came less more = took (2 ^ 54) r0 r r' p.read chunk p.consumed came (omega (arith, p.few, less, more))
 
     -- a read that failed
     pub fails : Keeps r r' → Broken Step s0 r0 r' w0 w s

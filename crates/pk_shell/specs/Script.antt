@@ -1,6 +1,6 @@
 -- Legal scripts, over any engine: S is what it means, Step says which of its steps are legal.
-use Rattle.std.specs.Prelude.{◌≡◌, ℕ, ◌⊎◌, ◌<◌, ◌≤◌, ◌^◌, List, [], ◌∷◌, ◌++◌, codes, length}
-use Rattle.std.specs.Prelude.{Option, Result, Ok, Err, MatchBool}
+use Rattle.std.specs.Prelude.{◌≡◌, ℕ, ◌⊎◌, ◌<◌, ◌≤◌, ◌+◌, ◌^◌, List, [], ◌∷◌, ◌++◌, codes, length}
+use Rattle.std.specs.Prelude.{Option, None, Some, Result, Ok, Err, MatchBool}
 use Rattle.std.specs.List.{flat_map, AllByRecursion}
 use Rattle.std.specs.Io.KnownBytes.{Appends, Consumes, IsAtEnd}
 use Rattle.pk_model.specs.Tree.{Tree}
@@ -97,6 +97,12 @@ pub record IsUntouched {S : Type 0} (s : S) (r r' w w' : Option (List ℕ)) (s' 
   pub reader : r' ≡ r
   pub writer : w' ≡ w
   pub state : s' ≡ s
+
+-- no more than so many bytes were taken from a reader, where its bytes are known
+abbrev pub TakesAtMost : ℕ → Option (List ℕ) → Option (List ℕ) → Type 0
+TakesAtMost most None new = Unit {0}
+TakesAtMost most (Some xs) None = ⊥
+TakesAtMost most (Some xs) (Some ys) = length xs ≤ length ys + most
 
 -- THE SHELL'S THEOREM, by how it ends
 abbrev pub Ends : {S : Type 0} → (S → Request → Result Answer Refusal → S → Type 0)

@@ -1,8 +1,9 @@
 //! Lines from a reader, replies to a writer.
 
+ghost use Rattle.std.specs.Prelude.{◌^◌};
 ghost use Rattle.pk_shell.specs.Asked.{asked_held};
 ghost use Rattle.pk_shell.specs.Called.{EndsByCalls};
-ghost use Rattle.pk_shell.specs.Script.{Ends};
+ghost use Rattle.pk_shell.specs.Script.{Ends, TakesAtMost};
 ghost use Rattle.pk_shell.specs.StoreStep.{StoreStep};
 ghost use Rattle.pk_shell.specs.Transcript.{AnswersLine, AnswersLines};
 
@@ -75,7 +76,7 @@ fn answer_lines<W: Write, D: Disk>(
 /// takes its memory before the first read, and ends after 2^40 reads at the latest.
 ///
 /// What each ending means is `Ends`, in specs/: a fault names what was answered before it. How
-/// much behind a `quit` was taken from the reader is open.
+/// much behind a `quit` was taken from the reader is open, but all in all no more than 2^54 bytes are.
 pub fn serve<R: Read, W: Write, D: Disk>(
     alloc: Global,
     reader: &mut R,
@@ -85,6 +86,9 @@ pub fn serve<R: Read, W: Write, D: Disk>(
     ensures ends { Ends (StoreStep D.Disk) store.old
         (R.remaining reader.old) (R.remaining reader.new)
         (W.contents writer.old) (W.contents writer.new) result store.new }
+
+    // What 2^40 reads of 16,384 bytes give, at the most.
+    ensures taken { TakesAtMost (2 ^ 54) (R.remaining reader.old) (R.remaining reader.new) }
 
     // Each line that asks the store is the next call of it, and each image since a call began holds
     // a prefix of what was accepted that has what was acknowledged before.

@@ -1,5 +1,5 @@
 -- What a check answers: the half beside the spare one is in force, with the body that is kept.
-use Rattle.std.proofs.Common.{◌≡◌, ℕ, true, false, List, length, refl, ap, subst, ◌∙◌, Result, Ok, Err}
+use Rattle.std.proofs.Common.{◌≡◌, ℕ, true, false, List, length, refl, ap, ◌∙◌, Result, Ok, Err}
 use Rattle.pk_check.specs.declared.body.Checked.{Checked}
 use Rattle.pk_check.specs.Holding.{ChecksBodyAs, IsOfBody}
 use Rattle.pk_disk.specs.declared.disk.Disk.{Ghosts}

@@ -96,6 +96,8 @@ impl<'a, F: RawFile> RawFile for NotedFile<'a, F> {
 
     ghost is_named = { λ f. F.is_named f.file };
 
+    ghost is_sure = { λ f. F.is_sure f.file };
+
     ghost honest = { F.honest };
 
     fn try_lock(&mut self) -> Result<(), CallFault> {
@@ -299,25 +301,39 @@ fn has_noted_next(system: &FakeSystem, noted: &str) -> bool {
     }
 }
 
-// The call fails, is noted, and is made again.
-fn reach_the_file(rt: &impl Abort, alloc: Global, asked: Call, noted: &str) -> Result<(), Fail> {
+// The call fails, and is noted; it is made again, and then the file was called so often.
+fn reach_the_file(
+    rt: &impl Abort,
+    alloc: Global,
+    asked: Call,
+    noted: &str,
+    again: Result<(), DiskFault>,
+    count: u64,
+) -> Result<(), Fail> {
     let system = FakeSystem::new(alloc, 6, FileFault::Disk);
     let mut disk = FileDisk::make(&system.files(), "s", 64)?;
     assert!(rt; make_call(&mut disk, asked).is_err());
     assert!(rt; has_noted_next(&system, noted), "{noted}");
-    assert!(rt; make_call(&mut disk, asked).is_ok());
-    assert!(rt; system.count.get() == 7);
+    assert!(rt; make_call(&mut disk, asked) == again);
+    assert!(rt; system.count.get() == count);
     Ok(())
 }
 
 // Each call of a disk is one of the file: a sync one of its data. Where that fails the fault comes
-// back, and the same call may be made again.
+// back; a read and a write may be made again, and of a sync the file is not asked again.
 #[test]
 fn each_call_reaches_the_file(rt: HostRuntime) -> Result<(), Fail> {
     let alloc = rt.alloc();
-    reach_the_file(&rt, alloc, Call::Read, ", read_at file")?;
-    reach_the_file(&rt, alloc, Call::Write, ", write_at file")?;
-    reach_the_file(&rt, alloc, Call::Sync, ", sync_data file")
+    reach_the_file(&rt, alloc, Call::Read, ", read_at file", Ok(()), 7)?;
+    reach_the_file(&rt, alloc, Call::Write, ", write_at file", Ok(()), 7)?;
+    reach_the_file(
+        &rt,
+        alloc,
+        Call::Sync,
+        ", sync_data file",
+        Err(DiskFault),
+        6,
+    )
 }
 
 // Over the end of a disk of zeros: ten bytes are written, and are read with the one before them.

@@ -8,7 +8,7 @@ use Rattle.pk_manifest.specs.declared.manifest.Part.{Part as Entry}
 use Rattle.pk_manifest.specs.Spelling.{view}
 use Rattle.pk_segment.specs.declared.fault.ReadFault.{ReadFault}
 use Rattle.pk_state.specs.Kept.{LieInside}
-use Rattle.pk_state.proofs.HoldsLemmas.{have_kinds, lie_inside}
+use Rattle.pk_state.proofs.HoldsLemmas.{lie_inside}
 use Rattle.pk_check.proofs.BodyLemmas.{fault_held, stands_checked}
 use Rattle.pk_check.proofs.body.check_body.Goals as goal
 

@@ -4,6 +4,7 @@ use Rattle.pk_dict.specs.LookUp.{scanned}
 use Rattle.pk_dict.specs.Place.{bytes_at}
 use Rattle.pk_dict.specs.Reading.{Gives}
 use Rattle.pk_dict.proofs.Probing.{says_entry}
+use Rattle.pk_dict.proofs.Told.{answer_said, look_up_said}
 use Rattle.pk_dict.proofs.look_up.look_up_near.Goals as goal
 
 pub returns-then-groups_of-gt-MOST_GROUPS-clause-most : goal.returns-then-groups_of-gt-MOST_GROUPS-clause-most
@@ -23,3 +24,15 @@ returns-clause-found g c = λ h es lies d len.
 
 pub returns-clause-most : goal.returns-clause-most
 returns-clause-most g c = omega (arith, c.in_ok-standing.ensures.asks 26 (omega (arith, c.groups_of.ensures)), c.scan_after.ensures.left.asks)
+
+pub returns-then-groups_of-gt-MOST_GROUPS-clause-said : goal.returns-then-groups_of-gt-MOST_GROUPS-clause-said
+returns-then-groups_of-gt-MOST_GROUPS-clause-said g c = λ h.
+    look_up_said (g.S.ByteSource.content c.args.source.now) c.args.place c.args.term.now _ c.look_up_in.ensures.inside (c.look_up_in.ensures.value h)
+
+pub returns-clause-said : goal.returns-clause-said
+returns-clause-said g c = λ h.
+    let place = c.args.place in
+    let term : List ℕ = c.args.term.now in
+    let standing = c.in_ok-standing.standing in
+    answer_said (bytes_at (g.S.ByteSource.content c.args.source.now) place) place.terms term standing _ (c.in_ok-standing.ensures.told h)
+    (subst (λ (l : List ℕ). Gives c.scan_after.result (scanned (bytes_at l place) place.terms term standing)) (c.in_ok-standing.ensures.left.same h) (c.scan_after.ensures.value h))

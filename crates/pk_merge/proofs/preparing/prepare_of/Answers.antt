@@ -64,6 +64,7 @@ returns-clause-prepared c = λ bytes inputs stored listed kept can planned.
       front_is = c.in_ok-front.ensures.bytes ∙ front_same docs c.len-documents.result (c.bytes-plain.result - 24 - 12 * c.len-documents.result) c.args.plan.postings (c.from.result + c.from-2.result + c.size.result - c.bytes-plain.result - c.args.plan.postings) c.args.plan.terms (kept_directory 0 c.deref.result.now)
           count (omega (arith, plain, front_of docs, count)) lists (omega (arith, c.from.ensures, c.from-2.ensures, words_are)) planned.terms_are (ap (kept_directory 0) c.deref.ensures.value ∙ directory_is bytes 0 ks docs kept);
       enough = λ k d within. omega (arith, planned.longest_is k d within, c.in_ok-encoded.ensures.len, c.in_ok-encoded.encoded.ok);
+      no_more = λ n most. omega (arith, planned.no_longer n most, c.in_ok-encoded.ensures.len, c.in_ok-encoded.encoded.ok);
       size_is = omega (arith, c.from.ensures, c.from-2.ensures, whole);
       fits = omega (arith, c.if-size-from.false, c.from-3.ensures);
     }

@@ -16,11 +16,11 @@ pub returns-then-not-take_tail-clause-spelled : goal.returns-then-not-take_tail-
 returns-then-not-take_tail-clause-spelled g c h ys t =
     let own = tail_lent (g.S.ByteSource.content c.args.source.now) c.args.place _ c.args.tail c.in_ok-stretch.stretch.now c.args.before c.args.count ys c.requires.lies.inside (omega arith)
     (record { inside = omega arith; is = c.in_ok-stretch.ensures.value h }) t in
-    let r = c.take_tail.ensures ys own in
+    let r = c.take_tail.ensures.only ys own in
     absurd (false_is c.take_tail.result r.0 c.if-not-take_tail.true)
 
 pub returns-clause-spelled : goal.returns-clause-spelled
 returns-clause-spelled g c h ys t =
     let own = tail_lent (g.S.ByteSource.content c.args.source.now) c.args.place _ c.args.tail c.in_ok-stretch.stretch.now c.args.before c.args.count ys c.requires.lies.inside (omega arith)
     (record { inside = omega arith; is = c.in_ok-stretch.ensures.value h }) t in
-    (c.take_tail.ensures ys own).1
+    (c.take_tail.ensures.only ys own).1

@@ -1,7 +1,7 @@
 use Rattle.std.proofs.Common.{◌≡◌, ◌+◌, [], ◌∙◌, take, drop, arith, refl}
 use Rattle.std.proofs.lemmas.List.{take_rest, take_more_set}
 use Rattle.pk_vbyte.specs.VariableByte.{Takes}
-use Rattle.pk_posting.proofs.TailLemmas.{tail_none, tail_more, no_next}
+use Rattle.pk_posting.proofs.TailLemmas.{tail_none, tail_more, no_next, read_climbs}
 use Rattle.pk_posting.proofs.PartLemmas.{tail_taken}
 use Rattle.pk_posting.proofs.parts.take_tail.Goals as goal
 use Rattle.pk_posting.proofs.parts.take_tail.Goals.{then-gap-eq0-via-then-gap-eq0, then-gap-eq0-via-else-gap-eq0+then-gap-here}
@@ -9,13 +9,13 @@ use Rattle.pk_posting.proofs.parts.take_tail.Goals.{then-gap-eq0-via-then-gap-eq
 pub loop-i-init : goal.loop-i-init
 loop-i-init c = record { room = omega arith; read = tail_none c.args.bytes.now 0 c.args.before c.args.count [] (omega arith) }
 
-pub returns-in_default : goal.returns-in_default
-returns-in_default c ys t =
+pub returns-in_default-clause-only : goal.returns-in_default-clause-only
+returns-in_default-clause-only c ys t =
     absurd (no_next c.args.bytes.now 0 c.args.before c.args.count c.loop-i.i c.loop-i.at c.loop-i.here _ _ c.loop-i-test.true c.loop-i.invariant.read
     (λ v rest h s l e. c.in_default.ensures.only v rest h (take_rest c.args.bytes.now c.loop-i.at ∙ e)) ys t)
 
-pub returns-then-gap-eq0 : goal.returns-then-gap-eq0
-returns-then-gap-eq0 c ys t =
+pub returns-then-gap-eq0-clause-only : goal.returns-then-gap-eq0-clause-only
+returns-then-gap-eq0-clause-only c ys t =
     absurd (no_next c.args.bytes.now 0 c.args.before c.args.count c.loop-i.i c.loop-i.at c.loop-i.here _ _ c.loop-i-test.true c.loop-i.invariant.read
     (λ v rest h s l e.
     let same = c.in-Ok.ensures.only v rest h (take_rest c.args.bytes.now c.loop-i.at ∙ e) in
@@ -33,7 +33,12 @@ loop-i-preserved c =
       read = rw (take_more_set c.loop-i.xs c.loop-i.i (c.loop-i.here + c.in-Ok.gap) (omega arith)) more;
     }
 
-pub returns : goal.returns
-returns c ys t =
+pub returns-clause-climbs : goal.returns-clause-climbs
+returns-clause-climbs c h =
+    let all : c.loop-i.i ≡ c.args.count = omega arith in
+    read_climbs c.args.bytes.now 0 c.args.before c.args.count c.args.count c.loop-i.at c.loop-i.here _ (rw all at c.loop-i.invariant.read)
+
+pub returns-clause-only : goal.returns-clause-only
+returns-clause-only c ys t =
     let all : c.loop-i.i ≡ c.args.count = omega arith in
     (refl, tail_taken c.args.bytes.now c.args.before c.args.count c.loop-i.at c.loop-i.here _ ys (rw all at c.loop-i.invariant.read) t)

@@ -1,9 +1,10 @@
 -- Each ending, from what was read so far.
-use Rattle.std.proofs.Common.{◌<◌, ◌∙◌, sym, refl, length, arith, rules}
+use Rattle.std.proofs.Common.{◌<◌, ◌∙◌, [], sym, refl, length, arith, rules}
 use Rattle.std.proofs.lemmas.Grind.{common_steps}
 use Rattle.std.proofs.lemmas.Result.{err_from_is_err_and}
 use Rattle.pk_shell.proofs.CalledLemmas.{by_calls}
-use Rattle.pk_shell.proofs.ReadLemmas.{started, came, some_came, read_end, goes_on, quits, is_cut, fails, too_many, ends, last_quits, last_ends, last_cut}
+use Rattle.pk_shell.proofs.ReadLemmas.{started, came, some_came, few_came, few_read, read_end, goes_on, quits, is_cut, fails, too_many, ends, last_quits, last_ends, last_cut}
+use Rattle.pk_shell.proofs.ReadLemmas.{all_taken, consumes_kept_none, takes, takes_none}
 use Rattle.pk_shell.proofs.serving.serve.Goals as goal
 
 pub loop-init : goal.loop-init
@@ -52,6 +53,7 @@ pub loop-preserved : goal.loop-preserved
 loop-preserved g c =
     goes_on _ _ _ _ _ _ _ _ _ _ c.loop.invariant _ (came _ _ _ _ _ c.in-Ok.ensures.bytes.0 (grind (arith, common_steps))) _ _ _
     (some_came _ _ _ c.in-Ok.ensures.bound.0 c.in-Ok.n-test.1 (grind (arith, common_steps)))
+    (few_read _ _ _ c.read.new.buf _ c.in-Ok.ensures.bytes.0 (search rules) (grind (arith, common_steps)))
     (rw c.if-branch.false at c.in_ok-answer_lines-in-Ok.ensures)
 
 pub returns-clause-ends : goal.returns-clause-ends
@@ -90,3 +92,40 @@ pub returns-in_err-outbox-clause-calls : goal.returns-in_err-outbox-clause-calls
 returns-in_err-outbox-clause-calls g c =
     let why = err_from_is_err_and c.from_residual-in_err-outbox.result c.from_residual-in_err-outbox.ensures.1 in
     rw (why.1, why.2) (by_calls g.D.Disk (λ honest disk image. g.met.D.Disk.only_now disk image honest) _ _ _ _ _ _ _ (record { reader = refl; writer = refl; state = refl }))
+
+pub returns-in-Err-clause-taken : goal.returns-in-Err-clause-taken
+returns-in-Err-clause-taken g c =
+    takes _ _ _ _ _ _ _ _ _ _ c.loop.invariant [] (consumes_kept_none _ _ c.in-Err.ensures.bytes) (omega arith) (omega (arith, c.loop-test.true))
+
+pub returns-then-is_blank-clause-taken : goal.returns-then-is_blank-clause-taken
+returns-then-is_blank-clause-taken g c =
+    takes _ _ _ _ _ _ _ _ _ _ c.loop.invariant _ c.in-Ok-eq0.ensures.bytes.0 (few_came _ c.read.new.buf _ (search rules) refl) (omega (arith, c.loop-test.true))
+
+pub returns-in_err-quits-in-Ok-eq0-clause-taken : goal.returns-in_err-quits-in-Ok-eq0-clause-taken
+returns-in_err-quits-in-Ok-eq0-clause-taken g c =
+    takes _ _ _ _ _ _ _ _ _ _ c.loop.invariant _ c.in-Ok-eq0.ensures.bytes.0 (few_came _ c.read.new.buf _ (search rules) refl) (omega (arith, c.loop-test.true))
+
+pub returns-then-quits-clause-taken : goal.returns-then-quits-clause-taken
+returns-then-quits-clause-taken g c =
+    takes _ _ _ _ _ _ _ _ _ _ c.loop.invariant _ c.in-Ok-eq0.ensures.bytes.0 (few_came _ c.read.new.buf _ (search rules) refl) (omega (arith, c.loop-test.true))
+
+pub returns-in-Ok-eq0-clause-taken : goal.returns-in-Ok-eq0-clause-taken
+returns-in-Ok-eq0-clause-taken g c =
+    takes _ _ _ _ _ _ _ _ _ _ c.loop.invariant _ c.in-Ok-eq0.ensures.bytes.0 (few_came _ c.read.new.buf _ (search rules) refl) (omega (arith, c.loop-test.true))
+
+pub returns-in_err-answer_lines-in-Ok-clause-taken : goal.returns-in_err-answer_lines-in-Ok-clause-taken
+returns-in_err-answer_lines-in-Ok-clause-taken g c =
+    takes _ _ _ _ _ _ _ _ _ _ c.loop.invariant _ c.in-Ok.ensures.bytes.0 (few_came _ c.read.new.buf _ (search rules) refl) (omega (arith, c.loop-test.true))
+
+pub returns-then-branch-clause-taken : goal.returns-then-branch-clause-taken
+returns-then-branch-clause-taken g c =
+    takes _ _ _ _ _ _ _ _ _ _ c.loop.invariant _ c.in-Ok.ensures.bytes.0 (few_came _ c.read.new.buf _ (search rules) refl) (omega (arith, c.loop-test.true))
+
+pub returns-clause-taken : goal.returns-clause-taken
+returns-clause-taken g c = all_taken _ _ _ _ _ _ _ _ _ c.loop.invariant (omega (arith, c.loop-test.false))
+
+pub returns-in_err-line-clause-taken : goal.returns-in_err-line-clause-taken
+returns-in_err-line-clause-taken g c = takes_none _ _
+
+pub returns-in_err-outbox-clause-taken : goal.returns-in_err-outbox-clause-taken
+returns-in_err-outbox-clause-taken g c = takes_none _ _

@@ -1,6 +1,7 @@
 -- One word more, by its list.
 use Rattle.std.proofs.Common.{◌∙◌, ◌≤◌, ◌++◌, ◌∷◌, [], ℕ, List, length, refl, sym, ap, subst, arith}
-use Rattle.std.proofs.lemmas.List.{length-append}
+use Rattle.std.proofs.lemmas.List.{get_or_append_left, length-append}
+use Rattle.std.specs.Prelude.{All}
 use Rattle.std.proofs.lemmas.List.Elements.{All-push}
 use Rattle.pk_dict.specs.Dictionary.{Item}
 use Rattle.pk_dict.specs.Writer.{HasAdded, MayFollow}
@@ -9,7 +10,11 @@ use Rattle.pk_posting.specs.Spelling.{spelling as list_spelling}
 use Rattle.pk_segment.specs.Indexed.{items_at, list_with, lists_of}
 use Rattle.pk_segment.proofs.IndexLemmas.{items_count}
 use Rattle.pk_segment.proofs.PlanLemmas.{item_is, items_next, lists_next, lists_too_long, words_too_long}
+use Rattle.pk_merge.proofs.GivenLemmas.{all_mid}
 use Rattle.pk_merge.proofs.word_plan.WordPlan.add.Goals as goal
+
+all_before : {X : Type 0} (P : X → Type 0) (xs : List X) (x : X) → All P (xs ++ x ∷ []) → All P xs
+all_before P xs x all = λ k d within. subst P (get_or_append_left xs (x ∷ []) d k within) (all k d (omega (arith, within, length-append xs (x ∷ []))))
 
 pub returns-then-bytes-self-clause-planned : goal.returns-then-bytes-self-clause-planned
 returns-then-bytes-self-clause-planned c = λ docs before after terms list planned.
@@ -41,6 +46,9 @@ returns-clause-planned c = λ docs before after terms list planned.
       added = added;
       longest_is = All-push (λ (v : List ℕ). length (list_spelling (list_with v docs)) ≤ c.greater-self.result) before w
           (λ k v within. omega (arith, planned.longest_is k v within, c.greater-self.ensures.first)) (omega (arith, bytes, c.greater-self.ensures.second));
+      no_longer = λ n most. c.greater-self.ensures.least n
+          (planned.no_longer n (all_before (λ (v : List ℕ). length (list_spelling (list_with v docs)) ≤ n) before w most))
+          (omega (arith, bytes, all_mid (λ (v : List ℕ). length (list_spelling (list_with v docs)) ≤ n) before w [] most));
       postings_are = omega (arith, bytes, ap length all, length-append (lists_of before docs) (list_spelling (list_with w docs)), planned.postings_are);
       terms_are = omega (arith, planned.terms_are, length-append before (w ∷ []), c.saturating_add-self.ensures, added.size, items_count docs 0 (before ++ w ∷ []), as_long (items_at 0 (before ++ w ∷ []) docs));
     }
