@@ -29,9 +29,7 @@ ghost use Rattle.std.specs.Prelude.{
   OnErr,
   MatchOption,
   string_bytes,
-  String,
 };
-ghost use Rattle.std.specs.declared.alloc.Global.{Global};
 ghost use Rattle.pk_plan.specs.declared.plans.Plan.{Plan};
 ghost use Rattle.std.specs.List.Sorted.{IsStrictlyIncreasing};
 ghost use Rattle.pk_buffer.specs.Buffer.{AreBeside, IsOrdered, text_bytes};
@@ -44,7 +42,7 @@ ghost use Rattle.pk_plan.specs.Plans.{means};
 
 use pk_index::Index;
 use pk_model::{DocNo, Document, Query};
-use pk_plan::Plan;
+use pk_plan::Planned;
 use std::alloc::{AllocError, Global};
 use std::marker::Model;
 
@@ -159,15 +157,15 @@ impl Buffer {
         doc_numbers(alloc, &hits)
     }
 
-    /// The numbers of the documents that the plan finds, rising.
-    pub fn find_planned(&self, alloc: Global, plan: &Plan) -> Result<Vec<DocNo>, AllocError>
-        ensures found { IfOk result (λ v. numbers_in v.items ≡ means plan.now self.now) }
+    /// The numbers of the documents that the planned query finds, rising.
+    pub fn find_planned(&self, alloc: Global, planned: &Planned) -> Result<Vec<DocNo>, AllocError>
+        ensures found { IfOk result (λ v. numbers_in v.items ≡ means planned.now self.now) }
         ensures rising { IsStrictlyIncreasing (numbers_of self.now) }
         // One word that no document holds takes no memory.
-        ensures none { (word : String Global) → plan.now ≡ Plan.Term word
-            → answer (Term (string_bytes word)) self.now ≡ [] → IsOk result }
+        ensures none { (place : ℕ) → planned.now.plan ≡ Plan.Term place
+            → means planned.now self.now ≡ [] → IsOk result }
     {
-        let found = self.index.find_planned(alloc, plan, &self.numbers)?;
+        let found = self.index.find_planned(alloc, planned, &self.numbers)?;
         doc_numbers(alloc, &found)
     }
 

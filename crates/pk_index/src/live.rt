@@ -1,9 +1,13 @@
 //! The lists of an index in memory, as far as their numbers are live.
 
-ghost use Rattle.std.specs.Prelude.{◌≡◌, OnOk};
+ghost use Rattle.std.specs.Prelude.{◌≡◌, List, OnOk};
 ghost use Rattle.std.proofs.Common.{◌∙◌, refl, subst, sym};
 ghost use Rattle.std.specs.List.Sorted.{IsStrictlyIncreasing};
+ghost use Rattle.pk_index.specs.Index.{Keeps};
 ghost use Rattle.pk_index.specs.Live.{AreLive};
+ghost use Rattle.pk_model.specs.Collection.{Doc, numbers_of};
+ghost use Rattle.pk_plan.specs.Plans.{found, word_at};
+ghost use Rattle.pk_plan.specs.Words.{texts};
 ghost use Rattle.pk_sets.specs.Sets.{intersection};
 
 use crate::combining::both_into;
@@ -11,34 +15,36 @@ use crate::index::Index;
 use pk_match::{Lists, keep_both};
 use std::alloc::AllocError;
 
-/// An index, and the numbers of the documents of which it is asked.
+/// An index, the numbers of the documents of which it is asked, and the words of a query.
 #[derive(Drop)]
-pub struct LiveLists<'a> {
-    pub index: &'a Index,
-    pub live: &'a [u32],
+pub(crate) struct LiveLists<'a> {
+    pub(crate) index: &'a Index,
+    pub(crate) live: &'a [u32],
+    pub(crate) words: &'a [&'a str],
     ghost rising: { IsStrictlyIncreasing live.now },
 }
 
 impl<'a> Lists for LiveLists<'a> {
     type Fault = AllocError;
 
-    ghost are_of = { λ lists docs. AreLive lists.index.now lists.live.now docs };
+    ghost are_of = { λ lists words docs.
+        AreLive lists.index.now lists.live.now (texts lists.words.now) words docs };
 
     ghost is_no_damage = { λ _. Unit {0} };
 
     ghost leaves = { λ old new fault. new ≡ old };
 
-    fn put(&mut self, word: &str, out: &mut Vec<u32>) -> Result<(), AllocError> {
-        put_live(self.live, self.index.list(word), out)
+    fn put(&mut self, place: usize, out: &mut Vec<u32>) -> Result<(), AllocError> {
+        put_live(self.live, list_at(self.index, self.words, place), out)
     }
 
     fn cut(
         &mut self,
-        word: &str,
+        place: usize,
         numbers: &mut Vec<u32>,
         spare: &mut Vec<u32>,
     ) -> Result<(), AllocError> {
-        keep_both(numbers, self.index.list(word), spare)
+        keep_both(numbers, list_at(self.index, self.words, place), spare)
     }
 
     fn all(&mut self, out: &mut Vec<u32>) -> Result<(), AllocError> {
@@ -46,9 +52,11 @@ impl<'a> Lists for LiveLists<'a> {
         out.extend_from_slice(self.live)
     }
 
-    ghost are_rising = { λ lists docs are. are.rising };
+    ghost are_rising = { λ lists words docs are. are.rising };
 
-    ghost are_still = { λ a b fault docs left are. subst (λ lists. AreLive lists.index.now lists.live.now docs) (sym left) are };
+    ghost are_still = { λ a b fault words docs left are.
+        subst (λ lists. AreLive lists.index.now lists.live.now (texts lists.words.now) words docs)
+        (sym left) are };
 
     ghost leaves_same = { λ _. refl };
 
@@ -57,6 +65,18 @@ impl<'a> Lists for LiveLists<'a> {
     ghost leaves_refused = { λ a b e fault left gives. left };
 
     ghost refused_is = { λ e fault gives. tt };
+}
+
+/// The list of the word at a place; without a number past the last word.
+pub(crate) fn list_at<'a>(index: &'a Index, words: &[&str], place: usize) -> &'a [u32]
+    ensures live { (docs : List Doc) → Keeps index.now docs
+        → intersection (numbers_of docs) result.now ≡ found (word_at (texts words.now) place) docs }
+    ensures rising { IsStrictlyIncreasing result.now }
+{
+    if place >= words.len() {
+        return &[];
+    }
+    index.list(words[place])
 }
 
 // Puts the live numbers of a list into `out`.

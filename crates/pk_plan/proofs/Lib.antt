@@ -2,3 +2,4 @@ pub mod FoundLemmas
 pub mod OperationLemmas
 pub mod OrderLemmas
 pub mod TakingLemmas
+pub mod WordLemmas

@@ -1,3 +1,4 @@
 pub mod Operands
 pub mod Order
 pub mod Plans
+pub mod Words

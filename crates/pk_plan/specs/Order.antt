@@ -1,41 +1,54 @@
--- The order of the words of an intersection.
-use Rattle.std.specs.Prelude.{ℕ, Bool, true, ◌&&◌, List, [], ◌∷◌, map, String, string_bytes, nat_le, if◌then◌else◌}
-use Rattle.std.specs.declared.alloc.Global.{Global}
+-- The order of the words of an intersection, and which parts it has.
+use Rattle.std.specs.Prelude.{ℕ, Bool, true, false, ◌&&◌, ◌||◌, List, [], ◌∷◌, map, get_or, nat_eq, nat_lt}
 use Rattle.std.specs.List.{list_all}
-use Rattle.std.specs.Str.{bytes_eq}
 use Rattle.pk_plan.specs.declared.plans.Plan.{Plan}
 use Rattle.pk_plan.specs.declared.plans.Plan.TheOpen.{Plan-F}
 use Rattle.pk_plan.specs.declared.plans.Plan.TheFolds.{fold-Plan}
 
--- how many documents hold a word, by the first entry that has it; 0 where none has
-abbrev pub frequency_of : List (String Global × ℕ) → List ℕ → ℕ
-frequency_of [] word = 0
-frequency_of (entry ∷ table) word =
-    if bytes_eq (string_bytes entry.0) word then entry.1 else frequency_of table word
+-- how many documents hold the word at a place; 0 where the table ends before it
+abbrev pub frequency_of : List ℕ → ℕ → ℕ
+frequency_of table place = get_or table place 0
 
--- the frequencies of words, one after the other
-abbrev pub frequencies_of : List (String Global × ℕ) → List (String Global) → List ℕ
-frequencies_of table words = map (λ w. frequency_of table (string_bytes w)) words
+-- the word at the one place goes before that at the other: it is rarer, or as rare and earlier in
+-- the query
+abbrev pub precedes : List ℕ → ℕ → ℕ → Bool
+precedes table p q = nat_lt (frequency_of table p) (frequency_of table q)
+    || (nat_eq (frequency_of table p) (frequency_of table q) && nat_lt p q)
 
--- no number is below the one before it
-abbrev pub rises : List ℕ → Bool
-rises [] = true
-rises (x ∷ []) = true
-rises (x ∷ y ∷ ys) = nat_le x y && rises (y ∷ ys)
+-- each place goes before the next
+abbrev pub in_order : List ℕ → List ℕ → Bool
+in_order table [] = true
+in_order table (p ∷ []) = true
+in_order table (p ∷ q ∷ qs) = precedes table p q && in_order table (q ∷ qs)
 
--- one level of a plan, with the answer of each part in its place
-abbrev pub ordered_step : List (String Global × ℕ) → Plan-F Bool → Bool
-ordered_step table (Plan-F.Term word) = true
-ordered_step table Plan-F.All = true
-ordered_step table (Plan-F.Intersect terms parts) =
-    rises (frequencies_of table terms.items) && list_all (λ b. b) parts.items
-ordered_step table (Plan-F.Unite parts) = list_all (λ b. b) parts.items
-ordered_step table (Plan-F.Exclude all less) = all.value && less.value
+-- what a plan is to the plan around it: whether its own intersections are in order, and whether it
+-- is a union
+pub record Standing : Type 0 where
+  pub ordered : Bool
+  pub union : Bool
 
--- the words of each intersection of the plan stand by rising frequency
-abbrev pub is_ordered : List (String Global × ℕ) → Plan → Bool
-is_ordered table = fold-Plan Bool (ordered_step table)
+-- One level of a plan, with the standing of each part in its place. The parts of an intersection are
+-- unions: a word stands among its places, and what would be an intersection is a part of it itself.
+abbrev pub standing_step : List ℕ → Plan-F Standing → Standing
+standing_step table (Plan-F.Term place) = record { ordered = true; union = false }
+standing_step table Plan-F.All = record { ordered = true; union = false }
+standing_step table (Plan-F.Intersect places parts) =
+    record { ordered = in_order table places.items && list_all (λ s. s.ordered && s.union) parts.items; union = false }
+standing_step table (Plan-F.Unite parts) = record { ordered = list_all (λ s. s.ordered) parts.items; union = true }
+standing_step table (Plan-F.Exclude all less) = record { ordered = all.value.ordered && less.value.ordered; union = false }
 
--- those of several plans
-abbrev pub all_ordered : List (String Global × ℕ) → List Plan → Bool
-all_ordered table plans = list_all (λ b. b) (map (is_ordered table) plans)
+abbrev pub standing : List ℕ → Plan → Standing
+standing table = fold-Plan Standing (standing_step table)
+
+-- THE WORDS OF EACH INTERSECTION STAND BY RISING FREQUENCY, those of one frequency in the query's
+-- order, and all its other parts are unions
+abbrev pub is_ordered : List ℕ → Plan → Bool
+is_ordered table plan = (standing table plan).ordered
+
+-- that of several plans
+abbrev pub all_ordered : List ℕ → List Plan → Bool
+all_ordered table plans = list_all (λ s. s.ordered) (map (standing table) plans)
+
+-- several plans are parts of an intersection
+abbrev pub all_parts : List ℕ → List Plan → Bool
+all_parts table plans = list_all (λ s. s.ordered && s.union) (map (standing table) plans)

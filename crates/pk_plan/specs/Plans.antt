@@ -1,14 +1,16 @@
 -- What a plan means: operations on sets of documents.
-use Rattle.std.specs.Prelude.{ℕ, Bool, true, false, not, ◌&&◌, ◌||◌, List, [], ◌∷◌, ◌++◌, map, String, string_bytes}
-use Rattle.std.specs.declared.alloc.Global.{Global}
+use Rattle.std.specs.Prelude.{◌≡◌, ℕ, zero, suc, Bool, true, false, not, ◌&&◌, ◌||◌, List, [], ◌∷◌, ◌++◌, map}
 use Rattle.std.specs.List.{list_any}
+use Rattle.std.specs.List.Sorted.{IsStrictlyIncreasing}
 use Rattle.std.specs.Str.{bytes_eq}
 use Rattle.pk_model.specs.Collection.{Doc, answer, numbers_of}
-use Rattle.pk_model.specs.Tree.{Term}
+use Rattle.pk_model.specs.Tree.{Term, Tree}
 use Rattle.pk_sets.specs.Sets.{difference, intersection, union}
 use Rattle.pk_plan.specs.declared.plans.Plan.{Plan}
 use Rattle.pk_plan.specs.declared.plans.Plan.TheOpen.{Plan-F}
 use Rattle.pk_plan.specs.declared.plans.Plan.TheFolds.{fold-Plan}
+use Rattle.pk_plan.specs.declared.plans.Planned.{Planned}
+use Rattle.pk_plan.specs.Words.{texts}
 
 -- a plan as operations on two sets each
 pub data Operation : Type 0 where
@@ -28,20 +30,24 @@ abbrev pub either_all : List Operation → Operation
 either_all [] = Nothing
 either_all (o ∷ os) = Either o (either_all os)
 
--- the documents that hold a word
-abbrev pub holding : String Global → Operation
-holding word = Holding (string_bytes word)
+-- the documents that hold the word at a place; none past the last word
+abbrev pub word_at : List (List ℕ) → ℕ → Operation
+word_at [] place = Nothing
+word_at (word ∷ words) zero = Holding word
+word_at (word ∷ words) (suc place) = word_at words place
 
--- one level of a plan, with the operation of each part in its place
-abbrev pub operation_step : Plan-F Operation → Operation
-operation_step (Plan-F.Term word) = holding word
-operation_step Plan-F.All = Everything
-operation_step (Plan-F.Intersect terms parts) = both_all (map holding terms.items ++ parts.items)
-operation_step (Plan-F.Unite parts) = either_all parts.items
-operation_step (Plan-F.Exclude all less) = Without all.value less.value
+-- one level of a plan, with the operation of each place and of each part
+abbrev pub operation_step : (ℕ → Operation) → Plan-F Operation → Operation
+operation_step at (Plan-F.Term place) = at place
+operation_step at Plan-F.All = Everything
+operation_step at (Plan-F.Intersect places parts) =
+    both_all (map at places.items ++ parts.items)
+operation_step at (Plan-F.Unite parts) = either_all parts.items
+operation_step at (Plan-F.Exclude all less) = Without all.value less.value
 
-abbrev pub operation_of : Plan → Operation
-operation_of = fold-Plan Operation operation_step
+-- a plan as an operation, by those of its places
+abbrev pub operation_of : (ℕ → Operation) → Plan → Operation
+operation_of at = fold-Plan Operation (operation_step at)
 
 -- the numbers that an operation finds among documents
 abbrev pub found : Operation → List Doc → List ℕ
@@ -52,9 +58,18 @@ found (Both left right) docs = intersection (found left docs) (found right docs)
 found (Either left right) docs = union (found left docs) (found right docs)
 found (Without left right) docs = difference (found left docs) (found right docs)
 
--- the numbers that a plan finds among documents
-abbrev pub means : Plan → List Doc → List ℕ
-means plan docs = found (operation_of plan) docs
+-- the numbers that a plan finds among documents, where its places mean these words
+abbrev pub finds : List (List ℕ) → Plan → List Doc → List ℕ
+finds words plan docs = found (operation_of (word_at words) plan) docs
+
+-- the numbers that a planned query finds among documents
+abbrev pub means : Planned → List Doc → List ℕ
+means planned docs = finds (texts planned.words.items) planned.plan docs
+
+-- THE PLAN IS ONE FOR THE QUERY: it finds the answer over all documents whose numbers rise
+abbrev pub IsPlanFor : Planned → Tree → Type 0
+IsPlanFor planned query =
+    (docs : List Doc) → IsStrictlyIncreasing (numbers_of docs) → means planned docs ≡ answer query docs
 
 -- whether a document of these words is among them
 abbrev pub takes : Operation → List (List ℕ) → Bool

@@ -2,9 +2,9 @@
 //!
 //! A chain of `AND`, however it is bracketed, becomes one `Intersect`: first its words, by rising
 //! frequency, so that the shortest list comes first and what is left stays short (Manning,
-//! Raghavan, Schütze 2008, section 1.3), then its other parts. What a chain rules out by `NOT` is
-//! taken away from that at the end, so that `a AND NOT b` never asks for all documents. A chain of
-//! `OR` becomes one `Unite`.
+//! Raghavan, Schütze 2008, section 1.3), and those of one frequency as in the query; then its other
+//! parts, which are unions. What a chain rules out by `NOT` is taken away from that at the end, so
+//! that `a AND NOT b` never asks for all documents. A chain of `OR` becomes one `Unite`.
 //!
 //! | query | plan |
 //! |---|---|
@@ -14,18 +14,25 @@
 //! | `a AND (b OR c)` | the intersection of a and the union of b and c |
 //! | `a AND NOT b AND NOT c` | a without the union of b and c |
 //!
+//! A plan has the places of words, not the words: `words_of` lists these in the order of the text,
+//! one for each leaf of the query, and `plan` answers them beside the plan. So whoever looks a word
+//! up does it once, and no word is copied. Frequencies are by place, too.
+//!
 //! A plan means its query over all documents whose numbers rise, whatever the frequencies are:
 //! these set the order alone. The chains are gone through by loops, so a plan's recursion is as
 //! deep as the brackets and the `NOT` of the query, not as its chains are long.
 //!
-//! In contracts, `means` (`specs/Plans.antt`) is the list of the numbers that a plan finds, by the
-//! set operations of pk_sets, and `is_ordered` (`specs/Order.antt`) says that the words of each
-//! `Intersect` stand by rising frequency.
+//! In contracts, `means` (`specs/Plans.antt`) is the list of the numbers that a plan finds with its
+//! words, by the set operations of pk_sets, `IsPlanFor` says that this is the answer to a query,
+//! `leaves` (`specs/Words.antt`) is the list of a query's words, and `is_ordered`
+//! (`specs/Order.antt`) says how the words of each `Intersect` stand, and what its parts are.
 #![tactic(auto)]
 
 mod operands;
 mod planning;
 mod plans;
+mod words;
 
 pub use planning::plan;
-pub use plans::Plan;
+pub use plans::{Plan, Planned};
+pub use words::words_of;

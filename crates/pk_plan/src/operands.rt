@@ -1,64 +1,58 @@
 //! The operands of a chain of `AND`, and the plans of operands.
 
-ghost use Rattle.std.specs.Prelude.{◌≡◌, ◌&&◌, ◌<◌, ◌≤◌, ℕ, List, length, not, slice_index};
-ghost use Rattle.std.specs.Prelude.{IfOk, OnOk, string_bytes, true};
-ghost use Rattle.std.specs.List.{list_any};
-ghost use Rattle.std.specs.Str.{bytes_eq};
+ghost use Rattle.std.specs.Prelude.{◌≡◌, ◌&&◌, ◌+◌, ◌<◌, ◌≤◌, ℕ, List, length, not, slice_index};
+ghost use Rattle.std.specs.Prelude.{IfOk, OnOk, true};
 ghost use Rattle.pk_plan.specs.Operands.{IsInOrder, all_take, any_takes, operands_take};
-ghost use Rattle.pk_plan.specs.Order.{all_ordered, frequencies_of, frequency_of, is_ordered, rises};
-ghost use Rattle.pk_plan.specs.Plans.{Without, operation_of, takes};
+ghost use Rattle.pk_plan.specs.Order.{all_ordered, all_parts, frequency_of, in_order, is_ordered, standing};
+ghost use Rattle.pk_plan.specs.Plans.{Operation, Without, operation_of, takes};
 
 use crate::plans::Plan;
 use smallvec::SmallVec;
 use std::alloc::{AllocError, Global};
 
-// What a chain of `AND` asks: the words that a document holds, by rising frequency, each with its
-// frequency; the other parts that have it; and the parts that do not.
+// What a chain of `AND` asks: the places of the words that a document holds, by rising frequency;
+// the other parts that have it, which are unions; and the parts that do not.
 #[derive(Drop)]
 pub(crate) struct Operands {
-    pub(crate) terms: SmallVec<String, 4>,
-    pub(crate) frequencies: Vec<u32>,
+    pub(crate) places: SmallVec<usize, 4>,
     pub(crate) parts: Vec<Plan>,
     pub(crate) excluded: Vec<Plan>,
 }
 
 impl Operands {
     pub(crate) fn new(alloc: Global) -> Operands
-        ensures all { (words : List (List ℕ)) → operands_take words result ≡ true }
-        ensures order { (table : _) → IsInOrder table result }
+        ensures all { (at : ℕ → Operation) (words : List (List ℕ)) → operands_take at words result ≡ true }
+        ensures order { (table : _) (from : ℕ) → IsInOrder table from result }
     {
         Operands {
-            terms: SmallVec::new(alloc),
-            frequencies: Vec::new(alloc),
+            places: SmallVec::new(alloc),
             parts: Vec::new(alloc),
             excluded: Vec::new(alloc),
         }
     }
 
-    // One word more, before all that are no rarer.
-    pub(crate) fn put_term(
-        &mut self,
-        table: &[(String, u32)],
-        word: String,
-    ) -> Result<(), AllocError>
-        requires order { IsInOrder table.now self.old }
-        ensures same { OnOk result ((words : List (List ℕ)) → operands_take words self.new
-            ≡ (list_any (bytes_eq (string_bytes word)) words && operands_take words self.old)) }
-        ensures order { OnOk result (IsInOrder table.now self.new) }
+    // One word more, by its place, which is before those of all others, so it goes before those
+    // that are no rarer.
+    pub(crate) fn put_term(&mut self, table: &[u32], place: usize) -> Result<(), AllocError>
+        requires order { IsInOrder table.now (place + 1) self.old }
+        ensures same { OnOk result ((at : ℕ → Operation) (words : List (List ℕ))
+            → operands_take at words self.new
+            ≡ (takes (at place) words && operands_take at words self.old)) }
+        ensures order { OnOk result (IsInOrder table.now place self.new) }
     {
-        let frequency = frequency_in(table, word.as_str());
-        let at = place_of(&self.frequencies, frequency);
-        self.terms.insert(at, word)?;
-        self.frequencies.insert(at, frequency)?;
+        let before = rank_of(table, self.places.as_slice(), frequency_at(table, place));
+        self.places.insert(before, place)?;
         Ok(())
     }
 
-    // One part more, before the others.
+    // One part more, which is a union, before the others.
     pub(crate) fn put_part(&mut self, part: Plan) -> Result<(), AllocError>
-        ensures same { OnOk result ((words : List (List ℕ)) → operands_take words self.new
-            ≡ (takes (operation_of part) words && operands_take words self.old)) }
-        ensures order { OnOk result ((table : _) → is_ordered table part ≡ true
-            → IsInOrder table self.old → IsInOrder table self.new) }
+        ensures same { OnOk result ((at : ℕ → Operation) (words : List (List ℕ))
+            → operands_take at words self.new
+            ≡ (takes (operation_of at part) words && operands_take at words self.old)) }
+        ensures order { OnOk result ((table : _) (from : ℕ) → is_ordered table part ≡ true
+            → (standing table part).union ≡ true → IsInOrder table from self.old
+            → IsInOrder table from self.new) }
     {
         self.parts.insert(0, part)?;
         Ok(())
@@ -66,10 +60,11 @@ impl Operands {
 
     // One part more that is ruled out, before the others.
     pub(crate) fn rule_out(&mut self, part: Plan) -> Result<(), AllocError>
-        ensures same { OnOk result ((words : List (List ℕ)) → operands_take words self.new
-            ≡ (not (takes (operation_of part) words) && operands_take words self.old)) }
-        ensures order { OnOk result ((table : _) → is_ordered table part ≡ true
-            → IsInOrder table self.old → IsInOrder table self.new) }
+        ensures same { OnOk result ((at : ℕ → Operation) (words : List (List ℕ))
+            → operands_take at words self.new
+            ≡ (not (takes (operation_of at part) words) && operands_take at words self.old)) }
+        ensures order { OnOk result ((table : _) (from : ℕ) → is_ordered table part ≡ true
+            → IsInOrder table from self.old → IsInOrder table from self.new) }
     {
         self.excluded.insert(0, part)?;
         Ok(())
@@ -77,18 +72,17 @@ impl Operands {
 
     // The plan that takes what all operands take.
     pub(crate) fn plan(self, alloc: Global) -> Result<Plan, AllocError>
-        ensures same { IfOk result (λ plan. (words : List (List ℕ))
-            → takes (operation_of plan) words ≡ operands_take words self) }
-        ensures order { IfOk result (λ plan. (table : _) → IsInOrder table self
+        ensures same { IfOk result (λ plan. (at : ℕ → Operation) (words : List (List ℕ))
+            → takes (operation_of at plan) words ≡ operands_take at words self) }
+        ensures order { IfOk result (λ plan. (table : _) (from : ℕ) → IsInOrder table from self
             → is_ordered table plan ≡ true) }
     {
         let Operands {
-            terms,
-            frequencies: _,
+            places,
             parts,
             excluded,
         } = self;
-        let all = intersected(terms, parts);
+        let all = intersected(places, parts);
         if excluded.is_empty() {
             return Ok(all);
         }
@@ -97,34 +91,35 @@ impl Operands {
     }
 }
 
-// The plan that takes what all words and parts take.
-fn intersected(mut terms: SmallVec<String, 4>, mut parts: Vec<Plan>) -> Plan
-    ensures same { (words : List (List ℕ)) → takes (operation_of result) words
-        ≡ all_take words terms.items parts.items }
-    ensures order { (table : _) → rises (frequencies_of table terms.items) ≡ true
-        → all_ordered table parts.items ≡ true → is_ordered table result ≡ true }
+// The plan that takes what all places and parts take.
+fn intersected(mut places: SmallVec<usize, 4>, mut parts: Vec<Plan>) -> Plan
+    ensures same { (at : ℕ → Operation) (words : List (List ℕ))
+        → takes (operation_of at result) words ≡ all_take at words places.items parts.items }
+    ensures order { (table : _) → in_order table places.items ≡ true
+        → all_parts table parts.items ≡ true → is_ordered table result ≡ true }
 {
-    if parts.is_empty() && terms.len() < 2 {
-        return match terms.pop() {
-            Some(word) => Plan::Term(word),
+    if parts.is_empty() && places.len() < 2 {
+        return match places.pop() {
+            Some(place) => Plan::Term(place),
             None => Plan::All,
         };
     }
-    if terms.is_empty() && parts.len() < 2 {
+    if places.is_empty() && parts.len() < 2 {
         return match parts.pop() {
             Some(part) => part,
             None => Plan::All,
         };
     }
-    Plan::Intersect(terms, parts)
+    Plan::Intersect(places, parts)
 }
 
 // The plan that takes what one of the plans takes.
 pub(crate) fn united(mut plans: Vec<Plan>) -> Plan
-    ensures same { (words : List (List ℕ)) → takes (operation_of result) words
-        ≡ any_takes words plans.items }
+    ensures same { (at : ℕ → Operation) (words : List (List ℕ))
+        → takes (operation_of at result) words ≡ any_takes at words plans.items }
     ensures order { (table : _) → all_ordered table plans.items ≡ true
         → is_ordered table result ≡ true }
+    ensures union { (table : _) → 1 < length plans.items → (standing table result).union ≡ true }
 {
     if plans.len() == 1 {
         return match plans.pop() {
@@ -137,8 +132,8 @@ pub(crate) fn united(mut plans: Vec<Plan>) -> Plan
 
 // The plan that takes what the first takes and the second does not.
 fn excluding(alloc: Global, all: Plan, less: Plan) -> Result<Plan, AllocError>
-    ensures same { IfOk result (λ plan. operation_of plan
-        ≡ Without (operation_of all) (operation_of less)) }
+    ensures same { IfOk result (λ plan. (at : ℕ → Operation)
+        → operation_of at plan ≡ Without (operation_of at all) (operation_of at less)) }
     ensures order { IfOk result (λ plan. (table : _) → is_ordered table plan
         ≡ (is_ordered table all && is_ordered table less)) }
 {
@@ -147,29 +142,28 @@ fn excluding(alloc: Global, all: Plan, less: Plan) -> Result<Plan, AllocError>
     Ok(Plan::Exclude(all, less))
 }
 
-// The frequency of a word by the first entry that has it, 0 where none has.
-fn frequency_in(table: &[(String, u32)], word: &str) -> u32
-    ensures { result ≡ frequency_of table.now word.now }
+// The frequency of the word at a place, 0 where the table ends before it.
+fn frequency_at(table: &[u32], place: usize) -> u32
+    ensures { result ≡ frequency_of table.now place }
 {
-    for entry in table {
-        if entry.0.as_str() == word {
-            return entry.1;
-        }
+    if place >= table.len() {
+        return 0;
     }
-    0
+    table[place]
 }
 
-// The place of the first frequency that is no lower, or the end.
-fn place_of(frequencies: &[u32], frequency: u32) -> usize
-    ensures within { result ≤ length frequencies.now }
-    ensures below { (i : ℕ) → i < result → slice_index frequencies.now i < frequency }
-    ensures reaches { result < length frequencies.now
-        → frequency ≤ slice_index frequencies.now result }
+// How many places stand before the first whose frequency is no lower.
+fn rank_of(table: &[u32], places: &[usize], frequency: u32) -> usize
+    ensures within { result ≤ length places.now }
+    ensures below { (i : ℕ) → i < result
+        → frequency_of table.now (slice_index places.now i) < frequency }
+    ensures reaches { result < length places.now
+        → frequency ≤ frequency_of table.now (slice_index places.now result) }
 {
-    for i in 0..frequencies.len() {
-        if frequency <= frequencies[i] {
+    for i in 0..places.len() {
+        if frequency <= frequency_at(table, places[i]) {
             return i;
         }
     }
-    frequencies.len()
+    places.len()
 }

@@ -1,41 +1,57 @@
 //! From a query to its plan.
 
-ghost use Rattle.std.specs.Prelude.{◌≡◌, List, IfOk, OnOk, true};
-ghost use Rattle.std.specs.List.Sorted.{IsStrictlyIncreasing};
-ghost use Rattle.pk_model.specs.Collection.{Doc, answer, numbers_of};
+ghost use Rattle.std.specs.Prelude.{◌≡◌, ◌≤◌, length, IfOk, OnOk, true};
 ghost use Rattle.pk_model.specs.Tree.{tree_of};
-ghost use Rattle.pk_plan.specs.Operands.{IsGathered, IsInOrder, IsJoined, IsPlanOf};
+ghost use Rattle.pk_plan.specs.Operands.{IsGathered, IsInOrder, IsJoined, IsPassed, IsPlanOf};
 ghost use Rattle.pk_plan.specs.Order.{is_ordered};
-ghost use Rattle.pk_plan.specs.Plans.{means};
+ghost use Rattle.pk_plan.specs.Plans.{IsPlanFor};
+ghost use Rattle.pk_plan.specs.Words.{leaves, texts};
 
 use crate::operands::{Operands, united};
-use crate::plans::Plan;
+use crate::plans::{Plan, Planned};
+use crate::words::words_of;
 use pk_model::Query;
 use std::alloc::{AllocError, Global};
 
-/// The plan of a query. Each entry of the table is a word and the number of documents that hold it.
-/// A word that is not in the table has frequency 0; of one that is there twice the first entry
-/// counts. Words of the same frequency stand in the query's order.
-pub fn plan(alloc: Global, query: &Query, frequencies: &[(String, u32)]) -> Result<Plan, AllocError>
-    ensures means { IfOk result (λ plan. (docs : List Doc)
-        → IsStrictlyIncreasing (numbers_of docs)
-        → means plan docs ≡ answer (tree_of query.now) docs) }
-    ensures ordered { IfOk result (λ plan. is_ordered frequencies.now plan ≡ true) }
+/// The plan of a query, and its words. The table has for the place of each word the number of
+/// documents that hold it; what is past its end counts as 0. Words of the same frequency stand in
+/// the query's order. The only error is that there is no memory.
+pub fn plan<'a>(
+    alloc: Global,
+    query: &'a Query,
+    frequencies: &[u32],
+) -> Result<Planned<'a>, AllocError>
+    ensures words { IfOk result (λ planned.
+        texts planned.words.items ≡ leaves (tree_of query.now)) }
+    ensures means { IfOk result (λ planned. IsPlanFor planned (tree_of query.now)) }
+    ensures ordered { IfOk result (λ planned. is_ordered frequencies.now planned.plan ≡ true) }
 {
-    let plan = plan_of(alloc, query, frequencies)?;
-    Ok(plan)
+    let words = words_of(alloc, query)?;
+    let mut place = words.len();
+    let plan = plan_of(alloc, query, frequencies, &mut place)?;
+    Ok(Planned { words, plan })
 }
 
-// The same, said of the words of one document. A word alone is its own plan.
+// The same, said of the words of one document. A query is gone through from its end, so `place` is
+// how many words stand before what is left; here it passes all of the query's. A word alone is its
+// own plan.
 #[cycle(planning)]
-fn plan_of(alloc: Global, query: &Query, table: &[(String, u32)]) -> Result<Plan, AllocError>
-    ensures { IfOk result (IsPlanOf table.now (tree_of query.now)) }
+fn plan_of(
+    alloc: Global,
+    query: &Query,
+    table: &[u32],
+    place: &mut usize,
+) -> Result<Plan, AllocError>
+    requires { length (leaves (tree_of query.now)) ≤ place.old }
+    ensures plan { IfOk result (IsPlanOf table.now (tree_of query.now) place.new) }
+    ensures passed { OnOk result (IsPassed (tree_of query.now) place.old place.new) }
 {
-    if let Query::Term(word) = query {
-        return Ok(Plan::Term(word.clone()?));
+    if let Query::Term(_) = query {
+        *place -= 1;
+        return Ok(Plan::Term(*place));
     }
     let mut plans = Vec::new(alloc);
-    join(alloc, query, table, &mut plans)?;
+    join(alloc, query, table, place, &mut plans)?;
     Ok(united(plans))
 }
 
@@ -44,28 +60,39 @@ fn plan_of(alloc: Global, query: &Query, table: &[(String, u32)]) -> Result<Plan
 fn join(
     alloc: Global,
     query: &Query,
-    table: &[(String, u32)],
+    table: &[u32],
+    place: &mut usize,
     plans: &mut Vec<Plan>,
 ) -> Result<(), AllocError>
-    ensures { OnOk result (IsJoined table.now (tree_of query.now) plans.old.items plans.new.items) }
+    requires { length (leaves (tree_of query.now)) ≤ place.old }
+    ensures plans { OnOk result
+        (IsJoined table.now (tree_of query.now) place.new plans.old.items plans.new.items) }
+    ensures passed { OnOk result (IsPassed (tree_of query.now) place.old place.new) }
 {
     let mut rest = query;
     while let Query::Or(left, right) = rest {
-        join(alloc, right, table, plans)?;
+        join(alloc, right, table, place, plans)?;
         rest = left;
     }
-    let plan = conjunction(alloc, rest, table)?;
+    let plan = conjunction(alloc, rest, table, place)?;
     plans.insert(0, plan)?;
     Ok(())
 }
 
 // The plan of a chain of `AND`.
 #[cycle(planning)]
-fn conjunction(alloc: Global, query: &Query, table: &[(String, u32)]) -> Result<Plan, AllocError>
-    ensures { IfOk result (IsPlanOf table.now (tree_of query.now)) }
+fn conjunction(
+    alloc: Global,
+    query: &Query,
+    table: &[u32],
+    place: &mut usize,
+) -> Result<Plan, AllocError>
+    requires { length (leaves (tree_of query.now)) ≤ place.old }
+    ensures plan { IfOk result (IsPlanOf table.now (tree_of query.now) place.new) }
+    ensures passed { OnOk result (IsPassed (tree_of query.now) place.old place.new) }
 {
     let mut operands = Operands::new(alloc);
-    gather(alloc, query, table, &mut operands)?;
+    gather(alloc, query, table, place, &mut operands)?;
     let plan = operands.plan(alloc)?;
     Ok(plan)
 }
@@ -75,18 +102,23 @@ fn conjunction(alloc: Global, query: &Query, table: &[(String, u32)]) -> Result<
 fn gather(
     alloc: Global,
     query: &Query,
-    table: &[(String, u32)],
+    table: &[u32],
+    place: &mut usize,
     operands: &mut Operands,
 ) -> Result<(), AllocError>
-    requires { IsInOrder table.now operands.old }
-    ensures { OnOk result (IsGathered table.now (tree_of query.now) operands.old operands.new) }
+    requires room { length (leaves (tree_of query.now)) ≤ place.old }
+    requires order { IsInOrder table.now place.old operands.old }
+    ensures operands { OnOk result
+        (IsGathered table.now (tree_of query.now) place.old place.new operands.old operands.new) }
+    ensures passed { OnOk result (IsPassed (tree_of query.now) place.old place.new) }
 {
     let mut rest = query;
     while let Query::And(left, right) = rest {
-        gather(alloc, right, table, operands)?;
+        gather(alloc, right, table, place, operands)?;
         rest = left;
     }
-    put(alloc, rest, table, operands)
+    put(alloc, rest, table, place, operands)?;
+    Ok(())
 }
 
 // Puts one operand to those that are there.
@@ -94,30 +126,36 @@ fn gather(
 fn put(
     alloc: Global,
     query: &Query,
-    table: &[(String, u32)],
+    table: &[u32],
+    place: &mut usize,
     operands: &mut Operands,
 ) -> Result<(), AllocError>
-    requires { IsInOrder table.now operands.old }
-    ensures { OnOk result (IsGathered table.now (tree_of query.now) operands.old operands.new) }
+    requires room { length (leaves (tree_of query.now)) ≤ place.old }
+    requires order { IsInOrder table.now place.old operands.old }
+    ensures operands { OnOk result
+        (IsGathered table.now (tree_of query.now) place.old place.new operands.old operands.new) }
+    ensures passed { OnOk result (IsPassed (tree_of query.now) place.old place.new) }
 {
     match query {
-        Query::Term(word) => {
-            operands.put_term(table, word.clone()?)?;
+        Query::Term(_) => {
+            *place -= 1;
+            operands.put_term(table, *place)?;
             Ok(())
         }
         Query::Not(part) => {
-            let plan = plan_of(alloc, part, table)?;
+            let plan = plan_of(alloc, part, table, place)?;
             operands.rule_out(plan)?;
             Ok(())
         }
         Query::And(left, right) => {
-            gather(alloc, right, table, operands)?;
-            gather(alloc, left, table, operands)
+            gather(alloc, right, table, place, operands)?;
+            gather(alloc, left, table, place, operands)?;
+            Ok(())
         }
         Query::Or(left, right) => {
             let mut plans = Vec::new(alloc);
-            join(alloc, right, table, &mut plans)?;
-            join(alloc, left, table, &mut plans)?;
+            join(alloc, right, table, place, &mut plans)?;
+            join(alloc, left, table, place, &mut plans)?;
             operands.put_part(united(plans))?;
             Ok(())
         }

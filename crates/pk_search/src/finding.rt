@@ -9,8 +9,11 @@ ghost use Rattle.pk_model.specs.Collection.{Doc};
 ghost use Rattle.pk_model.specs.Tree.{Tree, tree_of};
 ghost use Rattle.pk_search.specs.Cached.{AddsOnlyOf, AgreesAt, CacheAgrees, KeepsBelow};
 ghost use Rattle.pk_search.specs.Finding.{FoundAs};
-ghost use Rattle.pk_search.specs.Matching.{AreEntriesOf, AreKept, EntriesAs, IsPlanFor};
+ghost use Rattle.pk_plan.specs.Plans.{IsPlanFor};
+ghost use Rattle.pk_plan.specs.Words.{texts};
+ghost use Rattle.pk_search.specs.Matching.{AreEntriesOf, AreKept, EntriesAs};
 ghost use Rattle.pk_search.specs.Opened.{AreOpenOf, present, with_deleted};
+ghost use Rattle.pk_search.specs.Repeats.{AreFirsts};
 ghost use Rattle.pk_segment.specs.Opened.{IsSegmentOf};
 ghost use Rattle.pk_segment.specs.Spelling.{IndexSpells, SegmentSpells};
 ghost use Rattle.pk_segment.specs.Reading.{CountsReads, IsNoDamage};
@@ -19,16 +22,18 @@ ghost use Rattle.pk_state.specs.Holds.{IndexesEntries, IndexesEntry};
 ghost use Rattle.pk_state.specs.Kept.{LieInside};
 
 use crate::hits::put_hit;
-use crate::listed::{WordEntry, WordLists, frequencies_of, look_up, words_in};
+use crate::listed::{WordLists, frequencies_of, look_up};
 use crate::opened::OpenSegment;
 use crate::pivots::PivotTables;
 use crate::planned::find_planned;
+use crate::repeats::first_places;
 use pk_cache::BlockCache;
+use pk_dict::Entry;
 use pk_disk::Disk;
 use pk_index::Index;
 use pk_manifest::Part;
 use pk_model::{DocNo, Query};
-use pk_plan::{Plan, plan};
+use pk_plan::{Planned, plan, words_of};
 use pk_posting::ByteSource;
 use pk_segment::{ExtentSource, ReadFault};
 use std::alloc::Global;
@@ -42,13 +47,13 @@ fn find_from<S: ByteSource>(
     alloc: Global,
     source: &mut S,
     opened: &OpenSegment,
-    plan: &Plan,
+    planned: &Planned,
     found: &mut Vec<DocNo>,
 ) -> Result<(), ReadFault>
     ensures found { S.honest → (s : Stored) (kind : ℕ)
         → SegmentSpells (S.content source.old) s.documents kind
         → IsSegmentOf opened.now.segment s.documents
-        → (query : Tree) → IsPlanFor plan.now query
+        → (query : Tree) → IsPlanFor planned.now query
         → FoundAs query (live_of (with_deleted opened.now s)) found.old.items
         found.new.items result }
     ensures keeps { S.keeps source.old source.new }
@@ -58,26 +63,29 @@ fn find_from<S: ByteSource>(
     for i in 0..opened.segment.count() {
         let document = opened.segment.document_at(alloc, source, i)?;
         if !opened.deleted.contains(document.number.0) {
-            put_hit(alloc, &mut index, &document, plan, found)?;
+            put_hit(alloc, &mut index, &document, planned, found)?;
         }
     }
     Ok(())
 }
 
 // What the dictionary of the segment of the entry at a place says of each word; of kind 1 nothing.
-fn look_up_in<'a, D: Disk>(
+fn look_up_in<D: Disk>(
     alloc: Global,
     disk: &mut D,
     pivots: &mut PivotTables,
     place: usize,
     entry: &Part,
     opened: &OpenSegment,
-    words: &[&'a str],
-) -> Result<Vec<WordEntry<'a>>, ReadFault>
-    requires { start_of entry.now.extent + entry.now.extent.bytes ≤ length (D.content disk.old) }
+    words: &[&str],
+    firsts: &[usize],
+) -> Result<Vec<Option<Entry>>, ReadFault>
+    requires inside { start_of entry.now.extent + entry.now.extent.bytes
+        ≤ length (D.content disk.old) }
+    requires firsts { AreFirsts (texts words.now) firsts.now }
     ensures entries { D.honest → entry.now.kind ≡ 2 → (docs : List Doc)
         → IndexSpells (extent_bytes (D.content disk.old) entry.now.extent) docs
-        → IsSegmentOf opened.now.segment docs → EntriesAs docs result }
+        → IsSegmentOf opened.now.segment docs → EntriesAs (texts words.now) docs result }
     ensures fault { D.honest → (s : Stored) → IndexesEntry (D.content disk.old) entry.now s
         → IsSegmentOf opened.now.segment s.documents → IfErr result IsNoDamage }
     ensures keeps { KeepsDisk D.Disk disk.old disk.new }
@@ -90,24 +98,25 @@ fn look_up_in<'a, D: Disk>(
     let _ = pivots.prepare(alloc, place, entry);
     if let Some(tables) = &mut pivots.tables {
         if let Some(table) = tables.get_mut(&entry.segment) {
-            return look_up(alloc, &mut source, &opened.segment, table, words);
+            return look_up(alloc, &mut source, &opened.segment, table, words, firsts);
         }
     }
-    look_up(alloc, &mut source, &opened.segment, &mut [], words)
+    look_up(alloc, &mut source, &opened.segment, &mut [], words, firsts)
 }
 
-// What the dictionaries of all segments of kind 2 say of each word.
-fn look_up_all<'a, D: Disk>(
+// What the dictionaries of all segments of kind 2 say of each word. Each is asked once for a word
+// that comes more than once.
+fn look_up_all<D: Disk>(
     alloc: Global,
     disk: &mut D,
     pivots: &mut PivotTables,
     entries: &[Part],
     opened: &[OpenSegment],
-    words: &[&'a str],
-) -> Result<Vec<Vec<WordEntry<'a>>>, ReadFault>
+    words: &[&str],
+) -> Result<Vec<Vec<Option<Entry>>>, ReadFault>
     requires { LieInside (length (D.content disk.old)) entries.now }
     ensures kept { D.honest → IfOk result (λ kept.
-        AreKept (D.content disk.old) entries.now opened.now kept.items) }
+        AreKept (D.content disk.old) (texts words.now) entries.now opened.now kept.items) }
     ensures fault { D.honest → (stored : List Stored)
         → IndexesEntries (D.content disk.old) entries.now stored → AreOpenOf opened.now stored
         → IfErr result IsNoDamage }
@@ -116,21 +125,24 @@ fn look_up_all<'a, D: Disk>(
     ensures keeps { KeepsDisk D.Disk disk.old disk.new }
     ensures reads { CountsReads (D.failed_reads disk.old) (D.failed_reads disk.new) result }
 {
+    let firsts = first_places(alloc, words)?;
     let mut kept = Vec::new(alloc);
     for i in 0..entries.len().min(opened.len()) {
-        let words = look_up_in(alloc, disk, pivots, i, &entries[i], &opened[i], words)?;
-        let Ok(()) = kept.push(words) else {
+        let known = look_up_in(
+            alloc,
+            disk,
+            pivots,
+            i,
+            &entries[i],
+            &opened[i],
+            words,
+            &firsts,
+        )?;
+        let Ok(()) = kept.push(known) else {
             return Err(ReadFault::Memory);
         };
     }
     Ok(kept)
-}
-
-// A query, and the plan by which it is asked.
-#[derive(Drop)]
-struct Planned<'a> {
-    query: &'a Query,
-    plan: Plan,
 }
 
 // Puts the numbers of the documents of an entry's segment that are not deleted and satisfy the
@@ -141,21 +153,23 @@ fn find_in<D: Disk>(
     cache: &mut Option<BlockCache>,
     entry: &Part,
     opened: &OpenSegment,
-    kept: &[WordEntry],
+    kept: &[Option<Entry>],
     planned: &Planned,
     found: &mut Vec<DocNo>,
 ) -> Result<(), ReadFault>
     requires { start_of entry.now.extent + entry.now.extent.bytes ≤ length (D.content disk.old) }
     ensures found { D.honest → (s : Stored) → IndexesEntry (D.content disk.old) entry.now s
         → IsSegmentOf opened.now.segment s.documents
-        → (entry.now.kind ≡ 2 → AreEntriesOf kept.now s.documents)
-        → IsPlanFor planned.now.plan (tree_of planned.now.query.now)
+        → (entry.now.kind ≡ 2
+        → AreEntriesOf kept.now (texts planned.now.words.items) s.documents)
+        → (query : Tree) → IsPlanFor planned.now query
         → AgreesAt (D.content disk.old) cache.old entry.now opened.now
-        → FoundAs (tree_of planned.now.query.now) (live_of (with_deleted opened.now s))
+        → FoundAs query (live_of (with_deleted opened.now s))
         found.old.items found.new.items result }
     ensures agrees { D.honest → (entry.now.kind ≡ 2 → (docs : List Doc)
         → IndexSpells (extent_bytes (D.content disk.old) entry.now.extent) docs
-        → IsSegmentOf opened.now.segment docs → AreEntriesOf kept.now docs)
+        → IsSegmentOf opened.now.segment docs
+        → AreEntriesOf kept.now (texts planned.now.words.items) docs)
         → AgreesAt (D.content disk.old) cache.old entry.now opened.now
         → AgreesAt (D.content disk.old) cache.new entry.now opened.now }
     ensures adds { AddsOnlyOf entry.now.segment cache.old cache.new }
@@ -169,17 +183,9 @@ fn find_in<D: Disk>(
             segment: &opened.segment,
             entries: kept,
         };
-        return find_planned(
-            alloc,
-            &mut source,
-            cache,
-            &lists,
-            opened,
-            &planned.plan,
-            found,
-        );
+        return find_planned(alloc, &mut source, cache, &lists, opened, planned, found);
     }
-    find_from(alloc, &mut source, opened, &planned.plan, found)
+    find_from(alloc, &mut source, opened, planned, found)
 }
 
 // The same of all segments.
@@ -189,7 +195,7 @@ fn find_all<D: Disk>(
     cache: &mut Option<BlockCache>,
     entries: &[Part],
     opened: &[OpenSegment],
-    kept: &[Vec<WordEntry>],
+    kept: &[Vec<Option<Entry>>],
     planned: &Planned,
     found: &mut Vec<DocNo>,
 ) -> Result<(), ReadFault>
@@ -198,12 +204,13 @@ fn find_all<D: Disk>(
     requires count { length kept.now ≡ min (length entries.now) (length opened.now) }
     ensures found { D.honest → (stored : List Stored)
         → IndexesEntries (D.content disk.old) entries.now stored → AreOpenOf opened.now stored
-        → AreKept (D.content disk.old) entries.now opened.now kept.now
-        → IsPlanFor planned.now.plan (tree_of planned.now.query.now)
+        → AreKept (D.content disk.old) (texts planned.now.words.items) entries.now opened.now kept.now
+        → (query : Tree) → IsPlanFor planned.now query
         → CacheAgrees (D.content disk.old) cache.old entries.now opened.now
-        → FoundAs (tree_of planned.now.query.now) (live_in (present opened.now stored))
+        → FoundAs query (live_in (present opened.now stored))
         found.old.items found.new.items result }
-    ensures agrees { D.honest → AreKept (D.content disk.old) entries.now opened.now kept.now
+    ensures agrees { D.honest
+        → AreKept (D.content disk.old) (texts planned.now.words.items) entries.now opened.now kept.now
         → CacheAgrees (D.content disk.old) cache.old entries.now opened.now
         → CacheAgrees (D.content disk.old) cache.new entries.now opened.now }
     ensures below { (next : ℕ) → All (λ (e : Part). e.segment < next) entries.now
@@ -239,19 +246,19 @@ fn find_all<D: Disk>(
 ///
 /// Answers `Damaged` where a segment is none, `Disk` where a read failed, or `Memory`; then some of
 /// the numbers may stand there.
-pub fn find_stored<D: Disk>(
+pub fn find_stored<'a, D: Disk>(
     alloc: Global,
     disk: &mut D,
     cache: &mut Option<BlockCache>,
     pivots: &mut PivotTables,
     entries: &[Part],
     opened: &[OpenSegment],
-    query: &Query,
+    query: &'a Query,
     found: &mut Vec<DocNo>,
-) -> Result<Plan, ReadFault>
+) -> Result<Planned<'a>, ReadFault>
     requires inside { LieInside (length (D.content disk.old)) entries.now }
     requires ids { apart same_segment entries.now ≡ true }
-    ensures plan { IfOk result (λ plan. IsPlanFor plan (tree_of query.now)) }
+    ensures plan { IfOk result (λ planned. IsPlanFor planned (tree_of query.now)) }
     ensures found { D.honest → (stored : List Stored)
         → IndexesEntries (D.content disk.old) entries.now stored → AreOpenOf opened.now stored
         → CacheAgrees (D.content disk.old) cache.old entries.now opened.now
@@ -265,11 +272,10 @@ pub fn find_stored<D: Disk>(
     ensures keeps { KeepsDisk D.Disk disk.old disk.new }
     ensures reads { CountsReads (D.failed_reads disk.old) (D.failed_reads disk.new) result }
 {
-    let words = words_in(alloc, query)?;
-    let kept = look_up_all(alloc, disk, pivots, entries, opened, &words)?;
-    let frequencies = frequencies_of(alloc, &words, &kept)?;
-    let plan = plan(alloc, query, &frequencies)?;
-    let planned = Planned { query, plan };
+    let words = words_of(alloc, query)?;
+    let kept = look_up_all(alloc, disk, pivots, entries, opened, words.as_slice())?;
+    let frequencies = frequencies_of(alloc, words.len(), &kept)?;
+    let planned = plan(alloc, query, frequencies.as_slice())?;
     find_all(alloc, disk, cache, entries, opened, &kept, &planned, found)?;
-    Ok(planned.plan)
+    Ok(planned)
 }

@@ -6,7 +6,7 @@ ghost use Rattle.pk_plan.specs.Plans.{means};
 use pk_index::Index;
 use pk_match::put_numbers;
 use pk_model::{DocNo, Document};
-use pk_plan::Plan;
+use pk_plan::Planned;
 use std::alloc::{AllocError, Global};
 
 /// Puts the number of the document behind those that were found, where the plan finds it: by an
@@ -15,14 +15,14 @@ pub(crate) fn put_hit(
     alloc: Global,
     index: &mut Index,
     document: &Document,
-    plan: &Plan,
+    planned: &Planned,
     found: &mut Vec<DocNo>,
 ) -> Result<(), AllocError>
     ensures { OnOk result (numbers_in found.new.items
-        ≡ numbers_in found.old.items ++ means plan.now (doc_of document.now ∷ [])) }
+        ≡ numbers_in found.old.items ++ means planned.now (doc_of document.now ∷ [])) }
 {
     index.clear();
     index.add(alloc, document.number.0, document.text.as_str())?;
-    let hits = index.find_planned(alloc, plan, &[document.number.0])?;
+    let hits = index.find_planned(alloc, planned, &[document.number.0])?;
     put_numbers(&hits, found)
 }

@@ -15,14 +15,15 @@
 //! | `place_stored` | the place of the segment that has it, or none | one directory, by halving |
 //! | `count_stored` | how many documents there are | nothing |
 //!
-//! A find looks each distinct word up once in each segment of kind 2, and keeps what the
-//! dictionaries say (`listed`). The sums of a word's frequencies go into the plan of the query
-//! (pk_plan), which is carried out in each of these segments (pk_match, over the lists of `stored`):
-//! of an intersection the rarest word's list is taken out whole by a cursor, block by block; a later
-//! word is sought number by number where its list is more than 50 times as long as what is left, else
-//! taken out too and joined (`lists`). Where nothing is left, nothing more is read. A segment of kind
-//! 1 has no lists: its documents are read, and the plan carried out over an index of the words of
-//! each (`hits`). The plan is answered, so that other documents are found by it too.
+//! A find looks each word up once in each segment of kind 2, however often it comes (`repeats`),
+//! and reads the segment's header once for it. What the dictionaries say is kept by the word's
+//! place (`listed`). The sums of a word's frequencies go into the plan of the query (pk_plan),
+//! which is carried out in each of these segments (pk_match, over the lists of `stored`): of an
+//! intersection the rarest word's list is taken out whole by a cursor, block by block; a later word
+//! is sought number by number where its list is more than 50 times as long as what is left, else
+//! taken out too and joined (`lists`). Where nothing is left, nothing more is read. A segment of
+//! kind 1 has no lists: its documents are read, and the plan carried out over an index of the words
+//! of each (`hits`). The plan is answered, so that other documents are found by it too.
 //!
 //! The answer is exact whatever the frequencies are: they choose the way alone.
 //!
@@ -48,6 +49,7 @@ mod opened;
 mod opening;
 mod pivots;
 mod planned;
+mod repeats;
 mod showing;
 mod stored;
 

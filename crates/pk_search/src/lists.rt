@@ -1,8 +1,8 @@
 //! One posting list: taken out by a cursor or through the cache, or asked by a cursor's seeks.
-ghost use Rattle.std.specs.Prelude.{◌≡◌, ◌<◌, ◌*◌, ◌↔◌, ℕ, List, length};
-ghost use Rattle.std.specs.Prelude.{IsTrue, OnOk, MatchResult};
+ghost use Rattle.std.specs.Prelude.{◌≡◌, ◌<◌, ◌*◌, ◌↔◌, ℕ, List, length, IsTrue, OnOk, MatchResult};
 ghost use Rattle.std.specs.List.Sorted.{IsStrictlyIncreasing};
 ghost use Rattle.pk_model.specs.Collection.{Doc};
+ghost use Rattle.pk_plan.specs.Plans.{found, word_at};
 ghost use Rattle.pk_search.specs.Cached.{AddsOnlyOf, AreServed, KeepsBlocksOf, Serves};
 ghost use Rattle.pk_search.specs.Left.{IsLeftByRead};
 ghost use Rattle.pk_search.specs.Matching.{ListLies, PutsAs};
@@ -14,7 +14,7 @@ ghost use Rattle.pk_segment.specs.Spelling.{IndexSpells};
 ghost use Rattle.pk_sets.specs.Sets.{intersection};
 
 use crate::kept::copy_kept;
-use crate::listed::{WordLists, entry_for};
+use crate::listed::{WordLists, entry_at};
 use pk_cache::BlockCache;
 use pk_cursor::Cursor;
 use pk_dict::Entry;
@@ -22,7 +22,6 @@ use pk_match::keep_both;
 use pk_posting::{ByteSource, ListPlace};
 use pk_segment::{ReadFault, Segment};
 use pk_sets::is_rising;
-use std::alloc::Global;
 
 // Where the posting list that an entry leads to lies in the segment.
 fn place_of(segment: &Segment, entry: Entry) -> Result<ListPlace, ReadFault>
@@ -150,29 +149,29 @@ fn cut_in<S: ByteSource>(
     Ok(())
 }
 
-/// Puts the numbers of the segment's documents that have the word into `out`.
+/// Puts the numbers of the segment's documents that have the word at a place into `out`.
 pub(crate) fn put_word<S: ByteSource>(
-    alloc: Global,
     source: &mut S,
     cache: &mut Option<BlockCache>,
     lists: &WordLists,
-    word: &str,
+    place: usize,
     out: &mut Vec<u32>,
 ) -> Result<(), ReadFault>
-    ensures numbers { S.honest → (docs : List Doc)
-        → AreServed (S.content source.old) lists.now docs cache.old → PutsAs (list_with word.now docs) out.new.items result }
+    ensures numbers { S.honest → (words : List (List ℕ)) (docs : List Doc)
+        → AreServed (S.content source.old) lists.now words docs cache.old
+        → PutsAs (found (word_at words place) docs) out.new.items result }
     ensures rising { OnOk result (IsStrictlyIncreasing out.new.items) }
     ensures served { Serves S.honest lists.now (S.content source.old) cache.old
         (S.content source.new) cache.new }
     ensures left { IsLeftByRead S.honest S.content S.failures S.keeps
         result source.old source.new }
 {
-    let Some(entry) = entry_for(alloc, source, lists, word)? else {
+    let Some(entry) = entry_at(lists.entries, place) else {
         out.clear();
         return Ok(());
     };
-    let place = place_of(lists.segment, entry)?;
-    take_out(source, cache, lists.id, place, entry.frequency, out)
+    let lies = place_of(lists.segment, entry)?;
+    take_out(source, cache, lists.id, lies, entry.frequency, out)
 }
 
 // Whether a list is more than 50 times as long as the numbers that are sought in it.
@@ -182,24 +181,23 @@ fn is_far(numbers: usize, frequency: u32) -> bool
     numbers.saturating_mul(50) < frequency as usize
 }
 
-/// Keeps of the numbers those of documents that have the word: by a seek for each of them where
-/// the word's list is far longer, else by the list, which goes into `list`. What `spare` holds is
-/// open. Where there is no number, nothing is read.
+/// Keeps of the numbers those of documents that have the word at a place: by a seek for each of
+/// them where the word's list is far longer, else by the list, which goes into `list`. What `spare`
+/// holds is open. Where there is no number, nothing is read.
 pub(crate) fn cut_word<S: ByteSource>(
-    alloc: Global,
     source: &mut S,
     cache: &mut Option<BlockCache>,
     lists: &WordLists,
-    word: &str,
+    place: usize,
     numbers: &mut Vec<u32>,
     list: &mut Vec<u32>,
     spare: &mut Vec<u32>,
 ) -> Result<(), ReadFault>
     requires { IsStrictlyIncreasing numbers.old.items }
-    ensures numbers { S.honest → (docs : List Doc)
-        → AreServed (S.content source.old) lists.now docs cache.old
-        → PutsAs (intersection numbers.old.items (list_with word.now docs)) numbers.new.items
-        result }
+    ensures numbers { S.honest → (words : List (List ℕ)) (docs : List Doc)
+        → AreServed (S.content source.old) lists.now words docs cache.old
+        → PutsAs (intersection numbers.old.items (found (word_at words place) docs))
+        numbers.new.items result }
     ensures rising { OnOk result (IsStrictlyIncreasing numbers.new.items) }
     ensures served { Serves S.honest lists.now (S.content source.old) cache.old
         (S.content source.new) cache.new }
@@ -209,15 +207,15 @@ pub(crate) fn cut_word<S: ByteSource>(
     if numbers.is_empty() {
         return Ok(());
     }
-    let Some(entry) = entry_for(alloc, source, lists, word)? else {
+    let Some(entry) = entry_at(lists.entries, place) else {
         numbers.clear();
         return Ok(());
     };
-    let place = place_of(lists.segment, entry)?;
+    let lies = place_of(lists.segment, entry)?;
     if is_far(numbers.len(), entry.frequency) {
-        return cut_in(source, place, numbers);
+        return cut_in(source, lies, numbers);
     }
-    take_out(source, cache, lists.id, place, entry.frequency, list)?;
+    take_out(source, cache, lists.id, lies, entry.frequency, list)?;
     keep_both(numbers, list, spare)?;
     Ok(())
 }

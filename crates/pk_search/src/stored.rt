@@ -39,8 +39,8 @@ pub(crate) struct StoredLists<'a, S: ByteSource> {
 impl<'a, S: ByteSource> Lists for StoredLists<'a, S> {
     type Fault = ReadFault;
 
-    ghost are_of = { λ it docs.
-        AreStored S.honest (S.content it.source.now) it.lists docs it.cache.now };
+    ghost are_of = { λ it words docs.
+        AreStored S.honest (S.content it.source.now) it.lists words docs it.cache.now };
 
     ghost is_no_damage = { IsNoDamage };
 
@@ -50,23 +50,22 @@ impl<'a, S: ByteSource> Lists for StoredLists<'a, S> {
         old.source.now new.source.now old.cache.now new.cache.now };
 
     #[inline(never)]
-    fn put(&mut self, word: &str, out: &mut Vec<u32>) -> Result<(), ReadFault> {
-        put_word(self.alloc, self.source, self.cache, &self.lists, word, out)
+    fn put(&mut self, place: usize, out: &mut Vec<u32>) -> Result<(), ReadFault> {
+        put_word(self.source, self.cache, &self.lists, place, out)
     }
 
     #[inline(never)]
     fn cut(
         &mut self,
-        word: &str,
+        place: usize,
         numbers: &mut Vec<u32>,
         spare: &mut Vec<u32>,
     ) -> Result<(), ReadFault> {
         cut_word(
-            self.alloc,
             self.source,
             self.cache,
             &self.lists,
-            word,
+            place,
             numbers,
             self.list,
             spare,
@@ -78,10 +77,10 @@ impl<'a, S: ByteSource> Lists for StoredLists<'a, S> {
         put_all(self.alloc, self.source, self.lists.segment, out)
     }
 
-    ghost are_rising = { λ it docs are. are.served.index.front.spelled.are.rising };
+    ghost are_rising = { λ it words docs are. are.served.index.front.spelled.are.rising };
 
-    ghost are_still = { λ a b fault docs left are.
-        leave_still fault _ _ _ _ _ _ docs left.2 are };
+    ghost are_still = { λ a b fault words docs left are.
+        leave_still fault _ _ _ _ _ _ words docs left.2 are };
 
     ghost leaves_same = { λ it. (refl, refl, leave_none _ _ _ (S.keeps_self _)) };
 

@@ -16,28 +16,28 @@ use pk_dict::{DictPlace, Entry, Windows, entries_in, look_up_near};
 use pk_posting::{ByteSource, SourceFault};
 use std::alloc::Global;
 
-// Where the dictionary of a segment lies, by the header.
-fn dictionary_of<S: ByteSource>(segment: &Segment, source: &mut S) -> Result<DictPlace, SourceFault>
-    ensures place { S.honest → (docs : List Doc) → IndexSpells (S.content source.old) docs
-        → IsSegmentOf segment.now docs → PlacedAs docs result }
-    ensures content { S.honest → S.content source.new ≡ S.content source.old }
-    ensures size { length (S.content source.new) ≡ length (S.content source.old) }
-    ensures asked { S.asked source.new ≤ S.asked source.old + 1 }
-    ensures keeps { S.keeps source.old source.new }
-    ensures faults { CountsFaults (S.failures source.old) (S.failures source.new) result }
-{
-    let header = header_of(source)?;
-    let Some(at) = segment.postings().checked_add(header.postings) else {
-        return Err(SourceFault::Damaged);
-    };
-    Ok(DictPlace {
-        at,
-        bytes: header.dictionary,
-        terms: header.terms,
-    })
-}
-
 impl Segment {
+    /// Where the dictionary of a segment of kind 2 lies, by the header.
+    pub fn dictionary<S: ByteSource>(&self, source: &mut S) -> Result<DictPlace, SourceFault>
+        ensures place { S.honest → (docs : List Doc) → IndexSpells (S.content source.old) docs
+            → IsSegmentOf self.now docs → PlacedAs docs result }
+        ensures content { S.honest → S.content source.new ≡ S.content source.old }
+        ensures size { length (S.content source.new) ≡ length (S.content source.old) }
+        ensures asked { S.asked source.new ≤ S.asked source.old + 1 }
+        ensures keeps { S.keeps source.old source.new }
+        ensures faults { CountsFaults (S.failures source.old) (S.failures source.new) result }
+    {
+        let header = header_of(source)?;
+        let Some(at) = self.postings().checked_add(header.postings) else {
+            return Err(SourceFault::Damaged);
+        };
+        Ok(DictPlace {
+            at,
+            bytes: header.dictionary,
+            terms: header.terms,
+        })
+    }
+
     /// The entry of a word in the dictionary of a segment of kind 2: in how many of its documents
     /// the word is, and where its posting list lies, counted from `postings`. `None` where none of
     /// them has the word. It reads short stretches of the header and the dictionary, whatever the
@@ -57,30 +57,9 @@ impl Segment {
         ensures keeps { S.keeps source.old source.new }
         ensures faults { CountsReads (S.failures source.old) (S.failures source.new) result }
     {
-        self.list_near(source, &mut [], word)
-    }
-
-    /// The same, by a table of pivots for the dictionary: `look_up_near` of pk_dict says what is
-    /// read for it, and what is put in. A table that was kept for another dictionary costs reads,
-    /// and changes no answer.
-    pub fn list_near<S: ByteSource>(
-        &self,
-        source: &mut S,
-        pivots: &mut [u64],
-        word: &[u8],
-    ) -> Result<Option<Entry>, ReadFault>
-        ensures listed { S.honest → (docs : List Doc) → IndexSpells (S.content source.old) docs
-            → IsSegmentOf self.now docs → ListedAs docs word.now result }
-        ensures content { S.honest → S.content source.new ≡ S.content source.old }
-        ensures size { length (S.content source.new) ≡ length (S.content source.old) }
-        ensures asked { S.asked source.new
-            ≤ S.asked source.old + 1 + 44 * (6 + stretches_of (length word.now)) }
-        ensures keeps { S.keeps source.old source.new }
-        ensures faults { CountsReads (S.failures source.old) (S.failures source.new) result }
-    {
-        let place = dictionary_of(self, source)?;
+        let place = self.dictionary(source)?;
         let mut windows = Windows::on(source, place);
-        let entry = look_up_near(&mut windows, place, pivots, word)?;
+        let entry = look_up_near(&mut windows, place, &mut [], word)?;
         Ok(entry)
     }
 
@@ -98,7 +77,7 @@ impl Segment {
         ensures keeps { S.keeps source.old source.new }
         ensures faults { CountsReads (S.failures source.old) (S.failures source.new) result }
     {
-        let place = dictionary_of(self, source)?;
+        let place = self.dictionary(source)?;
         let terms = entries_in(alloc, source, place, &[])?;
         Ok(terms)
     }

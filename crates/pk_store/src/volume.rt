@@ -8,8 +8,8 @@ ghost use Rattle.pk_index.specs.Index.{Keeps};
 ghost use Rattle.pk_manifest.specs.Spelling.{view};
 ghost use Rattle.pk_model.specs.Collection.{IsCollection};
 ghost use Rattle.pk_model.specs.Tree.{tree_of};
+ghost use Rattle.pk_plan.specs.Plans.{IsPlanFor};
 ghost use Rattle.pk_search.specs.Finding.{FoundAs, LooksUpAs};
-ghost use Rattle.pk_search.specs.Matching.{IsPlanFor};
 ghost use Rattle.pk_search.specs.Opened.{AreOpenOf, pends, present};
 ghost use Rattle.pk_segment.specs.Spelling.{docs_of};
 ghost use Rattle.pk_segment.specs.Reading.{CountsReads};
@@ -37,7 +37,7 @@ use pk_manifest::{Half, Manifest};
 use pk_merge::{MergeInput, MergeWriter, Prepared, choose, prepare};
 use pk_model::limits::{END_OF_IDS, MAX_SEGMENTS};
 use pk_model::{DocNo, Document, Query, Refusal};
-use pk_plan::Plan as SearchPlan;
+use pk_plan::Planned;
 use pk_posting::SourceFault;
 use pk_replace::{Followed, Pieces, StreamFault, WritesExtent, replace_with};
 use pk_search::{OpenSegment, PivotTables, count_stored, find_stored, place_stored, text_stored};
@@ -141,13 +141,13 @@ impl<D: Disk> Volume<D> {
 
     /// Puts the numbers of the committed documents that are not deleted and satisfy the query
     /// behind those that were found, and answers the plan by which it looked.
-    pub(crate) fn find(
+    pub(crate) fn find<'a>(
         &mut self,
         alloc: Global,
-        query: &Query,
+        query: &'a Query,
         found: &mut Vec<DocNo>,
-    ) -> Result<SearchPlan, ReadFault>
-        ensures plan { IfOk result (λ plan. IsPlanFor plan (tree_of query.now)) }
+    ) -> Result<Planned<'a>, ReadFault>
+        ensures plan { IfOk result (λ planned. IsPlanFor planned (tree_of query.now)) }
         ensures found { D.honest → (stored : List Stored)
             → IndexesEntries (D.content self.old.disk) self.old.body.entries stored
             → AreOpenOf self.old.opened stored → self.old.reopen ≡ false

@@ -176,7 +176,7 @@ fn its_texts_are_read(rt: HostRuntime) -> Result<(), Fail> {
     Ok(())
 }
 
-// How many of three words' look-ups are answered, by pivots too.
+// How many of three words' look-ups are answered.
 fn sound_words<S: ByteSource>(
     alloc: Global,
     segment: &Segment,
@@ -185,8 +185,6 @@ fn sound_words<S: ByteSource>(
     let mut answered = 0u32;
     for word in ["a", "b", "c"] {
         answered = answered.saturating_add(sound(segment.list_of(alloc, source, word.as_bytes()))?);
-        let near = segment.list_near(source, &mut [1; 4], word.as_bytes());
-        answered = answered.saturating_add(sound(near)?);
     }
     Ok(answered)
 }

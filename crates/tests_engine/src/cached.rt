@@ -42,21 +42,21 @@ fn replies_do_not_depend_on_blocks(rt: HostRuntime) -> Result<(), Fail> {
 }
 
 /// How many bytes are read from opening to closing, by so many finds.
-fn read_by(player: &mut Player, blocks: &str, finds: u32) -> Result<u64, AllocError> {
+fn read_by(player: &mut Player, blocks: &str, find: &str, finds: u32) -> Result<u64, AllocError> {
     let _ = player.answer(blocks)?;
     let _ = player.answer("!open")?;
     for _ in 0..finds {
-        let _ = player.answer("find a")?;
+        let _ = player.answer(find)?;
     }
     let _ = player.answer("!close")?;
     Ok(player.bytes_read())
 }
 
-/// A player with a store of 4,096 documents, closed.
-fn with_many(alloc: Global) -> Result<Player, Fail> {
+/// A player with a store of so many documents, closed.
+fn with_documents(alloc: Global, count: u32) -> Result<Player, Fail> {
     let mut player = Player::new(alloc);
     let end = "commit => committed\n!close\n";
-    let script = filled(alloc, 4_096, "add a => added #\n", end)?;
+    let script = filled(alloc, count, "add a => added #\n", end)?;
     play_on(alloc, &mut player, script.as_str())?;
     Ok(player)
 }
@@ -64,17 +64,28 @@ fn with_many(alloc: Global) -> Result<Player, Fail> {
 /// How many bytes one find and two finds read, without kept blocks, and with 64 of them.
 fn reads(player: &mut Player) -> Result<[u64; 4], AllocError> {
     Ok([
-        read_by(player, "!blocks 0", 1)?,
-        read_by(player, "!blocks 0", 2)?,
-        read_by(player, "!blocks 64", 1)?,
-        read_by(player, "!blocks 64", 2)?,
+        read_by(player, "!blocks 0", "find a", 1)?,
+        read_by(player, "!blocks 0", "find a", 2)?,
+        read_by(player, "!blocks 64", "find a", 1)?,
+        read_by(player, "!blocks 64", "find a", 2)?,
     ])
 }
 
 #[test]
 fn a_find_again_reads_fewer_bytes(rt: HostRuntime) -> Result<(), Fail> {
-    let [one, two, one_kept, two_kept] = reads(&mut with_many(rt.alloc())?)?;
+    let [one, two, one_kept, two_kept] = reads(&mut with_documents(rt.alloc(), 4_096)?)?;
     assert!(rt; one_kept < two_kept);
     assert!(rt; two_kept.saturating_sub(one_kept) < two.saturating_sub(one));
+    Ok(())
+}
+
+// No document has the words, so that nothing is read but the header and the dictionary, which is
+// short.
+#[test]
+fn more_words_read_a_header_once(rt: HostRuntime) -> Result<(), Fail> {
+    let mut player = with_documents(rt.alloc(), 2)?;
+    let one = read_by(&mut player, "!blocks 0", "find z", 1)?;
+    let more = read_by(&mut player, "!blocks 0", "find z AND y OR z", 1)?;
+    assert!(rt; one == more);
     Ok(())
 }

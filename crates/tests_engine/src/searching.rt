@@ -20,9 +20,9 @@ const STORE: &str = "!disk 65536
 /// The last number that is added.
 const LAST: u32 = 405;
 
-/// Rare and frequent words, so that numbers are sought; words that no document has; chains, `NOT`
-/// and brackets.
-static QUERIES: [&str; 12] = [
+/// Rare and frequent words, so that numbers are sought; words that no document has; a word alone,
+/// some that come twice, and those of one frequency; chains, `NOT` and brackets.
+static QUERIES: [&str; 18] = [
     "r AND f",
     "f AND NOT o AND r",
     "r AND m AND f",
@@ -35,6 +35,12 @@ static QUERIES: [&str; 12] = [
     "NOT (a OR m OR o)",
     "r AND (m OR NOT f)",
     "b AND NOT r",
+    "r",
+    "NOT f",
+    "m OR o OR r",
+    "o AND m AND o",
+    "z AND b",
+    "(r OR m) AND NOT (r AND m) AND NOT z",
 ];
 
 /// Whether the document has the word.
@@ -71,7 +77,13 @@ fn satisfies(place: usize, n: u32) -> bool {
         8 => (a || m) && (o || r),
         9 => !(a || m || o),
         10 => r && (m || !f),
-        _ => has(n, 'b') && !r,
+        11 => has(n, 'b') && !r,
+        12 => r,
+        13 => !f,
+        14 => m || o || r,
+        15 => o && m,
+        16 => false,
+        _ => r != m,
     }
 }
 

@@ -1,27 +1,31 @@
-use Rattle.std.proofs.Common.{◌∙◌, ◌&&◌, List, String, Global, not, map, insert, sym, ap, ap₂}
-use Rattle.pk_plan.specs.Order.{frequency_of, frequencies_of, rises}
-use Rattle.std.specs.Prelude.{string_bytes}
-use Rattle.pk_plan.specs.Plans.{holding, operation_of, takes}
+use Rattle.std.proofs.Common.{◌∙◌, ◌&&◌, ◌+◌, ◌≤◌, ◌<◌, List, ℕ, not, map, insert, slice_index, sym, ap, subst}
+use Rattle.std.specs.Simd.Lanes.{Each1}
+use Rattle.pk_plan.specs.Order.{frequency_of, in_order}
+use Rattle.pk_plan.specs.Plans.{operation_of, takes}
 use Rattle.pk_plan.specs.Operands.{all_take, any_takes}
 use Rattle.pk_plan.proofs.TakingLemmas.{and_assoc, takes_term}
-use Rattle.pk_plan.proofs.OrderLemmas.{insert_rises, map_insert}
+use Rattle.pk_plan.proofs.OrderLemmas.{insert_above, insert_ordered}
 use Rattle.pk_plan.proofs.operands.Operands.put_term.Goals as goal
 
 pub returns-clause-same : goal.returns-clause-same
-returns-clause-same c words =
-    ap (λ (ts : List (String Global)). all_take words ts c.args.self.now.parts.items && not (any_takes words c.args.self.now.excluded.items)) c.in_ok-insert.ensures.ok
-    ∙ ap (λ b. b && not (any_takes words c.args.self.now.excluded.items)) (takes_term words c.args.word c.place_of-at.result c.args.self.now.terms.items (map operation_of c.args.self.now.parts.items))
-    ∙ and_assoc (takes (holding c.args.word) words) (all_take words c.args.self.now.terms.items c.args.self.now.parts.items) (not (any_takes words c.args.self.now.excluded.items))
+returns-clause-same c at words =
+    ap (λ (ps : List ℕ). all_take at words ps c.args.self.now.parts.items && not (any_takes at words c.args.self.now.excluded.items)) c.in_ok-insert.ensures.ok
+    ∙ ap (λ b. b && not (any_takes at words c.args.self.now.excluded.items)) (takes_term at words c.args.place c.rank_of-before.result c.args.self.now.places.items (map (operation_of at) c.args.self.now.parts.items))
+    ∙ and_assoc (takes (at c.args.place) words) (all_take at words c.args.self.now.places.items c.args.self.now.parts.items) (not (any_takes at words c.args.self.now.excluded.items))
 
 pub returns-clause-order : goal.returns-clause-order
-returns-clause-order c = record {
-  frequencies = ap (frequencies_of c.args.table.now) c.in_ok-insert.ensures.ok
-      ∙ map_insert (λ (w : String Global). frequency_of c.args.table.now (string_bytes w)) c.args.self.now.terms.items c.place_of-at.result c.args.word
-      ∙ ap₂ (λ fs f. insert fs c.place_of-at.result f) c.requires.order.frequencies (ap (frequency_of c.args.table.now) (sym c.as_str.ensures.value) ∙ sym c.frequency_in-frequency.ensures)
-      ∙ sym c.in_ok-insert-2.ensures.items;
-  rising = ap rises c.in_ok-insert-2.ensures.items
-      ∙ ap (λ fs. rises (insert fs c.place_of-at.result c.frequency_in-frequency.result)) (sym c.deref.ensures.value)
-      ∙ insert_rises c.deref.result.now c.place_of-at.result c.frequency_in-frequency.result (ap rises c.deref.ensures.value ∙ c.requires.order.rising) c.place_of-at.ensures.within c.place_of-at.ensures.below c.place_of-at.ensures.reaches;
-  parts = c.requires.order.parts;
-  excluded = c.requires.order.excluded;
-}
+returns-clause-order c =
+    let places = c.args.self.now.places.items in
+    let rank = c.rank_of-before.result in
+    let is = c.as_slice.ensures in
+    record {
+      places = ap (in_order c.args.table.now) (c.in_ok-insert.ensures.ok ∙ ap (λ ps. insert ps rank c.args.place) (sym is))
+          ∙ insert_ordered c.args.table.now c.as_slice.result.now rank c.args.place (ap (in_order c.args.table.now) is ∙ c.requires.order.places)
+          c.rank_of-before.ensures.within
+          (λ i l. subst (λ n. frequency_of c.args.table.now (slice_index c.as_slice.result.now i) < n) c.frequency_at.ensures (c.rank_of-before.ensures.below i l))
+          (λ l. subst (λ n. n ≤ frequency_of c.args.table.now (slice_index c.as_slice.result.now rank)) c.frequency_at.ensures (c.rank_of-before.ensures.reaches l))
+          (subst (λ (ps : List ℕ). Each1 (λ q. c.args.place + 1 ≤ q) ps) (sym is) c.requires.order.above);
+      above = subst (λ (ps : List ℕ). Each1 (λ q. c.args.place ≤ q) ps) (sym c.in_ok-insert.ensures.ok) (insert_above places rank c.args.place c.requires.order.above);
+      parts = c.requires.order.parts;
+      excluded = c.requires.order.excluded;
+    }

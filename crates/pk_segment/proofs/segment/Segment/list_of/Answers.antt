@@ -11,7 +11,7 @@ use Rattle.pk_segment.specs.Listing.{ListedAs}
 use Rattle.pk_segment.specs.Spelling.{IndexSpells}
 use Rattle.pk_segment.proofs.ListingLemmas.{asks_most, is_there}
 use Rattle.pk_segment.proofs.ReadLemmas.{cause_read}
-use Rattle.pk_segment.proofs.segment.Segment.list_near.Goals as goal
+use Rattle.pk_segment.proofs.segment.Segment.list_of.Goals as goal
 
 pub returns-in_err-entry-clause-listed : goal.returns-in_err-entry-clause-listed
 returns-in_err-entry-clause-listed g c = λ honest docs is of.

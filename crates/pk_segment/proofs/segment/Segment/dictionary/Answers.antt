@@ -6,7 +6,7 @@ use Rattle.pk_posting.specs.declared.source.SourceFault.{SourceFault}
 use Rattle.pk_segment.specs.Listing.{PlacedAs}
 use Rattle.pk_segment.proofs.ListingLemmas.{most, place_is, says, size_of}
 use Rattle.pk_segment.proofs.ReadLemmas.{cause_read}
-use Rattle.pk_segment.proofs.listing.dictionary_of.Goals as goal
+use Rattle.pk_segment.proofs.segment.Segment.dictionary.Goals as goal
 
 pub returns-in_err-header-clause-place : goal.returns-in_err-header-clause-place
 returns-in_err-header-clause-place g c = λ honest docs is of.
