@@ -1,7 +1,7 @@
 //! An index that documents come into and leave, asked with the live numbers.
 
 use crate::checks::{equal, equal_of};
-use pk_index::{Index, Row, both_into, fold_into};
+use pk_index::{Index, Row, both_into};
 use pk_query::parse;
 use pk_sets::is_rising;
 use std::alloc::{AllocError, Global};
@@ -107,7 +107,7 @@ fn taken(
 }
 
 /// Steps, each with a number and a text, and the answer that is wanted.
-const STEPS: [(Step, u32, &str, &str); 33] = [
+const STEPS: [(Step, u32, &str, &str); 38] = [
     (Step::Terms, 0, "", ""),
     (Step::Find, 0, "NOT a", ""),
     (Step::Add, 5, "a b", ""),
@@ -147,6 +147,25 @@ const STEPS: [(Step, u32, &str, &str); 33] = [
     (Step::Terms, 0, "", " 10 9 e mail strasse éclair"),
     (Step::List, 0, "strasse", " 4294967294"),
     (Step::List, 0, "Straße", ""),
+    // A text of several parts, of which the first and the last are not ASCII alone.
+    (Step::Clear, 0, "", ""),
+    (
+        Step::Add,
+        7,
+        "Éclair at the front, then E-mail and plain words that go on until a part of it ends here, \
+         then as many plain words again, so that another part is ASCII from its first to its last, \
+         and STRASSE, Straße",
+        "",
+    ),
+    (
+        Step::Terms,
+        0,
+        "",
+        " a again and another as ascii at e ends first from front go here is it its last mail many \
+         of on part plain so strasse that the then to until words éclair",
+    ),
+    (Step::List, 0, "strasse", " 7"),
+    (Step::Find, 0, "Éclair ASCII Straße", " 7"),
 ];
 
 /// The step of a row, which a failure names by its number, has the answer that the row wants.
@@ -222,24 +241,4 @@ fn four_thousand_and_ninety_six_documents(rt: HostRuntime) -> Result<(), Fail> {
     add_many(rt.alloc(), &mut index, &mut live)?;
     words_have_their_numbers(&rt, rt.alloc(), &mut index, &mut live)?;
     has_the_words(&rt, rt.alloc(), &index, &live)
-}
-
-/// Pieces, each with what it is folded to.
-const FOLDED: [(&str, &str); 6] = [
-    ("Straße", "strasse"),
-    ("E", "e"),
-    ("ΣΊΣΥΦΟΣ", "σίσυφοσ"),
-    ("Can't", "can't"),
-    ("İ", "i\u{307}"),
-    ("", ""),
-];
-
-#[test]
-fn pieces_are_folded(rt: HostRuntime) -> Result<(), Fail> {
-    let mut string = String::new(rt.alloc());
-    for (piece, folded) in &FOLDED {
-        fold_into(&mut string, piece)?;
-        equal(&rt, string.as_str(), *folded);
-    }
-    Ok(())
 }

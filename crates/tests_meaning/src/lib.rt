@@ -1,4 +1,4 @@
-//! Tests of the words of texts, of the index of words, of the query language and of plans, by
+//! Tests of the pieces and words of texts, of the index of words, of the query language and of plans, by
 //! public calls.
 #![tactic(auto)]
 
@@ -6,6 +6,8 @@
 mod checks;
 #[cfg(test)]
 mod index;
+#[cfg(test)]
+mod pieces;
 #[cfg(test)]
 mod plans;
 #[cfg(test)]

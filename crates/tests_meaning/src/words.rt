@@ -60,7 +60,7 @@ fn check_absent(rt: &impl Abort, alloc: Global, text: &str) -> Result<(), AllocE
 }
 
 /// Texts with their words, as a list and as a set.
-const TEXTS: [(&str, &str, &str); 16] = [
+const TEXTS: [(&str, &str, &str); 20] = [
     (
         "Straße e-mail can't 3.14 foo_bar E",
         "strasse|e|mail|can't|3.14|foo_bar|e",
@@ -89,6 +89,22 @@ const TEXTS: [(&str, &str, &str); 16] = [
     ("日本", "日|本", "日|本"),
     ("ΣΊΣΥΦΟΣ Σίσυφος", "σίσυφοσ|σίσυφοσ", "σίσυφοσ"),
     ("resume résumé", "resume|résumé", "resume|résumé"),
+    (
+        "can't 'tis dogs' o''clock X'Y'Z",
+        "can't|tis|dogs|o|clock|x'y'z",
+        "can't|clock|dogs|o|tis|x'y'z",
+    ),
+    (
+        "3,a a.3 1;2 a;b a:b 5. .5",
+        "3|a|a|3|1;2|a|b|a:b|5|5",
+        "1;2|3|5|a|a:b|b",
+    ),
+    (
+        "x86_64.tar.gz __ _ _a_ A__1",
+        "x86_64|tar.gz|_a_|a__1",
+        "_a_|a__1|tar.gz|x86_64",
+    ),
+    ("a\r\nb\tc\n\nd", "a|b|c|d", "a|b|c|d"),
 ];
 
 #[test]
@@ -134,5 +150,26 @@ fn twenty_thousand_words_in_one_text(rt: HostRuntime) -> Result<(), Fail> {
     let text = many_words(rt.alloc())?;
     check_places(&rt, rt.alloc(), &words(rt.alloc(), &text)?)?;
     equal(&rt, word_list(rt.alloc(), &text)?.len(), 20_000);
+    Ok(())
+}
+
+/// The word stands between signs, and behind a digit, as one word each time.
+fn check_long(rt: &impl Abort, alloc: Global, word: &str, folded: &str) -> Result<(), AllocError> {
+    let text = format!(in alloc; "-{word}-9{word}.")?;
+    let list = format!(in alloc; "{folded}|9{folded}")?;
+    equal(rt, list_of(alloc, &text)?.as_str(), list.as_str());
+    Ok(())
+}
+
+/// Words of one to forty letters, which are passed sixteen at a time.
+#[test]
+fn words_of_each_length(rt: HostRuntime) -> Result<(), Fail> {
+    let mut word = String::new(rt.alloc());
+    let mut folded = String::new(rt.alloc());
+    for _ in 0..40 {
+        word.push_str("A")?;
+        folded.push_str("a")?;
+        check_long(&rt, rt.alloc(), &word, &folded)?;
+    }
     Ok(())
 }
