@@ -1,7 +1,8 @@
 # Each target is one command, and can be typed by hand in its place.
 # demo and try run a session of the program; test is the merge gate, memory what comes after it;
 # check proves what has changed; mutants tries wrong bodies where a contract has changed; soak kills
-# what an archive over machines runs; install puts the program, its client and their manuals in place.
+# what an archive over machines runs; install puts the program, its client and their manuals in place;
+# deb and dist make packages.
 
 SESSION = examples/mail.lines
 PROGRAM = crates/pk_find/out/pk_find
@@ -19,10 +20,14 @@ LIB = $(DESTDIR)$(PREFIX)/lib/rubewola
 MAN = $(DESTDIR)$(PREFIX)/share/man/man1
 BASH_COMPLETIONS = $(DESTDIR)$(PREFIX)/share/bash-completion/completions
 ZSH_COMPLETIONS = $(DESTDIR)$(PREFIX)/share/zsh/site-functions
+UNITS_OF_SYSTEMD = $(DESTDIR)$(PREFIX)/share/systemd/user
 # The interpreter that runs the installed client: a real one, and no version manager's shim.
 PYTHON = $(shell python3 -c 'import sys; print(sys.base_prefix + "/bin/python3")')
 
-.PHONY: demo try test seals mutants client soak memory check fmt bench install uninstall
+VERSION = $(shell sed -n 's/^VERSION = "\(.*\)"/\1/p' clients/python/rubewola/commands.py)
+PACKAGES = $(CURDIR)/dist
+
+.PHONY: demo try test seals mutants client soak memory check fmt bench install uninstall deb dist
 
 # Proves and builds the program, makes a store in a file, and answers a session over a small mail
 # archive.
@@ -85,10 +90,11 @@ $(PROGRAM):
 	cd crates/pk_find && rt run -- --version
 
 # make install PREFIX=~/.local: the program, the client as `rubewola` and `rubewola-shards`, the Python
-# packages below lib/rubewola, compiled, the manuals, and completions for bash and zsh. Python finds the
-# packages with PYTHONPATH=PREFIX/lib/rubewola.
+# packages below lib/rubewola, compiled, the manuals, completions for bash and zsh, and a timer for
+# systemd. Python finds the packages with PYTHONPATH=PREFIX/lib/rubewola.
 install: $(PROGRAM)
-	install -d $(BIN) $(LIB)/rubewola $(LIB)/rubewola_shards $(MAN) $(BASH_COMPLETIONS) $(ZSH_COMPLETIONS)
+	install -d $(BIN) $(LIB)/rubewola $(LIB)/rubewola_shards $(MAN) $(BASH_COMPLETIONS) \
+	    $(ZSH_COMPLETIONS) $(UNITS_OF_SYSTEMD)
 	install -m 755 $(PROGRAM) $(BIN)/pk_find
 	sed '1s|.*|#!$(PYTHON) -SI|' clients/python/entry.py > $(BIN)/rubewola
 	chmod 755 $(BIN)/rubewola
@@ -99,10 +105,34 @@ install: $(PROGRAM)
 	install -m 644 man/pk_find.1 man/rubewola.1 man/rubewola-shards.1 $(MAN)
 	install -m 644 clients/completions/rubewola.bash $(BASH_COMPLETIONS)/rubewola
 	install -m 644 clients/completions/_rubewola $(ZSH_COMPLETIONS)/_rubewola
+	sed 's|@BIN@|$(PREFIX)/bin|' packages/rubewola-load.service \
+	    > $(UNITS_OF_SYSTEMD)/rubewola-load.service
+	install -m 644 packages/rubewola-load.timer $(UNITS_OF_SYSTEMD)
 
 # Takes away what install put there.
 uninstall:
 	rm -f $(BIN)/pk_find $(BIN)/rubewola $(BIN)/rubewola-shards
 	rm -f $(MAN)/pk_find.1 $(MAN)/rubewola.1 $(MAN)/rubewola-shards.1
 	rm -f $(BASH_COMPLETIONS)/rubewola $(ZSH_COMPLETIONS)/_rubewola
+	rm -f $(UNITS_OF_SYSTEMD)/rubewola-load.service $(UNITS_OF_SYSTEMD)/rubewola-load.timer
 	rm -rf $(LIB)
+
+# A package for Debian, in dist/, of what `make install` puts in place.
+deb: $(PROGRAM)
+	stage=$$(mktemp -d) && trap 'rm -rf "$$stage"' EXIT && \
+	$(MAKE) --no-print-directory install DESTDIR="$$stage" PREFIX=/usr PYTHON=/usr/bin/python3 \
+	    ZSH_COMPLETIONS="$$stage/usr/share/zsh/vendor-completions" \
+	    UNITS_OF_SYSTEMD="$$stage/usr/lib/systemd/user" && \
+	packages/deb.sh "$$stage" $(VERSION) "$(PACKAGES)"
+
+# The sources of what is committed, in dist/, and the same with the built program, which can be
+# installed where there is no toolchain.
+dist: $(PROGRAM)
+	mkdir -p "$(PACKAGES)"
+	git archive --prefix=rubewola-$(VERSION)/ HEAD | gzip -9n \
+	    > "$(PACKAGES)/rubewola-$(VERSION).tar.gz"
+	stage=$$(mktemp -d) && trap 'rm -rf "$$stage"' EXIT && \
+	strip -o "$$stage/pk_find" $(PROGRAM) && \
+	git archive --prefix=rubewola-$(VERSION)/crates/pk_find/out/ --add-file="$$stage/pk_find" \
+	    --prefix=rubewola-$(VERSION)/ HEAD | gzip -9n \
+	    > "$(PACKAGES)/rubewola-$(VERSION)-$$(uname -s -m | tr 'A-Z ' 'a-z-').tar.gz"

@@ -38,7 +38,7 @@ def search(given: Given) -> int:
             found = searching.answer(store, " ".join(given.words), tell)
             count, words = count + len(found.numbers), found.query.words
             if "count" not in given.options:
-                numbers = searching.newest(store, found, given.options.get("limit", sys.maxsize))
+                numbers = searching.newest(found, given.options.get("limit", sys.maxsize))
                 results.read(store, numbers, path if len(given.stores) > 1 else "")
     lines = [str(count)] if "count" in given.options else _lines(given, results, words)
     put(lines, "\0" if "null" in given.options else "\n")
@@ -155,6 +155,12 @@ def load(given: Given) -> int:
     """Loads what a command line names."""
     from . import loads
     return loads.load(given)
+
+
+def serve(given: Given) -> int:
+    """Serves a page for a browser."""
+    from . import serving
+    return serving.serve(given)
 
 
 def shell(given: Given) -> int:

@@ -12,6 +12,7 @@ if TYPE_CHECKING:
     from typing import Any
 
 STORE = "RUBEWOLA_STORE"
+STORES = "[STORE ..]"  # The words of a command that are all stores.
 
 
 class Option(namedtuple("Option", ("name", "help", "value", "short"), defaults=("", ""))):
@@ -93,12 +94,15 @@ class Given:
 
     def _stores(self) -> list[str]:
         """The stores: those of the options, or else that of the environment, or else the first
-        word."""
-        stores = self.options.pop("store", None)
+        word; where all words are stores, these and those of the options, or else that of the
+        environment."""
+        stores = self.options.pop("store", [])
+        if self.command.words == STORES:
+            stores, self.words = stores + self.words, []
         stores = stores or [one for one in [os.environ.get(STORE)] if one]
         if not stores:
             stores, self.words = self.words[:1], self.words[1:]
-        if not stores or len(stores) > 1 and self.command.name != "search":
+        if not stores or len(stores) > 1 and self.command.name not in ("search", "serve"):
             raise Misused(f"usage: {self.command.usage}")
         return stores
 

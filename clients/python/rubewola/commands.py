@@ -2,7 +2,7 @@
 
 from __future__ import annotations
 
-from .arguments import Command, Option
+from .arguments import STORES, Command, Option
 
 VERSION = "0.1.0"
 
@@ -35,6 +35,8 @@ _ALL = (
     Command("create", "create", "", "makes an empty store", (
         Option("--size", "its room, as 500M or 20G (default: 64M)", "SIZE"),)),
     Command("shell", "shell", "", "a prompt"),
+    Command("serve", "serve", STORES, "a page for a browser on this machine, to search and read", (
+        Option("--port", "the port of its address (default: one that is free)", "N"),)),
 )
 COMMANDS = {command.name: command for command in _ALL}
 
@@ -49,6 +51,7 @@ EXAMPLES = """examples:
   $ rubewola search lines 'failed date:2026..'
   $ rubewola search service level:error
   $ rubewola search -s archive -s lines freeze OR failed
+  $ rubewola serve archive lines
   $ rubewola show archive 1
   $ rubewola delete archive --query 'subject:advertisement'
   $ rubewola info archive

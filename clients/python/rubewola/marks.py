@@ -32,13 +32,19 @@ class Marks:
     def _places(self, text: str) -> list[tuple[int, int]]:
         return [run.span() for run in _RUN.finditer(text) if run[0].casefold() in self._words]
 
+    def pieces(self, text: str) -> Iterator[tuple[str, bool]]:
+        """A text in pieces, each with whether it is one of the words."""
+        at = 0
+        for begin, end in self._places(text):
+            yield text[at:begin], False
+            yield text[begin:end], True
+            at = end
+        yield text[at:], False
+
     def marked(self, text: str) -> str:
         """A text with the signs of a terminal round each word."""
-        pieces, at = [], 0
-        for begin, end in self._places(text):
-            pieces += [text[at:begin], BEGIN, text[begin:end], END]
-            at = end
-        return "".join([*pieces, text[at:]])
+        return "".join(f"{BEGIN}{piece}{END}" if is_word else piece
+                       for piece, is_word in self.pieces(text))
 
     def context(self, text: str, width: int) -> str:
         """So many characters of a text as one line, with the first of the words in their midst;

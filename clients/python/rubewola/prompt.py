@@ -62,7 +62,7 @@ def answer(store: Store, line: str) -> str:
     command, _, rest = line.partition(" ")
     if command == "find":
         found = searching.answer(store, rest, tell)
-        results = searching.Results().read(store, searching.newest(store, found, SHOWN))
+        results = searching.Results().read(store, searching.newest(found, SHOWN))
         lines = map(searching.as_line, results.newest(SHOWN))
         return "\n".join([*lines, f"found {len(found.numbers)}"])
     if command == "show":

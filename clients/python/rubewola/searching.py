@@ -14,7 +14,7 @@ from .words import SIGN, has_word
 
 TYPE_CHECKING = False
 if TYPE_CHECKING:
-    from collections.abc import Callable, Iterator
+    from collections.abc import Callable, Iterable, Iterator
     from typing import Any
 
     from .store import Store
@@ -32,15 +32,32 @@ def _untold(_: str) -> None:
     """Tells nobody."""
 
 
-class Found(namedtuple("Found", ("query", "numbers"))):
-    """A query as it was read, and the documents that satisfy it."""
+class Found(namedtuple("Found", ("store", "query", "numbers"))):
+    """What satisfies a query as it was read, while the store is open."""
+
+    def _within(self, span: str) -> str:
+        return f"({self.query.text}) {SIGN}{span}"
+
+    def inside(self, span: str) -> list[int]:
+        """What of it lies in a decade, a year, a month or a day, as its digits."""
+        return self.store.find(self._within(span))
+
+    def counts(self, spans: Iterable[str]) -> Iterator[int]:
+        """How much of it lies in each of many."""
+        replies = self.store.ask_all(f"find {self._within(span)}" for span in spans)
+        return (int(reply.split(" ", 2)[1].rstrip(":")) for reply in replies)
+
+
+def read(store: Store, typed: str) -> queries.Query:
+    """A query with the fields of a store's documents."""
+    return queries.read(typed, lambda name: bool(store.find(has_word(name))))
 
 
 def answer(store: Store, typed: str, tell: Callable[[str], None] = _untold) -> Found:
     """What satisfies a query with fields, as `from:bdale`. The `place` of a fault is that of a
     typed character, and the refusal tells the query with a caret under it. `tell` is given what
     the query does not mean, where it looks as if it did."""
-    query = queries.read(typed, lambda name: bool(store.find(has_word(name))))
+    query = read(store, typed)
     try:
         numbers = store.find(query.text)
     except QueryRefused as refusal:
@@ -52,7 +69,7 @@ def answer(store: Store, typed: str, tell: Callable[[str], None] = _untold) -> F
         tell(pointed(note.text, query.typed, note.place))
     if SIGN in query.text and _has_earlier(store):
         tell(EARLIER_CLIENT)
-    return Found(query, numbers)
+    return Found(store, query, numbers)
 
 
 def find(store: Store, typed: str, tell: Callable[[str], None] = _untold) -> list[int]:
@@ -76,14 +93,14 @@ def within(span: str) -> list[str]:
             for at in range(most, -1 if most == 9 else 0, -1)]
 
 
-def newest(store: Store, found: Found, count: int) -> list[int]:
+def newest(found: Any, count: int) -> list[Any]:
     """So many of what was found, the newest by day; of a day those with the highest numbers. What
     has no day is older than all else."""
     pool, spans, taken = found.numbers, SPANS, []
     try:
         while spans and len(pool) > count:
             for span in spans:
-                inside = store.find(f"({found.query.text}) {SIGN}{span}")
+                inside = found.inside(span)
                 if len(inside) >= count:
                     pool, spans = inside, within(span)
                     break

@@ -54,10 +54,10 @@ class Commands(Stores):
                 store.delete(number)
             found = searching.answer(store, "zeile OR nichts")
             for count in [*range(1, len(inner) + 2, 7), 2]:
-                self.assertEqual(sorted(searching.newest(store, found, count)),
+                self.assertEqual(sorted(searching.newest(found, count)),
                                  sorted(inner[-count:]), count)
             long = searching.answer(store, " OR ".join(["zeile"] * 455))
-            self.assertEqual(searching.newest(store, long, 3), found.numbers[-3:])
+            self.assertEqual(searching.newest(long, 3), found.numbers[-3:])
 
     def test_several_stores(self):
         other = self.folder / "t"
@@ -201,7 +201,8 @@ class Completions(unittest.TestCase):
                 (["search", "--c"], ["--count", "--context"]),
                 (["search", "--format", "j"], ["json"]), (["show", "store", ""], []),
                 (["delete", "store", "--query", "su"], ["subject:"]), (["load-log", "s", ""], []),
-                (["nothing", ""], []), (["--v"], ["--version"])]:
+                (["nothing", ""], []), (["--v"], ["--version"]), (["ser"], ["serve"]),
+                (["serve", "--p"], ["--port"]), (["serve", "store", ""], [])]:
             self.assertEqual(candidates(words), told, words)
 
     def completed(self, shell, script):

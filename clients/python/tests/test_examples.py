@@ -81,7 +81,20 @@ class Examples(Stores):
         self.assertGreaterEqual(len(lines), least)
         for line in lines:
             with self.subTest(line):
-                self.said(line.replace("journalctl -o json", "cat journal"), status=0)
+                if line.startswith("rubewola serve "):
+                    self.serve(line)
+                else:
+                    self.said(line.replace("journalctl -o json", "cat journal"), status=0)
+
+    def serve(self, line):
+        """Runs a server until it has told its address."""
+        server = subprocess.Popen(["sh", "-c", f"exec {line}"], cwd=self.folder, encoding="utf-8",
+                                  env=self.environment, stdout=subprocess.PIPE,
+                                  stderr=subprocess.DEVNULL)
+        told = server.stdout.readline()
+        server.kill()
+        server.communicate()
+        self.assertRegex(told, r"\Ahttp://127\.0\.0\.1:\d+/.+/\n\Z")
 
     def test_the_manual(self):
         told = (TOP / "man/rubewola.1").read_text("utf-8")

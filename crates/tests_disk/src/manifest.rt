@@ -94,7 +94,8 @@ fn three_entries(alloc: Global) -> Result<Vec<Part>, AllocError>
 
 // A manifest with these entries on 64 units, of version 1.
 fn three(alloc: Global) -> Result<Manifest, AllocError>
-    ensures { IfOk result (λ m. length m.entries.items ≤ 64) }
+    ensures version { IfOk result (λ m. m.version ≡ 1) }
+    ensures few { IfOk result (λ m. length m.entries.items ≤ 64) }
 {
     Ok(Manifest {
         version: 1,

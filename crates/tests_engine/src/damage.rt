@@ -11,9 +11,10 @@ use std::alloc::Global;
 use std::ops::Range;
 use std::test::Fail;
 
-/// A store with four documents committed. The body in force is B, at byte 9,216. Its entry stands at
-/// byte 9,252, and names the segment of 386 bytes at unit 34, byte 17,408: 24 bytes of header, four
-/// entries of 12, the texts from byte 17,480 on, and the lists from byte 17,616 on.
+/// A store with four documents committed. The body in force is B, at byte 9,216. At byte 9,252 it
+/// names its table at unit 35, byte 17,920, whose entry names the segment of 386 bytes at unit 34,
+/// byte 17,408: 24 bytes of header, four entries of 12, the texts from byte 17,480 on, and the lists
+/// from byte 17,616 on.
 const FOUR: &str = "
     !disk 32768
     !create => created
@@ -24,7 +25,8 @@ const FOUR: &str = "
     commit => committed
     !close
     !bytes 9224 28 => 02 {00 *7}40 00 00 00 05 00 00 00 02 {00 *7}01 00 00 00
-    !bytes 9252 24 => 01 {00 *7}22 00 00 00 01 00 00 00 82 01 00 00 02 00 00 00
+    !bytes 9252 12 => 23 00 00 00 01 00 00 00 28 00 00 00
+    !bytes 17920 24 => 01 {00 *7}22 00 00 00 01 00 00 00 82 01 00 00 02 00 00 00
     !bytes 17480 8 => 62 72 65 61 6B 74 68 72
     !bytes 17616 5 => 01 00 00 00 83
 ";
@@ -47,7 +49,8 @@ static EDITS: [&str; 7] = [
     !open => opened
     !check => ok 4 next 5 segments 1
     ",
-    // The next number, the next segment id, the number of segments, and a byte behind the entry.
+    // The next number, the next segment id, the number of segments, and a byte behind the table's
+    // place.
     "
     !set 9236 00
     !open => damaged
@@ -55,31 +58,34 @@ static EDITS: [&str; 7] = [
     !set 9240 01
     !open => damaged
     !set 9240 02
-    !set 9248 41
+    !set 9248 02
     !open => damaged
     !set 9248 01
-    !set 9292 01
+    !set 9264 01
     !open => damaged
-    !set 9292 00
+    !set 9264 00
     !open => opened
     !check => ok 4 next 5 segments 1
     ",
-    // The entry's id, its kind, its units, and its first unit: that of a body, and one past the disk.
+    // The entry's id, its kind, its units, and its first unit: that of a body, that of the table, and
+    // one past the disk.
     "
-    !set 9252 00
+    !set 17920 00
     !open => damaged
-    !set 9252 01
-    !set 9272 03
+    !set 17920 01
+    !set 17940 03
     !open => damaged
-    !set 9272 02
-    !set 9264 02
+    !set 17940 02
+    !set 17932 02
     !open => damaged
-    !set 9264 01
-    !set 9260 21
+    !set 17932 01
+    !set 17928 21
     !open => damaged
-    !set 9260 40
+    !set 17928 23
     !open => damaged
-    !set 9260 22
+    !set 17928 40
+    !open => damaged
+    !set 17928 22
     !open => opened
     !check => ok 4 next 5 segments 1
     ",
@@ -97,12 +103,12 @@ static EDITS: [&str; 7] = [
     // A deletion list over the segment, and one of five numbers at unit 40; then one of the four that
     // there are.
     "
-    !set 9276 22 00 00 00 01 00 00 00 05
+    !set 17944 22 00 00 00 01 00 00 00 05
     !open => damaged
-    !set 9276 28 00 00 00 01 00 00 00 09
+    !set 17944 28 00 00 00 01 00 00 00 09
     !set 20480 05 00 00 00 81 81 81 81 81
     !open => damaged
-    !set 9284 08
+    !set 17952 08
     !set 20480 04
     !open => opened
     !check => ok 0 next 5 segments 1

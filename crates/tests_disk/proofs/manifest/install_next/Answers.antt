@@ -30,4 +30,4 @@ install-answer-requires-clause-greater c = λ _.
     ∙ ap (λ (bs : List ℕ). generation_of (body_of bs (other c.other.result))) read.bytes
     ∙ ap (λ (h : Half). generation_of (body_of c.args.disk.bytes.items h)) back
     ∙ ap generation_of held.spelled ∙ generation_of_spelling (view c.in_ok-old.old) held.sound.generation in
-    omega (arith, same, c.in_ok-next_generation.ensures.next)
+    omega (arith, same, c.in_ok-next_generation.ensures.next, c.in_ok-next.ensures.generation)
