@@ -165,7 +165,7 @@ def merge(program, folder):
     merged(f"{folder}/fts5", "merge", f"{folder}/base")
     if os.path.exists(f"{folder}/xapian"):
         shutil.rmtree(f"{folder}/compact", ignore_errors=True)
-        merged(f"{folder}/xapian", "merge", f"{folder}/database", f"{folder}/compact")
+        merged(f"{folder}/xapian", "merge", f"{folder}/compact", f"{folder}/database")
 
 
 def show_sizes(folder):

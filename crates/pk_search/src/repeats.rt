@@ -1,5 +1,5 @@
 //! The words of a query that come more than once.
-ghost use Rattle.std.specs.Prelude.{◌≡◌, ◌<◌, ◌+◌, length, IfOk, OnOk};
+ghost use Rattle.std.specs.Prelude.{◌<◌, ◌+◌, length, IfOk, OnOk};
 ghost use Rattle.pk_plan.specs.Words.{texts};
 ghost use Rattle.pk_search.specs.Repeats.{AreFirsts, IsFirst, IsKnown};
 

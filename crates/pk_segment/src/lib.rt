@@ -33,7 +33,8 @@
 //! halves the directory; `text_of` does so too, and then reads the one text, at most 4,096 bytes at
 //! once. Whoever wants many documents reads the `directory` into memory, in stretches as long, and
 //! then with `document_in` each text once. Of kind 2, `list_of` looks a word up in the dictionary,
-//! whose entry leads to its list, and `terms` gives all words. Each call that reads is handed the
+//! whose entry leads to its list, `dictionary` says where that lies, for whoever looks many up by
+//! one reading of the header, and `terms` gives all words. Each call that reads is handed the
 //! source; `ExtentSource` is the extent of a disk as one.
 //!
 //! # What is refused

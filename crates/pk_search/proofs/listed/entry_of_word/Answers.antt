@@ -1,5 +1,5 @@
 -- The entry is that of the same word before, or what the dictionary says.
-use Rattle.std.proofs.Common.{◌≡◌, ◌∙◌, [], List, ap, get_or, refl, sym, subst, Result}
+use Rattle.std.proofs.Common.{◌≡◌, ◌∙◌, [], ap, get_or, refl, sym, subst, Result}
 use Rattle.std.specs.Prelude.{Option}
 use Rattle.std.proofs.lemmas.Result.{err_from_is_err_and}
 use Rattle.pk_dict.specs.declared.entry.Entry.{Entry}

@@ -1,7 +1,6 @@
 -- Each word found, folded, is one more; past the last one they are those of the text.
-use Rattle.std.proofs.Common.{◌≡◌, ◌∷◌, ◌++◌, [], List, ℕ, map, length, slice_range, append-nil, append_assoc, ap, ◌∙◌, sym, string_bytes, arith, length-append}
+use Rattle.std.proofs.Common.{◌≡◌, ◌∷◌, ◌++◌, [], map, slice_range, append_assoc, ap, ◌∙◌, sym, string_bytes, arith}
 use Rattle.std.proofs.lemmas.List.{map-append}
-use Rattle.std.proofs.lemmas.Str.{IsCharBoundary-from_ascii, IsAscii-take, IsAscii-drop}
 use Rattle.pk_model.specs.Words.{folded, words_of}
 use Rattle.pk_pieces.specs.Pieces.{words_from}
 use Rattle.pk_pieces.proofs.CallerLemmas.{words_from_start}

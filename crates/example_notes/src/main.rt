@@ -1,0 +1,157 @@
+//! Notes that outlive a crash: how a program keeps texts by the crate pk_store alone.
+//!
+//! A store stands on a disk, a value whose type meets the trait `Disk` of pk_disk. Here that is a
+//! `MemoryDisk`, whose crashes can be tried. A program of its own takes the `FileDisk` of
+//! pk_filedisk, and calls the same functions: pk_command does so.
+//!
+//! | call | what its contract gives |
+//! |---|---|
+//! | `Store::create(alloc, disk, 0)` | an empty store; or the disk again, and why there is none |
+//! | `store.add(alloc, text)` | a document and its number, in memory alone |
+//! | `store.commit(alloc)` | all that was added is on the disk, and stays there after each crash |
+//! | `store.find(alloc, &query)` | the numbers of exactly those documents that satisfy the query |
+//! | `store.close()` | the disk; what no commit has written is gone |
+//! | `Store::open_on(alloc, disk, 0)` | the documents of the last commit; or of the one that a crash met |
+//!
+//! `session` goes through them. `crash_in_commit` has a disk that fails from a call on, in the midst
+//! of a commit, and then loses what no sync had made stay: whichever call it is, the store opens, and
+//! has the new note if its commit was acknowledged. Here that is tried; the contract of
+//! `pk_store::laws::sessions` says it of every list of sessions and every crash.
+//!
+//! A refusal is a value: `?` hands it on as a `Fault`. What is proved of this program is that it is
+//! safe and ends; each loop and index is met by what the called functions promise.
+#![tactic(auto)]
+
+ghost use Rattle.std.specs.Prelude.{◌≤◌};
+
+use pk_disk::{FaultDisk, MemoryDisk};
+use pk_model::{DocNo, Query, Refusal};
+use pk_store::Store;
+use std::alloc::{AllocError, Global};
+use std::process::ExitCode;
+
+/// The bytes of the disk: a store wants at least 64 units of 512 bytes.
+const BYTES: usize = 32_768;
+
+/// More calls of the disk than an opening and a commit make together.
+const CALLS: u64 = 64;
+
+/// Why the session came to no end.
+#[derive(Debug, Drop)]
+enum Fault {
+    /// No store was created.
+    Create,
+    /// No store was opened.
+    Open,
+    /// A command was refused.
+    Refused,
+    /// There was no memory.
+    Memory,
+}
+
+impl From<AllocError> for Fault {
+    fn from(_: AllocError) -> Fault {
+        Fault::Memory
+    }
+}
+
+impl From<Refusal> for Fault {
+    fn from(_: Refusal) -> Fault {
+        Fault::Refused
+    }
+}
+
+fn main(rt: HostRuntime) -> ExitCode {
+    let alloc = rt.alloc();
+    let mut output = rt.stdout();
+    let mut told = String::new(alloc);
+    if session(alloc, &mut told).is_err() {
+        return ExitCode::FAILURE;
+    }
+    match output.write_all(told.as_bytes()) {
+        Ok(()) => ExitCode::SUCCESS,
+        Err(_) => ExitCode::FAILURE,
+    }
+}
+
+/// Makes a store, keeps notes, and crashes; what comes is told.
+fn session(alloc: Global, told: &mut String) -> Result<(), Fault> {
+    let disk = MemoryDisk::of_bytes(alloc, vec![in alloc; 0u8; BYTES]?);
+    let Ok(mut store) = Store::create(alloc, disk, 0) else {
+        return Err(Fault::Create);
+    };
+    store.add(alloc, "buy milk and bread")?;
+    store.add(alloc, "take the book to the library")?;
+    store.commit(alloc)?;
+    store.add(alloc, "more milk")?;
+    tell_found(alloc, &mut store, told)?;
+
+    // The third note was not committed: a crash takes it, and nothing else.
+    let disk = store.close().crash(&[]);
+    let mut store = opened(alloc, disk)?;
+    told.push_str("after a crash ")?;
+    tell_found(alloc, &mut store, told)?;
+
+    let bytes = store.close().into_bytes();
+    for call in 1..=CALLS {
+        let disk = MemoryDisk::of_bytes(alloc, bytes.to_vec(alloc)?);
+        if crash_in_commit(alloc, disk, call, told)? {
+            break;
+        }
+    }
+    Ok(())
+}
+
+/// The store on a disk.
+fn opened(alloc: Global, disk: MemoryDisk) -> Result<Store<MemoryDisk>, Fault> {
+    match Store::open_on(alloc, disk, 0) {
+        Ok(store) => Ok(store),
+        Err(_) => Err(Fault::Open),
+    }
+}
+
+/// Tells which notes have the word.
+fn tell_found(
+    alloc: Global,
+    store: &mut Store<MemoryDisk>,
+    told: &mut String,
+) -> Result<(), Fault> {
+    let query = Query::Term(String::from_str(alloc, "milk")?);
+    told.push_str("milk stands in")?;
+    for DocNo(number) in store.find(alloc, &query)? {
+        write!(told, " {number}")?;
+    }
+    told.push_str("\n")?;
+    Ok(())
+}
+
+/// Adds a note and commits on a disk that fails from a call on; then loses what no sync has made
+/// stay, tells how many notes are there, and gives whether the commit was acknowledged.
+fn crash_in_commit(
+    alloc: Global,
+    disk: MemoryDisk,
+    call: u64,
+    told: &mut String,
+) -> Result<bool, Fault>
+    requires { 1 ≤ call }
+{
+    let Ok(mut store) = Store::open_on(alloc, FaultDisk::new(disk, call), 0) else {
+        return Ok(false); // The call was one of the opening's.
+    };
+    store.add(alloc, "call the library")?;
+    let is_acknowledged = store.commit(alloc).is_ok();
+    // A crash leaves any bytes where no sync came: here 255.
+    let picks = vec![in alloc; 255u8; BYTES]?;
+    let disk = store.close().into_inner().crash(&picks);
+    let notes = opened(alloc, disk)?.counts()?.documents;
+    let word = if is_acknowledged {
+        "acknowledged"
+    } else {
+        "refused"
+    };
+    write!(
+        told,
+        "call {call} fails: the commit was {word}, {notes} notes are there\n"
+    )?;
+    Ok(is_acknowledged)
+}
