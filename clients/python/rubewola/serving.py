@@ -149,8 +149,8 @@ def serve(given: Given) -> int:
         with opened(path):
             pass  # A wrong path is told at once.
     with Server(given.stores, port) as server:
+        tell("open this address; whoever has it can read the stores; an interrupt ends the page")
         put([f"http://{LOOPBACK}:{server.port}{server.top}"])
         sys.stdout.flush()
-        tell("open this address; whoever has it can read the stores; an interrupt ends the page")
         server.serve_forever()
     return 0
