@@ -29,7 +29,7 @@ use crate::planned::find_planned;
 use crate::repeats::first_places;
 use pk_cache::BlockCache;
 use pk_dict::Entry;
-use pk_disk::Disk;
+use pk_disk::{Disk, Extent};
 use pk_index::Index;
 use pk_manifest::Part;
 use pk_model::{DocNo, Query};
@@ -72,7 +72,7 @@ fn find_from<S: ByteSource>(
 // What the dictionary of the segment of the entry at a place says of each word; of kind 1 nothing.
 fn look_up_in<D: Disk>(
     alloc: Global,
-    disk: &mut D,
+    source: &mut ExtentSource<D>,
     pivots: &mut PivotTables,
     place: usize,
     entry: &Part,
@@ -81,56 +81,61 @@ fn look_up_in<D: Disk>(
     firsts: &[usize],
 ) -> Result<Vec<Option<Entry>>, ReadFault>
     requires inside { start_of entry.now.extent + entry.now.extent.bytes
-        ≤ length (D.content disk.old) }
+        ≤ length (D.content source.old.disk.now) }
     requires firsts { AreFirsts (texts words.now) firsts.now }
     ensures entries { D.honest → entry.now.kind ≡ 2 → (docs : List Doc)
-        → IndexSpells (extent_bytes (D.content disk.old) entry.now.extent) docs
+        → IndexSpells (extent_bytes (D.content source.old.disk.now) entry.now.extent) docs
         → IsSegmentOf opened.now.segment docs → EntriesAs (texts words.now) docs result }
-    ensures fault { D.honest → (s : Stored) → IndexesEntry (D.content disk.old) entry.now s
+    ensures fault { D.honest → (s : Stored)
+        → IndexesEntry (D.content source.old.disk.now) entry.now s
         → IsSegmentOf opened.now.segment s.documents → IfErr result IsNoDamage }
-    ensures keeps { KeepsDisk D.Disk disk.old disk.new }
-    ensures reads { CountsReads (D.failed_reads disk.old) (D.failed_reads disk.new) result }
+    ensures same_reference { source.new.disk.ghost_name ≡ source.old.disk.ghost_name }
+    ensures keeps { KeepsDisk D.Disk source.old.disk.now source.new.disk.now }
+    ensures reads { CountsReads (D.failed_reads source.old.disk.now)
+        (D.failed_reads source.new.disk.now) result }
 {
     if entry.kind != INDEXED {
         return Ok(Vec::new(alloc));
     }
-    let mut source = ExtentSource::on(disk, entry.extent);
+    source.turn_to(entry.extent);
     let _ = pivots.prepare(alloc, place, entry);
     if let Some(tables) = &mut pivots.tables {
         if let Some(table) = tables.get_mut(&entry.segment) {
-            return look_up(alloc, &mut source, &opened.segment, table, words, firsts);
+            return look_up(alloc, source, &opened.segment, table, words, firsts);
         }
     }
-    look_up(alloc, &mut source, &opened.segment, &mut [], words, firsts)
+    look_up(alloc, source, &opened.segment, &mut [], words, firsts)
 }
 
 // What the dictionaries of all segments of kind 2 say of each word. Each is asked once for a word
 // that comes more than once.
 fn look_up_all<D: Disk>(
     alloc: Global,
-    disk: &mut D,
+    source: &mut ExtentSource<D>,
     pivots: &mut PivotTables,
     entries: &[Part],
     opened: &[OpenSegment],
     words: &[&str],
 ) -> Result<Vec<Vec<Option<Entry>>>, ReadFault>
-    requires { LieInside (length (D.content disk.old)) entries.now }
-    ensures kept { D.honest → IfOk result (λ kept.
-        AreKept (D.content disk.old) (texts words.now) entries.now opened.now kept.items) }
+    requires { LieInside (length (D.content source.old.disk.now)) entries.now }
+    ensures kept { D.honest → IfOk result (λ kept. AreKept (D.content source.old.disk.now)
+        (texts words.now) entries.now opened.now kept.items) }
     ensures fault { D.honest → (stored : List Stored)
-        → IndexesEntries (D.content disk.old) entries.now stored → AreOpenOf opened.now stored
-        → IfErr result IsNoDamage }
+        → IndexesEntries (D.content source.old.disk.now) entries.now stored
+        → AreOpenOf opened.now stored → IfErr result IsNoDamage }
     ensures count { IfOk result (λ kept. length kept.items
         ≡ min (length entries.now) (length opened.now)) }
-    ensures keeps { KeepsDisk D.Disk disk.old disk.new }
-    ensures reads { CountsReads (D.failed_reads disk.old) (D.failed_reads disk.new) result }
+    ensures same_reference { source.new.disk.ghost_name ≡ source.old.disk.ghost_name }
+    ensures keeps { KeepsDisk D.Disk source.old.disk.now source.new.disk.now }
+    ensures reads { CountsReads (D.failed_reads source.old.disk.now)
+        (D.failed_reads source.new.disk.now) result }
 {
     let firsts = first_places(alloc, words)?;
     let mut kept = Vec::new(alloc);
     for i in 0..entries.len().min(opened.len()) {
         let known = look_up_in(
             alloc,
-            disk,
+            source,
             pivots,
             i,
             &entries[i],
@@ -149,7 +154,7 @@ fn look_up_all<D: Disk>(
 // query behind those that were found: of kind 2 by its posting lists, else document by document.
 fn find_in<D: Disk>(
     alloc: Global,
-    disk: &mut D,
+    source: &mut ExtentSource<D>,
     cache: &mut Option<BlockCache>,
     entry: &Part,
     opened: &OpenSegment,
@@ -157,41 +162,45 @@ fn find_in<D: Disk>(
     planned: &Planned,
     found: &mut Vec<DocNo>,
 ) -> Result<(), ReadFault>
-    requires { start_of entry.now.extent + entry.now.extent.bytes ≤ length (D.content disk.old) }
-    ensures found { D.honest → (s : Stored) → IndexesEntry (D.content disk.old) entry.now s
+    requires { start_of entry.now.extent + entry.now.extent.bytes
+        ≤ length (D.content source.old.disk.now) }
+    ensures found { D.honest → (s : Stored)
+        → IndexesEntry (D.content source.old.disk.now) entry.now s
         → IsSegmentOf opened.now.segment s.documents
         → (entry.now.kind ≡ 2
         → AreEntriesOf kept.now (texts planned.now.words.items) s.documents)
         → (query : Tree) → IsPlanFor planned.now query
-        → AgreesAt (D.content disk.old) cache.old entry.now opened.now
+        → AgreesAt (D.content source.old.disk.now) cache.old entry.now opened.now
         → FoundAs query (live_of (with_deleted opened.now s))
         found.old.items found.new.items result }
     ensures agrees { D.honest → (entry.now.kind ≡ 2 → (docs : List Doc)
-        → IndexSpells (extent_bytes (D.content disk.old) entry.now.extent) docs
+        → IndexSpells (extent_bytes (D.content source.old.disk.now) entry.now.extent) docs
         → IsSegmentOf opened.now.segment docs
         → AreEntriesOf kept.now (texts planned.now.words.items) docs)
-        → AgreesAt (D.content disk.old) cache.old entry.now opened.now
-        → AgreesAt (D.content disk.old) cache.new entry.now opened.now }
+        → AgreesAt (D.content source.old.disk.now) cache.old entry.now opened.now
+        → AgreesAt (D.content source.old.disk.now) cache.new entry.now opened.now }
     ensures adds { AddsOnlyOf entry.now.segment cache.old cache.new }
-    ensures keeps { KeepsDisk D.Disk disk.old disk.new }
-    ensures reads { CountsReads (D.failed_reads disk.old) (D.failed_reads disk.new) result }
+    ensures same_reference { source.new.disk.ghost_name ≡ source.old.disk.ghost_name }
+    ensures keeps { KeepsDisk D.Disk source.old.disk.now source.new.disk.now }
+    ensures reads { CountsReads (D.failed_reads source.old.disk.now)
+        (D.failed_reads source.new.disk.now) result }
 {
-    let mut source = ExtentSource::on(disk, entry.extent);
+    source.turn_to(entry.extent);
     if entry.kind == INDEXED {
         let lists = WordLists {
             id: entry.segment,
             segment: &opened.segment,
             entries: kept,
         };
-        return find_planned(alloc, &mut source, cache, &lists, opened, planned, found);
+        return find_planned(alloc, source, cache, &lists, opened, planned, found);
     }
-    find_from(alloc, &mut source, opened, planned, found)
+    find_from(alloc, source, opened, planned, found)
 }
 
 // The same of all segments.
 fn find_all<D: Disk>(
     alloc: Global,
-    disk: &mut D,
+    source: &mut ExtentSource<D>,
     cache: &mut Option<BlockCache>,
     entries: &[Part],
     opened: &[OpenSegment],
@@ -199,29 +208,34 @@ fn find_all<D: Disk>(
     planned: &Planned,
     found: &mut Vec<DocNo>,
 ) -> Result<(), ReadFault>
-    requires inside { LieInside (length (D.content disk.old)) entries.now }
+    requires inside { LieInside (length (D.content source.old.disk.now)) entries.now }
     requires ids { apart same_segment entries.now ≡ true }
     requires count { length kept.now ≡ min (length entries.now) (length opened.now) }
     ensures found { D.honest → (stored : List Stored)
-        → IndexesEntries (D.content disk.old) entries.now stored → AreOpenOf opened.now stored
-        → AreKept (D.content disk.old) (texts planned.now.words.items) entries.now opened.now kept.now
+        → IndexesEntries (D.content source.old.disk.now) entries.now stored
+        → AreOpenOf opened.now stored
+        → AreKept (D.content source.old.disk.now) (texts planned.now.words.items)
+        entries.now opened.now kept.now
         → (query : Tree) → IsPlanFor planned.now query
-        → CacheAgrees (D.content disk.old) cache.old entries.now opened.now
+        → CacheAgrees (D.content source.old.disk.now) cache.old entries.now opened.now
         → FoundAs query (live_in (present opened.now stored))
         found.old.items found.new.items result }
     ensures agrees { D.honest
-        → AreKept (D.content disk.old) (texts planned.now.words.items) entries.now opened.now kept.now
-        → CacheAgrees (D.content disk.old) cache.old entries.now opened.now
-        → CacheAgrees (D.content disk.old) cache.new entries.now opened.now }
+        → AreKept (D.content source.old.disk.now) (texts planned.now.words.items)
+        entries.now opened.now kept.now
+        → CacheAgrees (D.content source.old.disk.now) cache.old entries.now opened.now
+        → CacheAgrees (D.content source.old.disk.now) cache.new entries.now opened.now }
     ensures below { (next : ℕ) → All (λ (e : Part). e.segment < next) entries.now
         → KeepsBelow next cache.old → KeepsBelow next cache.new }
-    ensures keeps { KeepsDisk D.Disk disk.old disk.new }
-    ensures reads { CountsReads (D.failed_reads disk.old) (D.failed_reads disk.new) result }
+    ensures same_reference { source.new.disk.ghost_name ≡ source.old.disk.ghost_name }
+    ensures keeps { KeepsDisk D.Disk source.old.disk.now source.new.disk.now }
+    ensures reads { CountsReads (D.failed_reads source.old.disk.now)
+        (D.failed_reads source.new.disk.now) result }
 {
     for i in 0..kept.len() {
         find_in(
             alloc,
-            disk,
+            source,
             cache,
             &entries[i],
             &opened[i],
@@ -273,9 +287,26 @@ pub fn find_stored<'a, D: Disk>(
     ensures reads { CountsReads (D.failed_reads disk.old) (D.failed_reads disk.new) result }
 {
     let words = words_of(alloc, query)?;
-    let kept = look_up_all(alloc, disk, pivots, entries, opened, words.as_slice())?;
+    let mut source = ExtentSource::on(disk, Extent::of_bytes(0, 0));
+    let kept = look_up_all(
+        alloc,
+        &mut source,
+        pivots,
+        entries,
+        opened,
+        words.as_slice(),
+    )?;
     let frequencies = frequencies_of(alloc, words.len(), &kept)?;
     let planned = plan(alloc, query, frequencies.as_slice())?;
-    find_all(alloc, disk, cache, entries, opened, &kept, &planned, found)?;
+    find_all(
+        alloc,
+        &mut source,
+        cache,
+        entries,
+        opened,
+        &kept,
+        &planned,
+        found,
+    )?;
     Ok(planned)
 }

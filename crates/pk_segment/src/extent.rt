@@ -58,6 +58,17 @@ impl<'a, D: Disk> ExtentSource<'a, D> {
         }
     }
 
+    /// Turns it to another extent of its disk, whose bytes are its own from now on. Nothing is read.
+    pub fn turn_to(&mut self, extent: Extent)
+        requires { start_of extent + extent.bytes ≤ length (D.content self.old.disk.now) }
+        ensures disk { self.new.disk.now ≡ self.old.disk.now }
+        ensures same_reference { self.new.disk.ghost_name ≡ self.old.disk.ghost_name }
+        ensures extent { self.new.extent ≡ extent }
+        ensures asked { self.new.asked ≡ self.old.asked }
+    {
+        self.extent = extent;
+    }
+
     // Reads the n bytes from an offset on into the front of the buffer.
     #[tactic(auto, using(crate::proofs::Window::window))]
     fn fill(&mut self, at: u32, n: u32) -> Result<(), SourceFault>

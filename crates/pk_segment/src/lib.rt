@@ -35,7 +35,7 @@
 //! then with `document_in` each text once. Of kind 2, `list_of` looks a word up in the dictionary,
 //! whose entry leads to its list, `dictionary` says where that lies, for whoever looks many up by
 //! one reading of the header, and `terms` gives all words. Each call that reads is handed the
-//! source; `ExtentSource` is the extent of a disk as one.
+//! source; `ExtentSource` is an extent of a disk as one, and can be turned to another.
 //!
 //! # What is refused
 //!
