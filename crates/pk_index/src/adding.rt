@@ -1,10 +1,10 @@
 //! The words of a text, each put into the table.
 
-ghost use Rattle.std.specs.Prelude.{ℕ, List, IsAscii, OnOk, OnErr};
-ghost use Rattle.pk_index.specs.Lists.{Adds, IsBelow, Notes, rows_of};
+ghost use Rattle.std.specs.Prelude.{IsAscii, OnOk, OnErr};
+ghost use Rattle.pk_index.specs.Lists.{Adds, AddsSome, IsBelow, Notes, NotesSome};
 ghost use Rattle.pk_model.specs.Words.{words_of};
 
-use crate::lists::{Lists, note};
+use crate::lists::Lists;
 use pk_pieces::{fold_into, lower_into, next_word, part_end};
 use std::alloc::{AllocError, Global};
 use unicode_segmentation::UnicodeSegmentation;
@@ -18,11 +18,9 @@ pub fn add_words(
     text: &str,
     number: u32,
 ) -> Result<(), AllocError>
-    requires { IsBelow number (rows_of lists.old) }
-    ensures ok { OnOk result
-        (Adds (words_of text.now) number (rows_of lists.old) (rows_of lists.new)) }
-    ensures err { OnErr result ((words : List (List ℕ))
-        × Adds words number (rows_of lists.old) (rows_of lists.new)) }
+    requires { IsBelow number lists.old }
+    ensures ok { OnOk result (Adds (words_of text.now) number lists.old lists.new) }
+    ensures err { OnErr result (AddsSome number lists.old lists.new) }
 {
     if text.is_ascii() {
         return note_ascii(alloc, lists, piece, text, number);
@@ -39,10 +37,8 @@ fn note_parts(
     text: &str,
     number: u32,
 ) -> Result<(), AllocError>
-    ensures ok { OnOk result
-        (Notes (words_of text.now) number (rows_of lists.old) (rows_of lists.new)) }
-    ensures err { OnErr result ((words : List (List ℕ))
-        × Notes words number (rows_of lists.old) (rows_of lists.new)) }
+    ensures ok { OnOk result (Notes (words_of text.now) number lists.old lists.new) }
+    ensures err { OnErr result (NotesSome number lists.old lists.new) }
 {
     let mut at = 0;
     'parts: while at < text.len() {
@@ -61,10 +57,8 @@ fn note_part(
     part: &str,
     number: u32,
 ) -> Result<(), AllocError>
-    ensures ok { OnOk result
-        (Notes (words_of part.now) number (rows_of lists.old) (rows_of lists.new)) }
-    ensures err { OnErr result ((words : List (List ℕ))
-        × Notes words number (rows_of lists.old) (rows_of lists.new)) }
+    ensures ok { OnOk result (Notes (words_of part.now) number lists.old lists.new) }
+    ensures err { OnErr result (NotesSome number lists.old lists.new) }
 {
     if part.is_ascii() {
         return note_ascii(alloc, lists, piece, part, number);
@@ -82,17 +76,15 @@ fn note_ascii(
     number: u32,
 ) -> Result<(), AllocError>
     requires { IsAscii text.now }
-    ensures ok { OnOk result
-        (Notes (words_of text.now) number (rows_of lists.old) (rows_of lists.new)) }
-    ensures err { OnErr result ((words : List (List ℕ))
-        × Notes words number (rows_of lists.old) (rows_of lists.new)) }
+    ensures ok { OnOk result (Notes (words_of text.now) number lists.old lists.new) }
+    ensures err { OnErr result (NotesSome number lists.old lists.new) }
 {
     lower_into(piece, text)?;
     let folded = piece.as_str();
     let bytes = text.as_bytes();
     let mut at = 0;
     'words: while let Some((start, end)) = next_word(bytes, at) {
-        note(alloc, lists, &folded[start..end], number)?;
+        lists.note(alloc, &folded[start..end], number)?;
         at = end;
     }
     Ok(())
@@ -106,14 +98,12 @@ fn note_others(
     text: &str,
     number: u32,
 ) -> Result<(), AllocError>
-    ensures ok { OnOk result
-        (Notes (words_of text.now) number (rows_of lists.old) (rows_of lists.new)) }
-    ensures err { OnErr result ((words : List (List ℕ))
-        × Notes words number (rows_of lists.old) (rows_of lists.new)) }
+    ensures ok { OnOk result (Notes (words_of text.now) number lists.old lists.new) }
+    ensures err { OnErr result (NotesSome number lists.old lists.new) }
 {
     'words: for word in text.unicode_words() {
         fold_into(piece, word)?;
-        note(alloc, lists, piece.as_str(), number)?;
+        lists.note(alloc, piece.as_str(), number)?;
     }
     Ok(())
 }

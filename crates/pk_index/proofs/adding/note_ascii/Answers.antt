@@ -9,7 +9,7 @@ use Rattle.pk_model.specs.Words.{folded, words_of}
 use Rattle.pk_pieces.specs.Pieces.{words_from}
 use Rattle.pk_pieces.proofs.CallerLemmas.{folded_part, words_from_start}
 use Rattle.pk_index.specs.Index.{list_of}
-use Rattle.pk_index.specs.Lists.{Notes, rows_of, with_last}
+use Rattle.pk_index.specs.Lists.{Notes, with_last}
 use Rattle.pk_index.proofs.NoteLemmas.{no_words_noted, one_noted, on_err}
 use Rattle.pk_index.proofs.adding.note_ascii.Goals as goal
 
@@ -18,7 +18,7 @@ unfolding words_of
 words-init c =
     let start : words_of c.args.text.now ≡ map folded (words_from c.as_bytes-bytes.result.now 0) =
     ap (map folded) (sym (ap (λ s. words_from s 0) c.as_bytes-bytes.ensures.value ∙ words_from_start c.args.text.now c.utf8.text)) in
-    record { within = omega arith; noted = ([], start, no_words_noted c.args.number (rows_of c.args.lists.now)) }
+    record { within = omega arith; noted = ([], start, no_words_noted c.args.number c.args.lists.now) }
 
 -- the folded text may be cut where the text may be
 boundary : (s folded : List ℕ) (i : ℕ) → IsAscii s → folded ≡ map to_ascii_lowercase s → i ≤ length s → IsCharBoundary folded i
@@ -52,20 +52,20 @@ words-preserved c =
     let same : c.range.result.now ≡ word =
     c.range.ensures.value ∙ ap (λ t. slice_range t start end) (c.as_str-folded.ensures.value ∙ c.in_ok-lower_into.ensures)
     ∙ folded_part c.args.text.now start end c.requires ∙ ap (λ t. folded (slice_range t start end)) (sym c.as_bytes-bytes.ensures.value) in
-    let old = rows_of c.words.lists in
-    let new = rows_of c.note.new.lists in
+    let old = c.words.lists in
+    let new = c.note.new.self in
     record {
       within = places.2;
       noted = (
         done ++ word ∷ [],
         left,
-        one_noted done word n (rows_of c.args.lists.now) old new c.words.invariant.noted.2
+        one_noted done word n c.args.lists.now old new c.words.invariant.noted.2
             (λ w. subst (λ (v : List ℕ). list_of new w ≡ cond (bytes_eq v w) (with_last n (list_of old w)) (list_of old w)) same (c.in_ok-note.ensures.ok w)),
       );
     }
 
 pub returns-in_err-lower_into-clause-err : goal.returns-in_err-lower_into-clause-err
-returns-in_err-lower_into-clause-err c = on_err c.from_residual.result _ ([], no_words_noted c.args.number (rows_of c.args.lists.now))
+returns-in_err-lower_into-clause-err c = on_err c.from_residual.result _ ([], no_words_noted c.args.number c.args.lists.now)
 
 pub returns-in_err-note-clause-err : goal.returns-in_err-note-clause-err
 returns-in_err-note-clause-err c =
@@ -76,4 +76,4 @@ pub returns-clause-ok : goal.returns-clause-ok
 returns-clause-ok c =
     let done = c.words.invariant.noted.0 in
     let all : words_of c.args.text.now ≡ done = c.words.invariant.noted.1 ∙ ap (λ ws. done ++ map folded ws) c.in_default.ensures.words ∙ append-nil done in
-    subst (λ ws. Notes ws c.args.number (rows_of c.args.lists.now) (rows_of c.words.lists)) (sym all) c.words.invariant.noted.2
+    subst (λ ws. Notes ws c.args.number c.args.lists.now c.words.lists) (sym all) c.words.invariant.noted.2
