@@ -1,8 +1,8 @@
 # Each target is one command, and can be typed by hand in its place.
-# demo and try run a session of the program; test is the merge gate, memory what comes after it;
-# check proves what has changed; mutants tries wrong bodies where a contract has changed; soak kills
-# what an archive over machines runs; install puts the program, its client and their manuals in place;
-# deb and dist make packages.
+# demo and try run a session of the program; test is the merge gate, and rows, memory and client are
+# parts of it; check proves what has changed; mutants tries wrong bodies where a contract has
+# changed; soak kills what an archive over machines runs; install puts the program, its client and
+# their manuals in place; deb and dist make packages.
 
 SESSION = examples/mail.lines
 PROGRAM = crates/pk_find/out/pk_find
@@ -27,7 +27,7 @@ PYTHON = $(shell python3 -c 'import sys; print(sys.base_prefix + "/bin/python3")
 VERSION = $(shell sed -n 's/^VERSION = "\(.*\)"/\1/p' clients/python/rubewola/commands.py)
 PACKAGES = $(CURDIR)/dist
 
-.PHONY: demo try test seals mutants client soak memory check fmt bench install uninstall deb dist
+.PHONY: demo try test seals mutants client soak rows memory check fmt bench install uninstall deb dist
 
 # Proves and builds the program, makes a store in a file, and answers a session over a small mail
 # archive.
@@ -43,8 +43,8 @@ try:
 	cd crates/pk_find && rt try -- run $(STORE) < ../../$(SESSION)
 
 # The seals of the mutants; the gate: every proof from nothing, each must-fail edit, each test, each
-# program twice; then tests of the built program, sessions that are killed, and the tests of the
-# client and of tools/.
+# program twice; then tests of the built program, sessions that are killed, the engine's rows, each
+# request for memory refused, and the tests of the client and of tools/.
 test:
 	tools/test.sh
 
@@ -68,9 +68,15 @@ client:
 soak:
 	$(SHARDS) tools/shards_soak.py
 
-# Refuses each request for memory in turn, over the test programs that `make test` left.
+# The engine's rows, over the built player: scripts, sweeps of failing calls, damage.
+rows:
+	python3 -m unittest discover --start-directory tests --top-level-directory .
+
+# Refuses each request for memory in turn, over what `make test` built: of tests and of sessions of
+# the program on a file, then of the engine's rows.
 memory:
 	python3 tools/refuse_memory.py
+	python3 -m tests.memory
 
 # Every crate, the lowest first, over the work that earlier checks left.
 check:

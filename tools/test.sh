@@ -1,8 +1,9 @@
 #!/bin/sh
-# The tests of the repository: the seals of the mutants, without which nothing else is run; the merge
-# gate; tests of the program that it built; sessions of it, killed in their midst; the Python client's
-# tests over it; the tests of these tools; and what the gate cost. The last line is 'N passed, M
-# failed', each of these but the gate counting as one.
+# The tests of the repository: the seals of the mutants, without which nothing else is run; the
+# merge gate; tests of the program that it built; sessions of it, killed in their midst; the engine's
+# rows, played by the player that it built; each request for memory refused; the Python client's
+# tests; the tests of these tools; and what the gate cost. The last line is 'N passed, M failed', each
+# of these but the gate counting as one.
 cd "$(dirname "$0")/.." || exit 1
 log=$(mktemp) || exit 1
 costs=$(mktemp) || exit 1
@@ -24,6 +25,8 @@ count() {
 }
 count python3 tools/program_test.py crates/pk_find/out/pk_find
 count python3 tools/kill_test.py crates/pk_find/out/pk_find
+count make --no-print-directory rows
+count make --no-print-directory memory
 count make --no-print-directory client
 count python3 -m unittest discover --quiet tools/tests
 cat "$costs"

@@ -46,7 +46,7 @@ fn put(buffer: &mut Buffer, number: u32, text: &str) -> Result<bool, AllocError>
 
 /// The query of a text.
 fn query(alloc: Global, text: &str) -> Result<Query, Fail> {
-    Ok(parse(alloc, text).ok().ok_or("no query")?)
+    Ok(parse(alloc, text)?)
 }
 
 /// Numbers, each after a space.

@@ -1,13 +1,13 @@
-//! What is told by values alone: a list of commands, texts that no line can hold, and the longest
-//! texts, many at a time.
+//! What is told by values alone: a list of commands, and texts that no line can hold.
 
-use crate::player::told;
 use pk_disk::{Disk, MemoryDisk};
-use pk_model::{Command, DocNo, Query, Refusal, Reply};
+use pk_model::{Command, Counts, DocNo, Query, Refusal, Reply};
 use pk_pages::PageCache;
+use pk_shell::serve;
 use pk_store::{Refused, Store};
 use std::alloc::{AllocError, Global};
 use std::process::Abort;
+use std::str;
 use std::test::Fail;
 
 /// How many decoded blocks stores keep.
@@ -53,6 +53,31 @@ pub fn store_on_pages(alloc: Global, pages: usize) -> Result<Store<PageCache<Mem
     store_on(alloc, PageCache::new(alloc, new_disk(alloc)?, pages), 2)
 }
 
+/// What the shell answers a line, which it gets alone.
+pub fn told<D: Disk>(
+    alloc: Global,
+    store: &mut Store<D>,
+    line: &str,
+) -> Result<String, AllocError> {
+    let mut input = String::from_str(alloc, line)?;
+    input.push_str("\n")?;
+    let mut reader = input.as_bytes();
+    let mut output = Vec::new(alloc);
+    if serve(alloc, &mut reader, &mut output, store).is_err() {
+        return String::from_str(alloc, "the shell failed");
+    }
+    match str::from_utf8(&output) {
+        Ok(reply) => String::from_str(alloc, reply.strip_suffix("\n").unwrap_or("no line")),
+        Err(_) => String::from_str(alloc, "no text"),
+    }
+}
+
+/// What is counted in a new store.
+const NEW: Counts = Counts {
+    documents: 0,
+    next: 1,
+};
+
 /// A list of commands.
 fn commands(alloc: Global) -> Result<Vec<Command>, AllocError> {
     let text = String::from_str(alloc, "a")?;
@@ -94,6 +119,52 @@ fn run_list<D: Disk>(rt: &impl Abort, alloc: Global, store: &mut Store<D>) -> Re
         assert!(rt; is_reply_to(place, reply), "reply {place}");
     }
     Ok(())
+}
+
+/// Whether a list that was run had all replies. Where one is another, it is want of memory, or a
+/// call of the disk failed, whose record found none; then the store is to be opened again.
+fn are_replies(rt: &impl Abort, replies: &[Reply]) -> bool {
+    for (place, reply) in replies.iter().enumerate() {
+        if !is_reply_to(place, reply) {
+            assert!(rt; is_short(reply, &replies[place + 1..]), "reply {place}");
+            return false;
+        }
+    }
+    true
+}
+
+/// Whether a reply tells of want of memory, or of a failed call behind which all are refused.
+fn is_short(reply: &Reply, behind: &[Reply]) -> bool {
+    let reopen = |reply: &Reply| matches!(reply, Reply::Refused(Refusal::Reopen));
+    match reply {
+        Reply::Refused(Refusal::Memory) => true,
+        Reply::Refused(Refusal::Disk) => behind.iter().all(reopen),
+        _ => false,
+    }
+}
+
+/// Runs the list on a new store, and answers whether memory was there for all. Where there was none
+/// for the replies, no command was carried out.
+fn is_run_in_full(rt: &impl Abort, alloc: Global) -> bool {
+    let (Ok(commands), Some(mut store)) = (commands(alloc), store_if_memory(alloc, 1)) else {
+        return false;
+    };
+    match store.run(alloc, &commands) {
+        Ok(replies) => are_replies(rt, &replies),
+        Err(_) => {
+            assert!(rt; store.counts() == Ok(NEW));
+            false
+        }
+    }
+}
+
+/// Run with one request for memory refused after another (tools/refuse_memory.py): of two lists the
+/// one that was refused none is answered in full.
+#[test]
+fn runs_short_of_memory(rt: HostRuntime) {
+    let first = is_run_in_full(&rt, rt.alloc());
+    let second = is_run_in_full(&rt, rt.alloc());
+    assert!(rt; first || second);
 }
 
 /// Whether document 1 is shown with its line feed and its backslash spelled out.
@@ -172,30 +243,4 @@ pub fn is_added(
 ) -> Result<bool, AllocError> {
     let text = "-".repeat(alloc, length)?;
     Ok(store.add(alloc, text.as_str()) == answer)
-}
-
-/// What a full buffer answers, by the length of a text.
-static FULL: [(usize, Result<DocNo, Refusal>); 3] = [
-    (1, Err(Refusal::BufferFull)),
-    (0, Ok(DocNo(65))),
-    (1_048_577, Err(Refusal::TextTooLong)),
-];
-
-// 64 of the longest texts fill the buffer, and an empty text fits beside them.
-#[test]
-fn the_buffer_has_its_bytes(rt: HostRuntime) -> Result<(), Fail> {
-    let alloc = rt.alloc();
-    let mut store = new_store(alloc)?;
-    for n in 1..=64u32 {
-        assert!(rt;
-            is_added(alloc, &mut store, 1_048_576, Ok(DocNo(n)))?,
-            "{n}"
-        );
-    }
-    for (length, answer) in &FULL {
-        assert!(rt; is_added(alloc, &mut store, *length, *answer)?, "{length}");
-    }
-    assert_eq!(rt; store.delete(alloc, DocNo(1)), Ok(()));
-    assert!(rt; is_added(alloc, &mut store, 1, Ok(DocNo(66)))?);
-    Ok(())
 }

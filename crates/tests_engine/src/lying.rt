@@ -1,8 +1,7 @@
 //! Disks that keep no promise: each call of a store over them returns.
 ghost use Rattle.std.specs.Prelude.{◌≡◌, true};
 
-use crate::calls::new_store;
-use crate::player::told;
+use crate::calls::{new_store, told};
 use pk_disk::{Disk, DiskFault, LossyDisk, MemoryDisk};
 use pk_model::{DocNo, Refusal};
 use pk_store::{OpenFault, Refused, Store};
@@ -145,11 +144,7 @@ fn ask_twice<D: Disk>(
 }
 
 /// Opens a disk and asks its store twice, if it has one. Answers whether it has.
-pub fn has_store<D: Disk + Drop>(
-    rt: &impl Abort,
-    alloc: Global,
-    disk: D,
-) -> Result<bool, AllocError> {
+fn has_store<D: Disk + Drop>(rt: &impl Abort, alloc: Global, disk: D) -> Result<bool, AllocError> {
     match Store::open_on(alloc, disk, 0) {
         Ok(mut store) => {
             ask_twice(rt, alloc, &mut store)?;

@@ -65,8 +65,10 @@ fn is_spelled(alloc: Global, xs: &[u32], bytes: &[u8]) -> Result<bool, AllocErro
     }
     let mut written = vec![in alloc; 0u8; length_of(xs) as usize]?;
     encode_into(xs, &mut written);
-    let Ok(back) = decode(alloc, bytes) else {
-        return Ok(false);
+    let back = match decode(alloc, bytes) {
+        Ok(back) => back,
+        Err(DecodeFault::Memory) => return Err(AllocError),
+        Err(DecodeFault::Damaged) => return Ok(false),
     };
     Ok(
         encode(alloc, xs)?.as_slice() == bytes
@@ -175,16 +177,21 @@ fn overwrite(bytes: &mut [u8], at: usize, new: &[u8]) {
 }
 
 // That the bytes spell no list.
-fn is_damaged(rt: &impl Abort, alloc: Global, bytes: &[u8]) {
+fn is_damaged(rt: &impl Abort, alloc: Global, bytes: &[u8]) -> Result<(), AllocError> {
     let fault = decode(alloc, bytes).err();
+    if fault == Some(DecodeFault::Memory) {
+        return Err(AllocError);
+    }
     equal_of(rt, bytes, fault, Some(DecodeFault::Damaged));
+    Ok(())
 }
 
 #[test]
-fn what_spells_no_list_is_damaged(rt: HostRuntime) {
+fn what_spells_no_list_is_damaged(rt: HostRuntime) -> Result<(), Fail> {
     for bytes in &NO_LIST {
-        is_damaged(&rt, rt.alloc(), bytes);
+        is_damaged(&rt, rt.alloc(), bytes)?;
     }
+    Ok(())
 }
 
 // The block of 1 to 128 packed right, but at width 4.
@@ -209,22 +216,23 @@ fn wrapping(rt: &impl Abort, alloc: Global) -> Result<Vec<u8>, AllocError> {
 
 #[test]
 fn blocks_spelled_otherwise_are_damaged(rt: HostRuntime) -> Result<(), Fail> {
-    is_damaged(&rt, rt.alloc(), &too_wide(rt.alloc())?);
-    is_damaged(&rt, rt.alloc(), &wrapping(&rt, rt.alloc())?);
+    is_damaged(&rt, rt.alloc(), &too_wide(rt.alloc())?)?;
+    is_damaged(&rt, rt.alloc(), &wrapping(&rt, rt.alloc())?)?;
     // A width where no block is.
     let mut second_width = TO_128;
     overwrite(&mut second_width, 25, &[0x01]);
-    is_damaged(&rt, rt.alloc(), &second_width);
+    is_damaged(&rt, rt.alloc(), &second_width)?;
     Ok(())
 }
 
 #[test]
-fn shorter_prefixes_are_damaged(rt: HostRuntime) {
+fn shorter_prefixes_are_damaged(rt: HostRuntime) -> Result<(), Fail> {
     for bytes in [SHORT[0].1, SHORT[1].1, SHORT[2].1, SHORT[3].1, &TO_128] {
         for n in 0..bytes.len() {
-            is_damaged(&rt, rt.alloc(), &bytes[..n]);
+            is_damaged(&rt, rt.alloc(), &bytes[..n])?;
         }
     }
+    Ok(())
 }
 
 // That the list of so many numbers from `first` on, which are `gap` apart, comes back.

@@ -1,25 +1,22 @@
 //! What scripts are played on: a disk in memory, and the store that was opened on it.
 
-use pk_disk::{Disk, FaultDisk, MemoryDisk};
+use crate::device::{Call, Device, Failing, Notes};
+use pk_disk::{Disk, MemoryDisk};
 use pk_model::Refusal;
 use pk_pages::PageCache;
-use pk_shell::serve;
-use pk_store::{CreateFault, OpenFault, Refused, Store};
+use pk_shell::{ShellFault, serve};
+use pk_store::{Checked, CreateFault, OpenFault, Refused, Store};
 use std::alloc::{AllocError, Global};
 use std::str;
 
 /// The most bytes of a disk that scripts speak of.
-const MOST_BYTES: u64 = 1_048_576;
+const MOST_BYTES: u64 = 8_388_608;
 
-/// A disk in memory of which a call can fail.
-type Device = FaultDisk<MemoryDisk>;
-
-/// A store on a device, on a page cache over one, or on a page cache over the disk itself.
+/// A store on a device, or on a page cache over one.
 #[derive(Drop)]
 enum OpenStore {
     Bare(Store<Device>),
     Paged(Store<PageCache<Device>>),
-    Plain(Store<PageCache<MemoryDisk>>),
 }
 
 /// A disk, or the store that is open on it.
@@ -28,18 +25,19 @@ pub struct Player {
     alloc: Global,
     /// The disk, where no store is open.
     disk: Option<MemoryDisk>,
-    /// The open store. In a box, since a `None` of all three kinds of store is dear to prove.
+    /// The open store.
     store: Option<Box<OpenStore>>,
-    /// The call that fails once the next store is opened or created.
-    failing: u64,
-    /// Whether that one fails alone, or all later ones too.
-    is_once: bool,
+    /// The calls that fail once the next store is opened or created.
+    failing: Option<Failing>,
     /// How many decoded blocks the next store keeps at most.
     blocks: u32,
-    /// How many pages the page cache keeps at most that the next store is on; 0 where it is on none.
+    /// How many pages the page cache keeps at most that the next store is on; 0 where it is on
+    /// none.
     pages: usize,
-    /// How many bytes of a device were read between the last opening and the closing behind it, or
-    /// until it was handed back.
+    /// The calls of a device between the last opening and the closing behind it, or until it was
+    /// handed back.
+    notes: Option<Notes>,
+    /// How many bytes these read.
     bytes_read: u64,
 }
 
@@ -85,12 +83,13 @@ fn part(alloc: Global, disk: &mut MemoryDisk, at: u64, n: usize) -> Result<Vec<u
 
 /// Changes bytes of a disk, and syncs it.
 fn change(disk: &mut MemoryDisk, at: u64, bytes: &[u8]) -> &'static str {
-    if at <= MOST_BYTES && at + bytes.len() as u64 <= disk.len() {
-        if disk.write(at, bytes).is_ok() && disk.sync().is_ok() {
-            return "";
-        }
+    if at > MOST_BYTES || at + bytes.len() as u64 > disk.len() {
+        return "outside";
     }
-    "outside"
+    if disk.write(at, bytes).is_err() || disk.sync().is_err() {
+        return "disk";
+    }
+    ""
 }
 
 /// Why no store was created.
@@ -114,6 +113,21 @@ fn opening_word(why: OpenFault) -> &'static str {
     }
 }
 
+/// What a check told, in the words of the program.
+fn checking_words(alloc: Global, answer: Result<Checked, Refusal>) -> Result<String, AllocError> {
+    let told = match answer {
+        Ok(c) => {
+            let (documents, next, segments) = (c.documents, c.next, c.segments);
+            return format!(in alloc; "ok {documents} documents next {next} segments {segments}");
+        }
+        Err(Refusal::Reopen) => "reopen",
+        Err(Refusal::Memory) => "memory",
+        Err(Refusal::Damaged) => "damaged",
+        Err(_) => "disk",
+    };
+    String::from_str(alloc, told)
+}
+
 /// Makes a store on a disk, or opens the one there. Where there is none, the disk and why.
 fn store_on<D: Disk>(
     alloc: Global,
@@ -133,37 +147,29 @@ fn store_on<D: Disk>(
     }
 }
 
-/// What the shell answers a line, which it gets alone.
-pub fn told<D: Disk>(
-    alloc: Global,
-    store: &mut Store<D>,
-    line: &str,
-) -> Result<String, AllocError> {
+/// What the shell answers a line, which it gets alone. Where there was no memory for its buffers it
+/// is to have read nothing, and to have written nothing.
+fn told<D: Disk>(alloc: Global, store: &mut Store<D>, line: &str) -> Result<String, AllocError> {
     let mut input = String::from_str(alloc, line)?;
     input.push_str("\n")?;
     let mut reader = input.as_bytes();
     let mut output = Vec::new(alloc);
-    if serve(alloc, &mut reader, &mut output, store).is_err() {
-        return String::from_str(alloc, "the shell failed");
-    }
-    match str::from_utf8(&output) {
-        Ok(reply) => String::from_str(alloc, reply.strip_suffix("\n").unwrap_or("no line")),
-        Err(_) => String::from_str(alloc, "no text"),
+    match serve(alloc, &mut reader, &mut output, store) {
+        Ok(_) => reply_in(alloc, &output),
+        Err(ShellFault::Memory) if reader.len() == input.len() && output.is_empty() => {
+            String::from_str(alloc, "memory")
+        }
+        // The output is the player's own, and takes memory as it grows.
+        Err(ShellFault::Output) => Err(AllocError),
+        Err(_) => String::from_str(alloc, "the shell failed"),
     }
 }
 
-/// What a check of a store answers, as text.
-fn checked<D: Disk>(alloc: Global, store: &mut Store<D>) -> Result<String, AllocError> {
-    match store.check(alloc) {
-        Ok(c) => format!(in alloc;
-            "ok {} next {} segments {}",
-            c.documents, c.next, c.segments
-        ),
-        Err(Refusal::Reopen) => String::from_str(alloc, "reopen"),
-        Err(Refusal::Damaged) => String::from_str(alloc, "damaged"),
-        Err(Refusal::Disk) => String::from_str(alloc, "disk"),
-        Err(Refusal::Memory) => String::from_str(alloc, "memory"),
-        Err(_) => String::from_str(alloc, "other"),
+/// The reply line that was written.
+fn reply_in(alloc: Global, output: &[u8]) -> Result<String, AllocError> {
+    match str::from_utf8(output) {
+        Ok(reply) => String::from_str(alloc, reply.strip_suffix("\n").unwrap_or("no line")),
+        Err(_) => String::from_str(alloc, "no text"),
     }
 }
 
@@ -174,10 +180,10 @@ impl Player {
             alloc,
             disk: None,
             store: None,
-            failing: u64::MAX,
-            is_once: true,
+            failing: None,
             blocks: 0,
             pages: 0,
+            notes: None,
             bytes_read: 0,
         }
     }
@@ -188,13 +194,14 @@ impl Player {
             return self.ask(line);
         }
         let (step, rest) = line.split_once(" ").unwrap_or((line, ""));
-        if step == "!bytes" {
-            return self.bytes(rest);
+        match step {
+            "!bytes" => self.bytes(rest),
+            "!nonzero" => self.count_nonzero(),
+            "!check" => self.check(),
+            "!calls" => self.calls(),
+            "!reads" => self.bytes_read.to_string(self.alloc),
+            _ => String::from_str(self.alloc, self.take_step(step, rest)?),
         }
-        if step == "!check" {
-            return self.check();
-        }
-        String::from_str(self.alloc, self.take_step(step, rest)?)
     }
 
     /// Takes a step that is answered by a word, or by nothing.
@@ -206,11 +213,10 @@ impl Player {
             "!close" => Ok(self.close()),
             "!blocks" => Ok(self.set_blocks(number(rest))),
             "!pages" => Ok(self.set_pages(number(rest))),
-            "!fail" => Ok(self.plan(rest)),
+            "!fail" => Ok(self.plan(rest, true)),
+            "!stop" => Ok(self.plan(rest, false)),
             "!crash" => self.crash(rest),
             "!set" => self.set(rest),
-            "!reads" => Ok(self.has_read(number(rest))),
-            "!nonzero" => self.has_nonzero(number(rest)),
             _ => Ok("no such step"),
         }
     }
@@ -223,20 +229,19 @@ impl Player {
         match &mut **store {
             OpenStore::Bare(store) => told(self.alloc, store, line),
             OpenStore::Paged(store) => told(self.alloc, store, line),
-            OpenStore::Plain(store) => told(self.alloc, store, line),
         }
     }
 
-    /// What a check of the store answers.
+    /// What a check of the store tells.
     fn check(&mut self) -> Result<String, AllocError> {
         let Some(store) = &mut self.store else {
             return String::from_str(self.alloc, "no store");
         };
-        match &mut **store {
-            OpenStore::Bare(store) => checked(self.alloc, store),
-            OpenStore::Paged(store) => checked(self.alloc, store),
-            OpenStore::Plain(store) => checked(self.alloc, store),
-        }
+        let answer = match &mut **store {
+            OpenStore::Bare(store) => store.check(self.alloc),
+            OpenStore::Paged(store) => store.check(self.alloc),
+        };
+        checking_words(self.alloc, answer)
     }
 
     /// A new disk of so many zero bytes.
@@ -259,43 +264,33 @@ impl Player {
         ""
     }
 
-    /// Which call fails of those that begin with the next opening: the number of it, and `once`
-    /// where the later ones don't.
-    fn plan(&mut self, rest: &str) -> &'static str {
-        let (call, how) = rest.split_once(" ").unwrap_or((rest, ""));
-        self.failing = number(call);
-        self.is_once = how == "once";
+    /// Which call fails of those that begin with the next opening, alone or with all later ones:
+    /// its number, and behind it the kind of calls that is counted, where it isn't all.
+    fn plan(&mut self, rest: &str, is_once: bool) -> &'static str {
+        let (first, kind) = rest.split_once(" ").unwrap_or((rest, ""));
+        self.failing = Some(Failing {
+            call: call_of(kind),
+            number: number(first),
+            is_once,
+        });
         ""
     }
 
-    /// The disk, with the failing call that was planned.
-    fn device(&mut self, disk: MemoryDisk) -> Device {
-        let call = self.failing.max(1);
-        self.failing = u64::MAX;
-        if self.is_once {
-            return FaultDisk::once(disk, call);
-        }
-        FaultDisk::new(disk, call)
-    }
-
-    /// Makes a store on the disk, or opens the one there. A page cache is over the disk itself where
-    /// no call is to fail.
+    /// Makes a store on the disk, or opens the one there.
     fn put_store(&mut self, is_new: bool) -> Result<&'static str, AllocError> {
+        let notes = Notes::new(self.alloc)?;
         let Some(disk) = self.disk.take() else {
             return Ok("no disk");
         };
+        let device = Device::on(disk, self.failing.take(), notes);
         if self.pages == 0 {
-            return self.put_bare(disk, is_new);
+            return self.put_bare(device, is_new);
         }
-        if self.failing == u64::MAX {
-            return self.put_plain(disk, is_new);
-        }
-        self.put_paged(disk, is_new)
+        self.put_paged(device, is_new)
     }
 
     /// A store on a device.
-    fn put_bare(&mut self, disk: MemoryDisk, is_new: bool) -> Result<&'static str, AllocError> {
-        let device = self.device(disk);
+    fn put_bare(&mut self, device: Device, is_new: bool) -> Result<&'static str, AllocError> {
         match store_on(self.alloc, device, self.blocks, is_new) {
             Ok(store) => self.keep(OpenStore::Bare(store), is_new),
             Err((device, why)) => Ok(self.take_device(device, why)),
@@ -303,21 +298,11 @@ impl Player {
     }
 
     /// A store on a page cache over a device.
-    fn put_paged(&mut self, disk: MemoryDisk, is_new: bool) -> Result<&'static str, AllocError> {
-        let device = self.device(disk);
+    fn put_paged(&mut self, device: Device, is_new: bool) -> Result<&'static str, AllocError> {
         let cache = PageCache::new(self.alloc, device, self.pages);
         match store_on(self.alloc, cache, self.blocks, is_new) {
             Ok(store) => self.keep(OpenStore::Paged(store), is_new),
             Err((cache, why)) => Ok(self.take_device(cache.into_inner(), why)),
-        }
-    }
-
-    /// A store on a page cache over the disk itself.
-    fn put_plain(&mut self, disk: MemoryDisk, is_new: bool) -> Result<&'static str, AllocError> {
-        let cache = PageCache::new(self.alloc, disk, self.pages);
-        match store_on(self.alloc, cache, self.blocks, is_new) {
-            Ok(store) => self.keep(OpenStore::Plain(store), is_new),
-            Err((cache, why)) => Ok(self.take_disk(cache.into_inner(), why)),
         }
     }
 
@@ -329,13 +314,10 @@ impl Player {
 
     /// Keeps the disk of a device that was handed back; the answer is `why`.
     fn take_device(&mut self, device: Device, why: &'static str) -> &'static str {
-        self.bytes_read = device.bytes_read();
-        self.take_disk(device.into_inner(), why)
-    }
-
-    /// Keeps a disk that was handed back; the answer is `why`.
-    fn take_disk(&mut self, disk: MemoryDisk, why: &'static str) -> &'static str {
+        let (disk, notes, bytes_read) = device.into_parts();
         self.disk = Some(disk);
+        self.notes = Some(notes);
+        self.bytes_read = bytes_read;
         why
     }
 
@@ -347,19 +329,14 @@ impl Player {
         match Box::into_inner(store) {
             OpenStore::Bare(store) => self.take_device(store.close(), ""),
             OpenStore::Paged(store) => self.take_device(store.close().into_inner(), ""),
-            OpenStore::Plain(store) => self.take_disk(store.close().into_inner(), ""),
         }
     }
 
-    /// How many bytes of a device were read between the last opening and the closing behind it, or
-    /// until it was handed back.
-    pub fn bytes_read(&self) -> u64 {
-        self.bytes_read
-    }
-
-    /// Whether no more bytes were read than these.
-    fn has_read(&self, most: u64) -> &'static str {
-        if self.bytes_read <= most { "" } else { "more" }
+    /// The calls of the device between the last opening and the closing behind it, or until it was
+    /// handed back.
+    fn calls(&self) -> Result<String, AllocError> {
+        let letters = self.notes.as_ref().map_or("", |notes| notes.letters());
+        String::from_str(self.alloc, letters)
     }
 
     /// A crash that leaves this byte at each open position, or what was written.
@@ -398,16 +375,27 @@ impl Player {
         }
     }
 
-    /// Whether so many bytes of the disk are not zero.
-    fn has_nonzero(&mut self, wanted: u64) -> Result<&'static str, AllocError> {
+    /// How many bytes of the disk are not zero.
+    fn count_nonzero(&mut self) -> Result<String, AllocError> {
         let Some(disk) = &mut self.disk else {
-            return Ok("no disk");
+            return String::from_str(self.alloc, "no disk");
         };
         let n = disk.len().min(MOST_BYTES) as usize;
-        let mut count = 0u64;
-        for byte in part(self.alloc, disk, 0, n)? {
-            count = count.saturating_add(u64::from(byte != 0));
-        }
-        Ok(if count == wanted { "" } else { "other" })
+        let bytes = part(self.alloc, disk, 0, n)?;
+        bytes
+            .iter()
+            .filter(|byte| **byte != 0)
+            .count()
+            .to_string(self.alloc)
+    }
+}
+
+/// The kind of calls that a word names, if it names one.
+fn call_of(word: &str) -> Option<Call> {
+    match word {
+        "read" => Some(Call::Read),
+        "write" => Some(Call::Write),
+        "sync" => Some(Call::Sync),
+        _ => None,
     }
 }

@@ -1,0 +1,238 @@
+"""Each row with each request for memory refused in its turn, up to a run that meets no refusal.
+
+    python3 -m tests.memory [--quick]
+
+A row is played on the player below a `malloc` that refuses the Nth request, for every N, by a
+store that keeps no decoded block and by one that keeps one. Each line is to be answered as it is
+written. One that is refused memory is asked again, and then is. Where the disk's own record was
+refused it, a call of the disk fails: then the store is opened again, and has the documents that it
+had committed before that line, or those that the line commits. The player may also end for want of
+memory of its own. A creation that was refused memory has changed no byte of its disk.
+
+Rows in which a call fails by its number are left out, since a line that is asked again makes other
+calls, and so are those that are too long: BYTES and LINES say which. Each row is told with how many
+requests were refused: of the store, where a line was asked again; of the player; of the disk's
+record; and of what can do without, as a cache of blocks. The last line is `N passed, M failed`, in
+runs.
+"""
+
+import os
+import pathlib
+import re
+import subprocess
+import sys
+import tempfile
+from collections import Counter
+from concurrent.futures import ProcessPoolExecutor
+
+from . import scripts, test_below
+
+sys.path.insert(0, str(pathlib.Path(__file__).resolve().parent.parent / "tools"))
+import preload  # noqa: E402  pylint: disable=wrong-import-position
+import refusals  # noqa: E402  pylint: disable=wrong-import-position
+
+SETTINGS = ("!blocks 0", "!blocks 1")
+
+# Rows of more lines, or of longer ones, are left out, with `--quick` those of more than QUICK.
+LINES, BYTES, QUICK = 400, 1_000_000, 80
+
+# The row whose find keeps a block. Where the cache is refused memory for it, the reply is left: by
+# a store that keeps one, more requests go without a word.
+CACHED = "a list of 200 documents"
+
+# What is asked in the end, and behind `count` each document. Where a call of the first opening
+# fails, the disk that is handed back is opened by the second.
+LEFT = ("!close", "!open", "!open", "count", "!check", "find NOT zzz")
+
+# How a line is answered that is refused memory, and one whose call of the disk fails; and which
+# lines make a call that is noted.
+REFUSALS = ("memory", "refused memory")
+FAULTS = ("disk", "refused disk")
+NOTED = ("!set", "!create", "!open", "commit", "merge", "tidy")
+
+# The status of a player that had no memory of its own.
+STOPPED = 2
+
+# What a disk is that a store is to be made on, and what is asked of it: the bytes before the
+# creation, and behind it; and whether there is a store then, or one is made.
+CREATION = ("!disk 32768", "!set 20000 A7 00 5B", "!bytes 0 32768", "!create", "!close",
+            "!bytes 0 32768", "!create", "!close", "!open", "count")
+
+_NUMBERS = re.compile(r"(?:added|show|delete|found \d+:)((?: \d+)+)")
+
+
+def is_line(text):
+    """Whether a line of a row is the player's, and is answered alike where it is asked again."""
+    return not text.startswith(("!fail each", "!calls"))
+
+
+class Play:
+    """A row in a setting: what the player is given, and what it is to answer."""
+
+    def __init__(self, row, setting):
+        row = row._replace(lines=[line for line in row.lines if is_line(line.text)
+                                  and not line.text.startswith("holds ")])
+        self.setting = setting
+        given = scripts.input_of(row, setting)
+        self.options = ["--again"]
+        self.wrong = scripts.differences([given])
+        self.lines = [setting, *(text.partition(" => ")[0] for text in row.texts)]
+        self.answers = scripts.answers([[setting, *row.texts]])[0]
+        numbers = {int(number) for text in (*self.lines, *self.answers)
+                   for found in _NUMBERS.finditer(text) for number in found[1].split()}
+        self.asked = [*LEFT, *(f"show {number}" for number in sorted(numbers))]
+        self.given = given + "".join(f"!left\n{text}\n" for text in self.asked)
+        self.lefts = {}
+
+    def left(self, count):
+        """What is left behind so many lines."""
+        if count not in self.lefts:
+            told = scripts.answers([self.lines[:count] + self.asked])[0]
+            self.lefts[count] = what_is_left(told[count:])
+        return self.lefts[count]
+
+    def kind(self, status, told):
+        """Who was refused memory in a run that told this."""
+        if status == STOPPED:
+            return "player"
+        if len(told) < len(self.lines) + len(self.asked):
+            return "record"
+        return "store" if any(line.startswith("+ ") for line in told) else "none"
+
+    def fault(self, status, told):
+        """What is wrong with such a run, if anything."""
+        if status not in (0, 1, STOPPED):
+            return f"the player ended with {status}"
+        got = [line[2:] for line in told]
+        body = got if status == STOPPED else got[:-len(self.asked)]
+        body = body[:len(self.lines)]
+        is_cut = bool(body) and body[-1] in FAULTS and body[-1] != self.answers[len(body) - 1] \
+            and self.lines[len(body) - 1].split(" ")[0] in NOTED
+        for place, (answer, wanted) in enumerate(zip(body[:len(body) - is_cut], self.answers)):
+            if answer != wanted:
+                asked = self.lines[place][:300]
+                return f"{asked}\n  wanted: {wanted[:300]}\n  got:    {answer[:300]}"
+        if status == STOPPED:
+            return None
+        if not is_cut and len(body) != len(self.lines):
+            return f"it ended behind {self.lines[len(body) - 1]}"
+        places = (len(body) - 1, len(body)) if is_cut else (len(body),)
+        left = what_is_left(got[-len(self.asked):])
+        return None if left in [self.left(place) for place in places] else \
+            f"behind {self.lines[len(body) - 1]} there is something else: {left}"
+
+
+class Creation:
+    """A creation: where it is refused memory no byte of the disk changes, and the disk that is
+    handed back is made a store."""
+
+    def __init__(self, setting):
+        self.setting = setting
+        self.lines = [setting, *CREATION]
+        self.given = "".join(f"{line}\n" for line in ("!script creation", *self.lines))
+        self.options = ["--tell"]
+        self.wrong = ""
+        self.made = scripts.answers([self.lines])[0][6]
+
+    def kind(self, status, told):
+        """Who was refused memory in a run that told this."""
+        got = {line[2:] for line in told}
+        return "player" if status == STOPPED else "record" if got & set(FAULTS) else \
+            "store" if got & set(REFUSALS) else "none"
+
+    def fault(self, status, told):
+        """What is wrong with such a run, if anything."""
+        if status == STOPPED:
+            return None
+        if status not in (0, 1) or len(told) != len(self.lines):
+            return f"the player ended with {status}"
+        _, _, put, before, first, closed, behind, again, _, opened, count = (x[2:] for x in told)
+        is_right = put in FAULTS or {
+            "created": behind == self.made,
+            "memory": (closed, behind, again) == ("no store", before, "created"),
+            "disk": again in ("created", "already a store"),
+        }.get(first, False)
+        is_open = opened == "opened" and count in ("count 0 next 1", *REFUSALS)
+        if is_right and (is_open or opened in ("memory", "disk")):
+            return None
+        return f"{first}, {closed}, {again}, {opened}, {count}; the disk: {behind[:3000]}"
+
+
+def what_is_left(told):
+    """What is told in the end: whether the store was opened, and what it has."""
+    return [told[2] if told[1] in FAULTS else told[1], *told[3:]]
+
+
+def runs_of(play, shim):
+    """Plays it with each request refused: who was refused how many, and what is wrong."""
+    kinds = Counter()
+
+    def run(environment):
+        ran = subprocess.run([scripts.PLAYER, *play.options], input=play.given, text=True,
+                             encoding="utf-8", capture_output=True, env=environment, timeout=120,
+                             check=False)
+        told = ran.stdout.split("\n")[:-1]
+        kind = play.kind(ran.returncode, told)
+        kinds[kind] += 1
+        return kind != "none", play.fault(ran.returncode, told)
+
+    refused, faults = refusals.each(shim, run)
+    kinds["none"] -= 1
+    return refused, kinds, faults
+
+
+def is_played(row, is_quick):
+    """Whether a row is."""
+    numbered = row.kind == "script" and not test_below.is_played(row)
+    long = sum(len(scripts.spelled(text)) for text in row.texts) > BYTES
+    return not numbered and not long and len(row.lines) <= (QUICK if is_quick else LINES)
+
+
+def rows(is_quick):
+    """The rows that are played, the longest first, by file and title."""
+    played = [row for file in scripts.files() for row in file.rows if is_played(row, is_quick)]
+    for row in sorted(played, key=lambda row: -len(row.lines)):
+        yield row.file, row.title
+
+
+def played(case):
+    """Plays a row in each setting, or a creation: what is told of it, how many runs there were, and
+    what is wrong."""
+    shim, name, title = case
+    found = [row for row in scripts.file(name).rows if row.title == title] if name else []
+    told, runs, faults, spared = [], 0, [], []
+    for setting in SETTINGS:
+        play = Play(found[0], setting) if found else Creation(setting)
+        if play.wrong:
+            faults.append(f"{setting}, nothing refused:\n{play.wrong}")
+            continue
+        refused, kinds, wrong = runs_of(play, shim)
+        who = ", ".join(f"{kind} {kinds[kind]}" for kind in ("store", "player", "record", "none"))
+        told.append(f"{refused} ({who})")
+        runs += refused + 1
+        spared.append(kinds["none"])
+        faults += [f"{setting}, request {request} refused: {fault}" for request, fault in wrong]
+    if title == CACHED and spared != sorted(set(spared)):
+        faults.append("each request that a block takes is told")
+    return f"{name or 'memory.py'}: {title}: {'; '.join(told)}", runs, faults
+
+
+def main():
+    """Plays them side by side."""
+    is_quick = "--quick" in sys.argv[1:]
+    passed = failed = 0
+    with tempfile.TemporaryDirectory() as place:
+        shim = preload.built("refuse_memory", place)
+        cases = [(shim, *row) for row in (*rows(is_quick), ("", "a store is made"))]
+        with ProcessPoolExecutor(len(os.sched_getaffinity(0))) as pool:
+            for told, runs, faults in pool.map(played, cases):
+                print(told, flush=True)
+                for fault in faults[:3]:
+                    print(f"  {fault}")
+                passed, failed = passed + runs - len(faults), failed + len(faults)
+    print(f"{passed} passed, {failed} failed")
+    return 1 if failed or not passed else 0
+
+
+if __name__ == "__main__":
+    sys.exit(main())
