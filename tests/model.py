@@ -7,7 +7,7 @@ import re
 
 from .scripts import spelled
 
-_TOKEN = re.compile(r"[()]|[^\W_]+")
+_TOKEN = re.compile(r'[()]|"[^"]*"|[^\W_]+\*?')
 
 
 def words_of(text: str) -> list[str]:
@@ -16,7 +16,7 @@ def words_of(text: str) -> list[str]:
 
 
 class Query:
-    """A query of words of plain letters, AND, OR, NOT and brackets."""
+    """A query of words of plain letters, their beginnings, phrases, AND, OR, NOT and brackets."""
 
     def __init__(self, text: str) -> None:
         self._tokens = _TOKEN.findall(text)[::-1]
@@ -49,6 +49,11 @@ class Query:
             part = self._any()
             self._tokens.pop()
             return part
+        if token[0] == '"':
+            row = words_of(token)
+            return lambda words: any(words[at:at + len(row)] == row for at in range(len(words)))
+        if token[-1] == "*":
+            return lambda words: any(word.startswith(token[:-1].lower()) for word in words)
         return lambda words: token.lower() in words
 
 
@@ -94,7 +99,7 @@ class Store:
     def hits(self, query: str) -> list[int]:
         """The numbers of the documents that a query finds."""
         found = Query(query).found
-        return [number for number, text in sorted(self.texts.items()) if found(set(words_of(text)))]
+        return [number for number, text in sorted(self.texts.items()) if found(words_of(text))]
 
     def answer(self, line: str) -> str | None:
         """What a line is answered, which is taken in. None of a line that asks something else."""

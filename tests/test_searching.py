@@ -29,8 +29,9 @@ WORDS = {
 }
 
 # Rare and frequent words, so that numbers are sought; words that no document has; a word alone,
-# some that come twice, and those of one frequency; chains, `NOT` and brackets: and which documents
-# satisfy them, by their words.
+# some that come twice, and those of one frequency; chains, `NOT` and brackets; words in a row, which
+# stand in the order `afrmo` in a text, and beginnings: and which documents satisfy them, by their
+# words.
 QUERIES = {
     "r AND f": lambda w: "r" in w and "f" in w,
     "f AND NOT o AND r": lambda w: "f" in w and "o" not in w and "r" in w,
@@ -50,6 +51,13 @@ QUERIES = {
     "o AND m AND o": lambda w: {"o", "m"} <= w,
     "z AND b": lambda w: False,
     "(r OR m) AND NOT (r AND m) AND NOT z": lambda w: ("r" in w) != ("m" in w),
+    '"f m"': lambda w: {"f", "m"} <= w and "r" not in w,
+    '"m f"': lambda w: False,
+    'r AND "m o"': lambda w: {"r", "m", "o"} <= w,
+    'f AND NOT "f o"': lambda w: "f" in w and ("o" not in w or bool(w & {"r", "m"})),
+    '"a f r" OR b*': lambda w: {"a", "f", "r"} <= w or "b" in w,
+    "m* AND NOT r*": lambda w: "m" in w and "r" not in w,
+    'NOT (f* AND "a f")': lambda w: not {"a", "f"} <= w,
 }
 
 

@@ -48,6 +48,9 @@ EXAMPLES = """examples:
   $ journalctl -o json | rubewola load-journal journal.store -
   $ rubewola search archive --count 'subject:schedule (freeze OR release)'
   $ rubewola search --limit 9 archive from:bdale date:2010-05..2010-07
+  $ rubewola search archive '"code freeze" OR releas*'
+  $ rubewola search archive 'subject:"schedule of the freeze"'
+  $ rubewola search archive 'from:bda* NOT draft*'
   $ rubewola search lines 'failed date:2026..'
   $ rubewola search service level:error
   $ rubewola search -s archive -s lines freeze OR failed

@@ -17,7 +17,7 @@ from .logs import Line, Logs, Read, entries_of
 from .sources import Entry, Named
 from .store import Store
 from .told import InputRefused
-from .words import asked, digest, field_name, field_words, has_word, named
+from .words import APART, asked, digest, field_name, field_words, has_word, named
 
 # The names under which entries tell their time, the surest first.
 _TIMES = ("@timestamp", "timestamp", "time", "ts", "datetime", "date", "t", "asctime", "created",
@@ -79,10 +79,14 @@ class _Fields:
         flat = [(name, told) for name, told in _flat(value)]
         by_name = {name.lower(): told for name, told in reversed(flat)}
         when = next(filter(None, (days.of_value(by_name.get(name)) for name in _TIMES)), None)
-        words = [word for name, told in flat if name.lower() != "date"
-                 for word in self._words(name, told)]
+        words: list[str] = []
+        before = None
+        for name, told in flat:
+            if name.lower() != "date" and (own := self._words(name, told)):
+                words += [APART, *own] if name == before else own
+                before = name
         text = "\n".join(f"{name}: {_told(told)}" for name, told in flat)
-        return text, [*days.words_of(when), *dict.fromkeys(words)], False
+        return text, [*days.words_of(when), *words], False
 
 
 def _read_json(read: Read, with_parts: bool) -> list[Entry]:

@@ -18,7 +18,7 @@ from . import days
 from .charsets import decoded
 from .pages import charset_of, page_text
 from .stored import HEAD
-from .words import asked, clean, digest, field_words, named
+from .words import APART, asked, clean, digest, field_words, named
 
 LONGEST_FIELD = 262_144
 
@@ -177,11 +177,12 @@ def _day(message: Message) -> tuple[str, tuple[str, ...]]:
 
 
 def _lacking(texts: list[str], shown: str) -> list[str]:
-    """The words of texts that another has not."""
+    """The words of texts that another has not, none in a row with another."""
     if not texts:
         return []
     there = set(_words(shown))
-    return [word for word in dict.fromkeys(_words("\n".join(texts))) if word not in there]
+    lacking = (word for word in dict.fromkeys(_words("\n".join(texts))) if word not in there)
+    return [one for word in lacking for one in (word, APART)]
 
 
 def _words(text: str) -> list[str]:

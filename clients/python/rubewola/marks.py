@@ -23,14 +23,23 @@ _LOOKED_AT = 262_144  # Characters of a text in which a word is looked for.
 
 
 class Marks:
-    """The words of a query, folded as the program folds them."""
+    """The words of a query, and the beginnings of words, folded as the program folds them."""
 
     def __init__(self, typed: list[str]) -> None:
-        runs = (run.casefold() for chunk in typed for run in _RUN.findall(clean(chunk)))
-        self._words = set(runs)
+        self._words: set[str] = set()
+        begun: list[str] = []
+        for chunk in typed:
+            runs = [run.casefold() for run in _RUN.findall(clean(chunk))]
+            if runs and chunk.endswith("*"):
+                begun.append(runs.pop())
+            self._words.update(runs)
+        self._begun = tuple(begun)
+
+    def _is_one(self, run: str) -> bool:
+        return run in self._words or run.startswith(self._begun)
 
     def _places(self, text: str) -> list[tuple[int, int]]:
-        return [run.span() for run in _RUN.finditer(text) if run[0].casefold() in self._words]
+        return [run.span() for run in _RUN.finditer(text) if self._is_one(run[0].casefold())]
 
     def pieces(self, text: str) -> Iterator[tuple[str, bool]]:
         """A text in pieces, each with whether it is one of the words."""

@@ -50,6 +50,7 @@ def answer(store: Store, line: str) -> str:
 
     find QUERY   the newest 20 documents that satisfy it, and how many do:
                  find from:ada date:2010 (backup OR restore) NOT test
+                 find "full backup" subject:"disk is full" from:ad* restor*
     show N       the text of document N
     add TEXT     adds a document
     delete N     deletes document N

@@ -7,7 +7,7 @@ from collections import namedtuple
 
 from .places import place_of
 from .store import QueryRefused
-from .words import asked, clean, field_name, field_words, guarded
+from .words import SIGN, asked, clean, field_name, field_words, guarded
 
 TYPE_CHECKING = False
 if TYPE_CHECKING:
@@ -25,13 +25,18 @@ class Note(namedtuple("Note", ("text", "place"))):
 
 
 class Token(namedtuple("Token", ("text", "place", "name", "value", "rest"), defaults=("", "", ""))):
-    """A space, a bracket, or a chunk, which may begin with the name of a field and have a quoted
-    value."""
+    """A space, a bracket, a phrase, or a chunk, which may begin with the name of a field and have a
+    quoted value."""
 
     @property
     def is_chunk(self) -> bool:
         """Whether it is neither a space nor a bracket."""
         return not _is_break(self.text[0])
+
+    @property
+    def is_phrase(self) -> bool:
+        """Whether it stands between quotation marks."""
+        return self.text[0] == '"'
 
     @property
     def value_place(self) -> int:
@@ -90,9 +95,14 @@ def _is_word(letter: str) -> bool:
 
 def _end(typed: str, at: int) -> int:
     """Where a chunk ends."""
-    while at < len(typed) and not _is_break(typed[at]):
+    while at < len(typed) and not _is_break(typed[at]) and typed[at] != '"':
         at += 1
     return at
+
+
+def _close(typed: str, at: int) -> int:
+    """Where a phrase ends that begins at a place."""
+    return typed.find('"', at + 1) + 1 or len(typed)
 
 
 def _is_name(text: str) -> bool:
@@ -105,14 +115,15 @@ def _token(typed: str, at: int) -> Token:
     """What stands at a place."""
     if _is_break(typed[at]):
         return Token(typed[at], at)
-    end = _end(typed, at)
-    name, colon, value = typed[at:end].partition(":")
+    if typed[at] == '"':
+        return Token(typed[at:_close(typed, at)], at)
+    begin = _end(typed, at)
+    name, colon, value = typed[at:begin].partition(":")
     if not colon or not _is_name(name):
-        return Token(typed[at:end], at)
-    if not value.startswith('"'):
-        return Token(typed[at:end], at, name, value)
-    begin = at + len(name) + 1
-    close = typed.find('"', begin + 1) + 1 or len(typed)
+        return Token(typed[at:begin], at)
+    if value or typed[begin:begin + 1] != '"':
+        return Token(typed[at:begin], at, name, value)
+    close = _close(typed, begin)
     end = _end(typed, close)
     return Token(typed[at:end], at, name, typed[begin:close], typed[close:end])
 
@@ -133,7 +144,7 @@ def read(typed: str, has_field: Callable[[str], bool], today: datetime.date | No
     chunks = [token for token in tokens if token.is_chunk]
     for token in tokens:
         piece = _field(token, typed, has_field, today) if token.name else None
-        query.pieces.append((token.place, piece or guarded(token.text)))
+        query.pieces.append((token.place, piece or _words_text(token)))
         if not piece and token.is_chunk:
             query.notes.extend(_notes(token, chunks))
             if token.text not in OPERATORS:
@@ -141,26 +152,60 @@ def read(typed: str, has_field: Callable[[str], bool], today: datetime.date | No
     return query
 
 
+def _words_text(token: Token) -> str:
+    """What a token asks for that stands as it is typed. A word that begins with a loader's sign
+    asks for that sign alone, so it begins no loader's word."""
+    text = token.text
+    if SIGN in text and text.endswith("*") and not token.is_phrase:
+        kept = text
+        while not _is_word(kept[-1:]) and kept:
+            kept = kept[:-1]
+        if kept.endswith(SIGN) and (kept[-2:-1] == SIGN or not _is_word(kept[-2:-1])):
+            text = kept
+    return guarded(text)
+
+
 def _field(token: Token, typed: str, has_field: Callable[[str], bool],
            today: datetime.date | None) -> str | None:
     """What a chunk asks for that begins as a field; None where it is just words."""
-    name, value = token.name.casefold(), token.value.strip('"')
+    name, value, is_quoted = token.name.casefold(), token.value.strip('"'), token.value[:1] == '"'
     if name not in FIELDS and not ((value or token.rest) and has_field(name)):
-        if token.value[:1].isalpha() or token.value[:1] == '"':
+        if token.value[:1].isalpha() or is_quoted:
             raise refused(f'"{token.name}" is no field here; fields are {", ".join(FIELDS)}, '
                           "and those of loaded JSON; for words write a space in place of the "
                           "colon", typed, token.place)
         return None
     place = token.value_place
+    if is_quoted and (len(token.value) == 1 or not token.value.endswith('"')):
+        raise refused("nothing closes that quotation mark", typed, place)
     if token.rest:
         raise refused("a word stands right behind a quoted value", typed, place + len(token.value))
     if not value.strip():
         raise refused(f"{name}: wants a value right behind it", typed, place)
+    if not is_quoted and name not in ("id", "path", "date"):
+        return _each_word(name, value, typed, place)
     return _program_text(name, value, typed, place, today)
+
+
+def _field_words(name: str, value: str, typed: str, place: int) -> list[str]:
+    """The words of a field's value, in its order."""
+    words = field_words(field_name(name), value)
+    if not words:
+        raise refused("the value has no word", typed, place)
+    return words
+
+
+def _each_word(name: str, value: str, typed: str, place: int) -> str:
+    """What a value asks for that is not quoted: each of its words, where a `*` ends it of the last
+    one the beginning."""
+    *before, last = _field_words(name, value, typed, place)
+    asked_for = [*dict.fromkeys([*before, last + "*" if value.endswith("*") else last])]
+    return asked_for[0] if len(asked_for) == 1 else f"({' '.join(asked_for)})"
 
 
 def _program_text(name: str, value: str, typed: str, place: int,
                   today: datetime.date | None) -> str:
+    """What any other value asks for; of a quoted one the words in a row."""
     if name == "id":
         return asked("id", value.strip("<>"))
     if name == "path":
@@ -172,22 +217,24 @@ def _program_text(name: str, value: str, typed: str, place: int,
             return ranges.query(value, today or date.today())
         except (ValueError, OverflowError) as error:
             raise refused(f"no day: {error}", typed, place) from error
-    words = field_words(field_name(name), value)
-    if not words:
-        raise refused("the value has no word", typed, place)
-    return words[0] if len(words) == 1 else f"({' '.join(words)})"
+    words = _field_words(name, value, typed, place)
+    return words[0] if len(words) == 1 else f'"{" ".join(words)}"'
 
 
 def _notes(token: Token, chunks: list[Token]) -> Iterator[Note]:
     """What a chunk does not mean, where it looks as if it did."""
     text, place = token.text, token.place
+    if _has_inner_star(text.strip('"') + "-" if token.is_phrase else text.rstrip("*")):
+        where = "between quotation marks" if token.is_phrase else "within a word"
+        yield Note(f"* means nothing {where}; at a word's end it stands for any ending", place)
     if text.upper() in OPERATORS and text not in OPERATORS:
         is_first, is_last = token is chunks[0], token is chunks[-1]
         if not is_last and (not is_first or text.upper() == "NOT"):
             yield Note(f'"{text}" is a word here; the operator is {text.upper()}', place)
-    if '"' in text:
-        yield Note("quotation marks join no words here: each is looked for alone", place)
-    if any(_is_word(one) and other == "*" for one, other in zip(text, text[1:])):
-        yield Note("* stands for nothing here: words are whole", place)
     if text[0] in "-!+" and _is_word(text[1:2]):
         yield Note(f"{text[0]} means nothing here; NOT is the operator", place)
+
+
+def _has_inner_star(text: str) -> bool:
+    """Whether a `*` stands right behind a word."""
+    return any(_is_word(one) and other == "*" for one, other in zip(text, text[1:]))

@@ -11,6 +11,7 @@ import os
 
 SIGN, GUARD = "\u01bb", "\u200b"
 NAMING = SIGN * 2
+APART = NAMING  # A word between two that do not stand in a row.
 LONGEST_NAME = 1_024
 
 # The letters and digits of ASCII, folded; all else of it is a space.
@@ -47,9 +48,9 @@ def _spaced(text: str) -> str:
 
 
 def field_words(name: str, text: str) -> list[str]:
-    """The words of a field's text, each once: `from_bdale`, with SIGN before it."""
+    """The words of a field's text, in its order: `from_bdale`, with SIGN before it."""
     before = f"{SIGN}{name}_"
-    return [before + word for word in dict.fromkeys(_spaced(text).split())]
+    return [before + word for word in _spaced(text).split()]
 
 
 def field_name(name: str) -> str:

@@ -70,7 +70,7 @@ class Examples(Stores):
     def run_lines(self, text, least=10):
         """Runs each command line that a text shows, in a home that has what they name."""
         self.write("mail/devel.mbox", mbox(
-            mail("freeze", From="bdale@x.org", Subject="schedule",
+            mail("code freeze", From="bdale@x.org", Subject="schedule of the freeze",
                  Date="Fri, 14 May 2010 23:30:00 +0000"),
             mail("all for nothing", From="eve@x.org", Subject="advertisement")))
         self.write("Mail/cur/1000.a.host:2,S", mail("schedule", From="ada@x.org"))

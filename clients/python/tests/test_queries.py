@@ -29,8 +29,13 @@ class Fields(unittest.TestCase):
         for typed, text in [
                 ("from:ada", "$from_ada"), ("FROM:Ada x", "$from_ada x"), ("(to:a)", "($to_a)"),
                 ("Subject:a-b OR c", "($subject_a $subject_b) OR c"), ("NOT cc:x", "NOT $cc_x"),
-                ('subject:"red apple" x', "($subject_red $subject_apple) x"),
-                ('subject:"a (b) c"', "($subject_a $subject_b $subject_c)"),
+                ('subject:"red apple" x', '"$subject_red $subject_apple" x'),
+                ('subject:"a (b) c"', '"$subject_a $subject_b $subject_c"'),
+                ('subject:"a a"', '"$subject_a $subject_a"'), ("subject:a-a", "$subject_a"),
+                ("from:ada*", "$from_ada*"),
+                ("from:a-b*", "($from_a $from_b*)"), ("from:a-a*", "($from_a $from_a*)"),
+                ('NOT subject:"red" OR a*', "NOT $subject_red OR a*"),
+                ('to:"ada*"', "$to_ada"), ('list:deb*"a from:b"', '$list_deb*"a from:b"'),
                 ("from:田中", "($from__7530 $from__4E2D)"), ("list:debian", "$list_debian"),
                 ("attachment:a.pdf", "($attachment_a $attachment_pdf)"), ("id:<a@b>", "$$id_a_40b"),
                 ("path:/m/new/x:2,S", "$$path__2Fm_2Fcur_2Fx"), ("date:2010", "$2010"),
@@ -45,7 +50,8 @@ class Fields(unittest.TestCase):
 
     def test_words_that_are_no_fields(self):
         for typed in ("http://x.org", "12:30", "std::vector", "a: b", ":", "::", "port:80", "x:-1",
-                      "(a OR b) NOT c", "--", "a\u200bb", "é )"):
+                      "(a OR b) NOT c", "--", "a\u200bb", "é )", '"a from:b" c*', 'a"b c"d',
+                      '"http://x', 'x "a (from:b', "fr*ze**"):
             with self.subTest(typed):
                 self.assertEqual(read(typed), typed)
 
@@ -57,6 +63,9 @@ class Fields(unittest.TestCase):
     def test_what_no_text_may_write(self):
         self.assertEqual(read(f"{SIGN}from_ada {NAMING}id_x"), "$\u200bfrom_ada $\u200b$\u200bid_x")
         self.assertEqual(read("cafe\u0301 un\xadseen"), "café unseen")
+        self.assertEqual(read(f"{SIGN}* {NAMING}-* {SIGN}a* x{SIGN}*"),
+                         "$\u200b $\u200b$\u200b $\u200ba* x$\u200b*")
+        self.assertEqual(read(f'"{SIGN}from_ada"'), '"$\u200bfrom_ada"')
 
     def test_refused_with_its_place(self):
         for typed, place, told in [
@@ -64,6 +73,8 @@ class Fields(unittest.TestCase):
                 ("(is:unread)", 1, "is no field"), ('body:"a b"', 0, "is no field"),
                 ("from:", 5, "wants a value"), ("subject: freeze", 8, "wants a value"),
                 ('x to:""', 5, "wants a value"), ('to:"a"b', 6, "right behind a quoted value"),
+                ('to:"a"*', 6, "right behind a quoted value"), ('x to:"a b', 5, "nothing closes"),
+                ('to:"', 3, "nothing closes"), ("from:*", 5, "has no word"),
                 ("from:--", 5, "has no word"), ("date:May", 5, "a day is written"),
                 ("date:2010-13", 5, "month must be"), ("date:2010-02-30", 5, "day"),
                 ("date:05/14/2010", 5, "a day is written"), ("date:>2010", 5, "a day is written"),
@@ -79,14 +90,15 @@ class Fields(unittest.TestCase):
         for typed, place, told in [
                 ("a and b", 2, "the operator is AND"), ("a Or b", 2, "is OR"),
                 ("not a", 0, "is NOT"),
-                ("x (a not b)", 5, "is NOT"), ('"red apple"', 0, "quotation marks"),
-                ("app*", 0, "words are whole"), ("a -b", 2, "NOT is the operator"),
+                ("x (a not b)", 5, "is NOT"), ('x "app* red"', 2, "between quotation marks"),
+                ("x a*b", 2, "within a word"), ("a -b", 2, "NOT is the operator"),
                 ("!a", 0, "NOT is the operator")]:
             with self.subTest(typed):
                 note = queries.read(typed, lambda _: False, TODAY).notes[0]
                 self.assertEqual(note.place, place)
                 self.assertIn(told, note.text)
-        for typed in ("and", "a AND b", "rock and", "or", "e-mail", "a NOT b", "not"):
+        for typed in ("and", "a AND b", "rock and", "or", "e-mail", "a NOT b", "not", "app*", "a**",
+                      '"red apple"', '"a and b"', '"not"'):
             with self.subTest(typed):
                 self.assertEqual(queries.read(typed, lambda _: False, TODAY).notes, [])
 

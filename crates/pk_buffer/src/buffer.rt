@@ -153,7 +153,9 @@ impl Buffer {
         ensures none { (word : List ℕ) → tree_of query.now ≡ Term word
             → answer (Term word) self.now ≡ [] → IsOk result }
     {
-        let hits = self.index.find(alloc, query, &self.numbers)?;
+        let hits = self
+            .index
+            .find(alloc, query, &self.numbers, &self.documents)?;
         doc_numbers(alloc, &hits)
     }
 
@@ -165,7 +167,9 @@ impl Buffer {
         ensures none { (place : ℕ) → planned.now.plan ≡ Plan.Term place
             → means planned.now self.now ≡ [] → IsOk result }
     {
-        let found = self.index.find_planned(alloc, planned, &self.numbers)?;
+        let found = self
+            .index
+            .find_planned(alloc, planned, &self.numbers, &self.documents)?;
         doc_numbers(alloc, &found)
     }
 

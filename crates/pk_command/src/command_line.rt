@@ -69,7 +69,8 @@ One program at a time: a store that another program has is refused as `disk`, an
 
 A query is words, joined by AND, OR, NOT and brackets: red (apple OR pear) NOT green
 Words side by side are joined by AND. Case does not matter in a word; AND, OR and NOT are written
-in capitals.
+in capitals. Words between quotation marks stand in a row, and a word with a `*` behind it is the
+beginning of one: \"red apple\" NOT green, appl* pear, \"red apple\" OR pea*
 
 A line that is not done is answered `refused` and why:
   the line     `line too long`, `not text`, `unknown`

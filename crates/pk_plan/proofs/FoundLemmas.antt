@@ -1,5 +1,5 @@
 -- What an operation finds are the numbers of the documents that it takes.
-use Rattle.std.proofs.Common.{◌≡◌, ◌<◌, ℕ, List, [], ◌∷◌, Bool, true, false, cond, not, ◌&&◌, ◌||◌, nat_eq, refl, sym, ap, ap₂, ◌∙◌}
+use Rattle.std.proofs.Common.{◌≡◌, ◌<◌, ℕ, List, [], ◌∷◌, Bool, true, false, cond, not, ◌&&◌, ◌||◌, nat_eq, refl, sym, ap, ap₂, subst, ◌∙◌}
 use Rattle.std.specs.Prelude.{filter}
 use Rattle.std.specs.List.Sorted.{IsStrictlyIncreasing}
 use Rattle.std.specs.Simd.Lanes.{Each1}
@@ -11,7 +11,7 @@ use Rattle.pk_sets.specs.Sets.{difference, has, intersection, union}
 use Rattle.pk_sets.proofs.CallerLemmas.{has_difference, has_intersection, has_union, same_members, union_rises}
 use Rattle.pk_sets.proofs.IntersectionLemmas.{Rising, eq_true, none_above}
 use Rattle.pk_sets.proofs.PartLemmas.{rising_all}
-use Rattle.pk_plan.specs.Plans.{Operation, Holding, Everything, Nothing, Both, Either, Without, found, takes}
+use Rattle.pk_plan.specs.Plans.{Operation, Holding, InRow, Beginning, Everything, Nothing, Both, Either, Without, found, takes}
 
 -- the numbers of the documents that pass a test
 abbrev passing : (Doc → Bool) → List Doc → List ℕ
@@ -91,6 +91,8 @@ taken o d = takes o (words_of d.text)
 
 found_is : (o : Operation) (docs : List Doc) → IsStrictlyIncreasing (numbers_of docs) → found o docs ≡ passing (taken o) docs
 found_is (Holding word) docs h = refl
+found_is (InRow row) docs h = refl
+found_is (Beginning beginning) docs h = refl
 found_is Everything docs h = all_pass docs
 found_is Nothing docs h = none_pass docs
 found_is (Both left right) docs h = ap₂ intersection (found_is left docs h) (found_is right docs h) ∙ both (taken left) (taken right) docs h
@@ -108,3 +110,14 @@ found_answer o query same docs h = found_is o docs h ∙ ap numbers_of (same_fil
 -- operations that take the same find the same
 pub found_same : (a b : Operation) → ((words : List (List ℕ)) → takes a words ≡ takes b words) → (docs : List Doc) → IsStrictlyIncreasing (numbers_of docs) → found a docs ≡ found b docs
 found_same a b same docs h = found_is a docs h ∙ ap numbers_of (same_filter (taken a) (taken b) (λ d. same (words_of d.text)) docs) ∙ sym (found_is b docs h)
+
+-- whether a number is found, by the document that has it
+pub hit_here : (query : Tree) (d : Doc) (docs : List Doc) (n : ℕ) → Rising (numbers_of (d ∷ docs)) → nat_eq n d.number ≡ true → has (answer query (d ∷ docs)) n ≡ is_hit query d
+hit_here query d docs n r e = here (is_hit query d) d (filter (is_hit query) docs) n e (none_here (is_hit query) d docs n r e)
+
+pub hit_later : (query : Tree) (d : Doc) (docs : List Doc) (n : ℕ) → nat_eq n d.number ≡ false → has (answer query (d ∷ docs)) n ≡ has (answer query docs) n
+hit_later query d docs n e = there (is_hit query d) d (filter (is_hit query) docs) n e
+
+-- what an operation finds rises
+pub found_rises : (o : Operation) (docs : List Doc) → IsStrictlyIncreasing (numbers_of docs) → IsStrictlyIncreasing (found o docs)
+found_rises o docs h = subst IsStrictlyIncreasing (sym (found_is o docs h)) (rising-filter (taken o) docs h)

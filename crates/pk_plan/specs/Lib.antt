@@ -1,4 +1,5 @@
 pub mod Operands
 pub mod Order
 pub mod Plans
+pub mod Texts
 pub mod Words

@@ -1,49 +1,62 @@
 -- What is gathered of a query on the way to its plan.
-use Rattle.std.specs.Prelude.{◌≡◌, ◌≤◌, ◌<◌, ℕ, Bool, true, not, ◌&&◌, ◌||◌, List, ◌++◌, ◌+◌, length, map}
+use Rattle.std.specs.Prelude.{◌≡◌, ◌≤◌, ◌<◌, nat_lt, ℕ, Bool, true, false, not, ◌&&◌, ◌||◌, List, ◌++◌, ◌+◌, length, map}
+use Rattle.std.specs.List.{list_all, list_any}
 use Rattle.std.specs.Simd.Lanes.{Each1}
-use Rattle.pk_model.specs.Tree.{Tree, Term, And, Or, Not}
+use Rattle.pk_model.specs.Tree.{Tree, Term, Phrase, Prefix, And, Or, Not}
 use Rattle.pk_plan.specs.declared.plans.Plan.{Plan}
 use Rattle.pk_plan.specs.declared.operands.Operands.{Operands}
+use Rattle.pk_plan.specs.declared.operands.PhrasePlaces.{PhrasePlaces}
 use Rattle.pk_plan.specs.Order.{all_ordered, all_parts, in_order, is_ordered}
-use Rattle.pk_plan.specs.Plans.{Operation, both_all, either_all, operation_of, takes}
+use Rattle.pk_plan.specs.Plans.{beginning_at, both_all, either_all, operation_of, row_at, takes, word_at}
+use Rattle.pk_plan.specs.Texts.{has_phrase, reads_texts}
 use Rattle.pk_plan.specs.Words.{leaves}
 
--- whether a query is satisfied, by what holds of each leaf: its leaves have the places from one on
-abbrev pub satisfied : (ℕ → Bool) → ℕ → Tree → Bool
-satisfied holds from (Term word) = holds from
-satisfied holds from (And left right) =
-    satisfied holds from left && satisfied holds (from + length (leaves left)) right
-satisfied holds from (Or left right) =
-    satisfied holds from left || satisfied holds (from + length (leaves left)) right
-satisfied holds from (Not part) = not (satisfied holds from part)
-
--- whether a query takes a document of these words, by the operation of each place
-abbrev pub query_takes : (ℕ → Operation) → List (List ℕ) → ℕ → Tree → Bool
-query_takes at words from query = satisfied (λ place. takes (at place) words) from query
+-- Whether a query takes a document of these words, where what it asks for stands from a place on
+-- among the asked words.
+abbrev pub query_takes : List (List ℕ) → List (List ℕ) → ℕ → Tree → Bool
+query_takes asked words from (Term word) = takes (word_at asked from) words
+query_takes asked words from (Phrase row) = takes (row_at asked from (length row)) words
+query_takes asked words from (Prefix beginning) = takes (beginning_at asked from) words
+query_takes asked words from (And left right) =
+    query_takes asked words from left && query_takes asked words (from + length (leaves left)) right
+query_takes asked words from (Or left right) =
+    query_takes asked words from left || query_takes asked words (from + length (leaves left)) right
+query_takes asked words from (Not part) = not (query_takes asked words from part)
 
 -- one of the plans takes a document of these words
-abbrev pub any_takes : (ℕ → Operation) → List (List ℕ) → List Plan → Bool
-any_takes at words plans = takes (either_all (map (operation_of at) plans)) words
+abbrev pub any_takes : List (List ℕ) → List (List ℕ) → List Plan → Bool
+any_takes asked words plans = takes (either_all (map (operation_of asked) plans)) words
 
 -- all of the places and all of the parts take it
-abbrev pub all_take : (ℕ → Operation) → List (List ℕ) → List ℕ → List Plan → Bool
-all_take at words places parts =
-    takes (both_all (map at places ++ map (operation_of at) parts)) words
+abbrev pub all_take : List (List ℕ) → List (List ℕ) → List ℕ → List Plan → Bool
+all_take asked words places parts =
+    takes (both_all (map (word_at asked) places ++ map (operation_of asked) parts)) words
+
+-- each of the phrases does
+abbrev pub phrases_take : List (List ℕ) → List (List ℕ) → List PhrasePlaces → Bool
+phrases_take asked words phrases = list_all (λ (p : PhrasePlaces). takes (row_at asked p.first p.count) words) phrases
 
 -- all operands take it
-abbrev pub operands_take : (ℕ → Operation) → List (List ℕ) → Operands → Bool
-operands_take at words o = all_take at words o.places.items o.parts.items
-    && not (any_takes at words o.excluded.items)
+abbrev pub operands_take : List (List ℕ) → List (List ℕ) → Operands → Bool
+operands_take asked words o = (all_take asked words o.places.items o.parts.items
+    && not (any_takes asked words o.excluded.items)) && phrases_take asked words o.phrases.items
+
+-- one of the operands reads texts
+abbrev pub operands_read : Operands → Bool
+operands_read o = (list_any reads_texts o.parts.items || list_any reads_texts o.excluded.items)
+    || nat_lt 0 (length o.phrases.items)
 
 -- the words of the query stand between the two places
 abbrev pub IsPassed : Tree → ℕ → ℕ → Type 0
 IsPassed query behind from = from + length (leaves query) ≡ behind
 
--- the plan takes the documents that satisfy the query from a place on, and its words are ordered
+-- The plan takes the documents that satisfy the query from a place on, and its words are ordered; it
+-- reads texts only where the query has a phrase.
 pub record IsPlanOf (table : List ℕ) (query : Tree) (from : ℕ) (plan : Plan) : Type 0 where
-  pub same : (at : ℕ → Operation) (words : List (List ℕ))
-      → takes (operation_of at plan) words ≡ query_takes at words from query
+  pub same : (asked words : List (List ℕ))
+      → takes (operation_of asked plan) words ≡ query_takes asked words from query
   pub ordered : is_ordered table plan ≡ true
+  pub texts : has_phrase query ≡ false → reads_texts plan ≡ false
 
 -- the places are ordered and none is below the one given; those of each part are ordered
 pub record IsInOrder (table : List ℕ) (from : ℕ) (o : Operands) : Type 0 where
@@ -54,14 +67,17 @@ pub record IsInOrder (table : List ℕ) (from : ℕ) (o : Operands) : Type 0 whe
 
 -- the query from a place on came to the alternatives
 pub record IsJoined (table : List ℕ) (query : Tree) (from : ℕ) (old new : List Plan) : Type 0 where
-  pub same : (at : ℕ → Operation) (words : List (List ℕ))
-      → any_takes at words new ≡ (query_takes at words from query || any_takes at words old)
+  pub same : (asked words : List (List ℕ))
+      → any_takes asked words new ≡ (query_takes asked words from query || any_takes asked words old)
   pub ordered : all_ordered table old ≡ true → all_ordered table new ≡ true
   pub more : length old < length new
+  pub texts : has_phrase query ≡ false → list_any reads_texts old ≡ false
+      → list_any reads_texts new ≡ false
 
 -- the query between two places came to the operands
 pub record IsGathered (table : List ℕ) (query : Tree) (behind from : ℕ) (old new : Operands) : Type 0 where
-  pub same : (at : ℕ → Operation) (words : List (List ℕ))
-      → operands_take at words new
-      ≡ (query_takes at words from query && operands_take at words old)
+  pub same : (asked words : List (List ℕ))
+      → operands_take asked words new
+      ≡ (query_takes asked words from query && operands_take asked words old)
   pub ordered : IsInOrder table behind old → IsInOrder table from new
+  pub texts : has_phrase query ≡ false → operands_read old ≡ false → operands_read new ≡ false

@@ -28,14 +28,17 @@ pub record Standing : Type 0 where
   pub union : Bool
 
 -- One level of a plan, with the standing of each part in its place. The parts of an intersection are
--- unions: a word stands among its places, and what would be an intersection is a part of it itself.
+-- unions, and a prefix is one: a word stands among its places, and what would be an intersection is
+-- a part of it itself. A phrase stands around all else of its chain.
 abbrev pub standing_step : List ℕ → Plan-F Standing → Standing
 standing_step table (Plan-F.Term place) = record { ordered = true; union = false }
+standing_step table (Plan-F.Prefix place) = record { ordered = true; union = true }
 standing_step table Plan-F.All = record { ordered = true; union = false }
 standing_step table (Plan-F.Intersect places parts) =
     record { ordered = in_order table places.items && list_all (λ s. s.ordered && s.union) parts.items; union = false }
 standing_step table (Plan-F.Unite parts) = record { ordered = list_all (λ s. s.ordered) parts.items; union = true }
 standing_step table (Plan-F.Exclude all less) = record { ordered = all.value.ordered && less.value.ordered; union = false }
+standing_step table (Plan-F.Phrase all first count) = record { ordered = all.value.ordered; union = false }
 
 abbrev pub standing : List ℕ → Plan → Standing
 standing table = fold-Plan Standing (standing_step table)

@@ -1,10 +1,10 @@
 -- What a plan means: operations on sets of documents.
-use Rattle.std.specs.Prelude.{◌≡◌, ℕ, zero, suc, Bool, true, false, not, ◌&&◌, ◌||◌, List, [], ◌∷◌, ◌++◌, map}
+use Rattle.std.specs.Prelude.{◌≡◌, ℕ, ◌+◌, zero, suc, nat_lt, Bool, true, false, not, ◌&&◌, ◌||◌, cond, List, [], ◌∷◌, ◌++◌, map, take, drop, length}
 use Rattle.std.specs.List.{list_any}
 use Rattle.std.specs.List.Sorted.{IsStrictlyIncreasing}
 use Rattle.std.specs.Str.{bytes_eq}
 use Rattle.pk_model.specs.Collection.{Doc, answer, numbers_of}
-use Rattle.pk_model.specs.Tree.{Term, Tree}
+use Rattle.pk_model.specs.Tree.{Phrase, Prefix, Term, Tree, begins_with, stand_in}
 use Rattle.pk_sets.specs.Sets.{difference, intersection, union}
 use Rattle.pk_plan.specs.declared.plans.Plan.{Plan}
 use Rattle.pk_plan.specs.declared.plans.Plan.TheOpen.{Plan-F}
@@ -15,6 +15,8 @@ use Rattle.pk_plan.specs.Words.{texts}
 -- a plan as operations on two sets each
 pub data Operation : Type 0 where
   Holding : (word : List ℕ) → Operation
+  InRow : (row : List (List ℕ)) → Operation
+  Beginning : (beginning : List ℕ) → Operation
   Everything : Operation
   Nothing : Operation
   Both : (left right : Operation) → Operation
@@ -36,22 +38,37 @@ word_at [] place = Nothing
 word_at (word ∷ words) zero = Holding word
 word_at (word ∷ words) (suc place) = word_at words place
 
--- one level of a plan, with the operation of each place and of each part
-abbrev pub operation_step : (ℕ → Operation) → Plan-F Operation → Operation
-operation_step at (Plan-F.Term place) = at place
-operation_step at Plan-F.All = Everything
-operation_step at (Plan-F.Intersect places parts) =
-    both_all (map at places.items ++ parts.items)
-operation_step at (Plan-F.Unite parts) = either_all parts.items
-operation_step at (Plan-F.Exclude all less) = Without all.value less.value
+-- those that hold a word that begins with what stands at a place
+abbrev pub beginning_at : List (List ℕ) → ℕ → Operation
+beginning_at [] place = Nothing
+beginning_at (word ∷ words) zero = Beginning word
+beginning_at (word ∷ words) (suc place) = beginning_at words place
 
--- a plan as an operation, by those of its places
-abbrev pub operation_of : (ℕ → Operation) → Plan → Operation
-operation_of at = fold-Plan Operation (operation_step at)
+-- those in which so many words from a place on stand in a row; none where these pass the last word
+abbrev pub row_at : List (List ℕ) → ℕ → ℕ → Operation
+row_at words first count =
+    cond (nat_lt (length words) (first + count)) Nothing (InRow (take count (drop first words)))
+
+-- one level of a plan over the words of a query, with the operation of each part
+abbrev pub operation_step : List (List ℕ) → Plan-F Operation → Operation
+operation_step words (Plan-F.Term place) = word_at words place
+operation_step words (Plan-F.Prefix place) = beginning_at words place
+operation_step words Plan-F.All = Everything
+operation_step words (Plan-F.Intersect places parts) =
+    both_all (map (word_at words) places.items ++ parts.items)
+operation_step words (Plan-F.Unite parts) = either_all parts.items
+operation_step words (Plan-F.Exclude all less) = Without all.value less.value
+operation_step words (Plan-F.Phrase all first count) = Both all.value (row_at words first count)
+
+-- a plan as an operation, where its places mean these words
+abbrev pub operation_of : List (List ℕ) → Plan → Operation
+operation_of words = fold-Plan Operation (operation_step words)
 
 -- the numbers that an operation finds among documents
 abbrev pub found : Operation → List Doc → List ℕ
 found (Holding word) docs = answer (Term word) docs
+found (InRow row) docs = answer (Phrase row) docs
+found (Beginning beginning) docs = answer (Prefix beginning) docs
 found Everything docs = numbers_of docs
 found Nothing docs = []
 found (Both left right) docs = intersection (found left docs) (found right docs)
@@ -60,7 +77,7 @@ found (Without left right) docs = difference (found left docs) (found right docs
 
 -- the numbers that a plan finds among documents, where its places mean these words
 abbrev pub finds : List (List ℕ) → Plan → List Doc → List ℕ
-finds words plan docs = found (operation_of (word_at words) plan) docs
+finds words plan docs = found (operation_of words plan) docs
 
 -- the numbers that a planned query finds among documents
 abbrev pub means : Planned → List Doc → List ℕ
@@ -74,6 +91,8 @@ IsPlanFor planned query =
 -- whether a document of these words is among them
 abbrev pub takes : Operation → List (List ℕ) → Bool
 takes (Holding word) words = list_any (bytes_eq word) words
+takes (InRow row) words = stand_in row words
+takes (Beginning beginning) words = list_any (begins_with beginning) words
 takes Everything words = true
 takes Nothing words = false
 takes (Both left right) words = takes left words && takes right words

@@ -6,6 +6,10 @@
 //! parts, which are unions. What a chain rules out by `NOT` is taken away from that at the end, so
 //! that `a AND NOT b` never asks for all documents. A chain of `OR` becomes one `Unite`.
 //!
+//! The words of a phrase go among the words of its chain, each once, so that the rarest of all
+//! comes first; that they stand in a row is asked last, of what is left, since texts are read for
+//! it. A prefix is a union, that of the lists of all words that begin so.
+//!
 //! | query | plan |
 //! |---|---|
 //! | `a` | the term a |
@@ -13,9 +17,11 @@
 //! | `a AND b`, b the rarer | the intersection of b and a |
 //! | `a AND (b OR c)` | the intersection of a and the union of b and c |
 //! | `a AND NOT b AND NOT c` | a without the union of b and c |
+//! | `"a b" AND NOT c` | the intersection of a and b without c, where a and b stand in a row |
+//! | `a AND b*` | the intersection of a and the union of what begins with b |
 //!
 //! A plan has the places of words, not the words: `words_of` lists these in the order of the text,
-//! one for each leaf of the query, and `plan` answers them beside the plan. So whoever looks a word
+//! those of a phrase one by one, and `plan` answers them beside the plan. So whoever looks a word
 //! up does it once, and no word is copied. Frequencies are by place, too.
 //!
 //! A plan means its query over all documents whose numbers rise, whatever the frequencies are:

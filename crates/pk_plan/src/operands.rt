@@ -1,33 +1,53 @@
 //! The operands of a chain of `AND`, and the plans of operands.
 
 ghost use Rattle.std.specs.Prelude.{◌≡◌, ◌&&◌, ◌+◌, ◌<◌, ◌≤◌, ℕ, List, length, not, slice_index};
-ghost use Rattle.std.specs.Prelude.{IfOk, OnOk, true};
-ghost use Rattle.pk_plan.specs.Operands.{IsInOrder, all_take, any_takes, operands_take};
+ghost use Rattle.std.specs.Prelude.{◌||◌, ◌^◌, IfOk, OnOk, false, true};
+ghost use Rattle.std.specs.List.{list_any};
+ghost use Rattle.pk_plan.specs.Operands.{
+  IsInOrder,
+  all_take,
+  any_takes,
+  operands_read,
+  operands_take,
+  phrases_take,
+};
 ghost use Rattle.pk_plan.specs.Order.{all_ordered, all_parts, frequency_of, in_order, is_ordered, standing};
-ghost use Rattle.pk_plan.specs.Plans.{Operation, Without, operation_of, takes};
+ghost use Rattle.pk_plan.specs.Texts.{reads_texts};
+ghost use Rattle.pk_plan.specs.Plans.{Without, operation_of, row_at, takes, word_at};
 
 use crate::plans::Plan;
 use smallvec::SmallVec;
 use std::alloc::{AllocError, Global};
 
-// What a chain of `AND` asks: the places of the words that a document holds, by rising frequency;
-// the other parts that have it, which are unions; and the parts that do not.
+// Where the words of a phrase stand: from a place on, so many.
+#[derive(Clone, Copy)]
+pub(crate) struct PhrasePlaces {
+    pub(crate) first: usize,
+    pub(crate) count: usize,
+}
+
+// What a chain of `AND` asks: the places of the words that a document holds, by rising frequency,
+// those of phrases among them; the other parts that have it, which are unions; the parts that do
+// not; and the phrases.
 #[derive(Drop)]
 pub(crate) struct Operands {
     pub(crate) places: SmallVec<usize, 4>,
     pub(crate) parts: Vec<Plan>,
     pub(crate) excluded: Vec<Plan>,
+    pub(crate) phrases: Vec<PhrasePlaces>,
 }
 
 impl Operands {
     pub(crate) fn new(alloc: Global) -> Operands
-        ensures all { (at : ℕ → Operation) (words : List (List ℕ)) → operands_take at words result ≡ true }
+        ensures all { (asked words : List (List ℕ)) → operands_take asked words result ≡ true }
         ensures order { (table : _) (from : ℕ) → IsInOrder table from result }
+        ensures texts { operands_read result ≡ false }
     {
         Operands {
             places: SmallVec::new(alloc),
             parts: Vec::new(alloc),
             excluded: Vec::new(alloc),
+            phrases: Vec::new(alloc),
         }
     }
 
@@ -35,24 +55,92 @@ impl Operands {
     // that are no rarer.
     pub(crate) fn put_term(&mut self, table: &[u32], place: usize) -> Result<(), AllocError>
         requires order { IsInOrder table.now (place + 1) self.old }
-        ensures same { OnOk result ((at : ℕ → Operation) (words : List (List ℕ))
-            → operands_take at words self.new
-            ≡ (takes (at place) words && operands_take at words self.old)) }
+        ensures same { OnOk result ((asked words : List (List ℕ))
+            → operands_take asked words self.new
+            ≡ (takes (word_at asked place) words && operands_take asked words self.old)) }
         ensures order { OnOk result (IsInOrder table.now place self.new) }
+        ensures texts { OnOk result (operands_read self.new ≡ operands_read self.old) }
     {
         let before = rank_of(table, self.places.as_slice(), frequency_at(table, place));
         self.places.insert(before, place)?;
         Ok(())
     }
 
+    // One phrase more, whose words stand from the place on, before all others. Each word is put
+    // among the words once, however often the phrase has it.
+    pub(crate) fn put_phrase(
+        &mut self,
+        table: &[u32],
+        first: usize,
+        row: &[String],
+    ) -> Result<(), AllocError>
+        requires order { IsInOrder table.now (first + length row.now) self.old }
+        requires room { first + length row.now < 2 ^ 64 }
+        ensures same { OnOk result ((asked words : List (List ℕ))
+            → operands_take asked words self.new
+            ≡ (takes (row_at asked first (length row.now)) words
+            && operands_take asked words self.old)) }
+        ensures order { OnOk result (IsInOrder table.now first self.new) }
+    {
+        self.put_words(table, first, row)?;
+        self.phrases.push(PhrasePlaces {
+            first,
+            count: row.len(),
+        })?;
+        Ok(())
+    }
+
+    // The words of a phrase, from its last one on, so that each goes before those of its frequency.
+    // They change nothing where the phrase stands.
+    fn put_words(&mut self, table: &[u32], first: usize, row: &[String]) -> Result<(), AllocError>
+        requires order { IsInOrder table.now (first + length row.now) self.old }
+        requires room { first + length row.now < 2 ^ 64 }
+        ensures same { OnOk result ((asked words : List (List ℕ))
+            → takes (row_at asked first (length row.now)) words ≡ true
+            → operands_take asked words self.new ≡ operands_take asked words self.old) }
+        ensures order { OnOk result (IsInOrder table.now first self.new) }
+    {
+        let mut left = row.len();
+        'words: while left > 0 {
+            left -= 1;
+            self.put_once(table, first, row, left)?;
+        }
+        Ok(())
+    }
+
+    // One word of a phrase, if the phrase has not had it before.
+    fn put_once(
+        &mut self,
+        table: &[u32],
+        first: usize,
+        row: &[String],
+        i: usize,
+    ) -> Result<(), AllocError>
+        requires within { i < length row.now }
+        requires order { IsInOrder table.now (first + i + 1) self.old }
+        requires room { first + length row.now < 2 ^ 64 }
+        ensures same { OnOk result ((asked words : List (List ℕ))
+            → takes (row_at asked first (length row.now)) words ≡ true
+            → operands_take asked words self.new ≡ operands_take asked words self.old) }
+        ensures order { OnOk result (IsInOrder table.now (first + i) self.new) }
+    {
+        if row[..i].contains(&row[i]) {
+            return Ok(());
+        }
+        self.put_term(table, first + i)?;
+        Ok(())
+    }
+
     // One part more, which is a union, before the others.
     pub(crate) fn put_part(&mut self, part: Plan) -> Result<(), AllocError>
-        ensures same { OnOk result ((at : ℕ → Operation) (words : List (List ℕ))
-            → operands_take at words self.new
-            ≡ (takes (operation_of at part) words && operands_take at words self.old)) }
+        ensures same { OnOk result ((asked words : List (List ℕ))
+            → operands_take asked words self.new
+            ≡ (takes (operation_of asked part) words && operands_take asked words self.old)) }
         ensures order { OnOk result ((table : _) (from : ℕ) → is_ordered table part ≡ true
             → (standing table part).union ≡ true → IsInOrder table from self.old
             → IsInOrder table from self.new) }
+        ensures texts { OnOk result (reads_texts part ≡ false → operands_read self.old ≡ false
+            → operands_read self.new ≡ false) }
     {
         self.parts.insert(0, part)?;
         Ok(())
@@ -60,43 +148,47 @@ impl Operands {
 
     // One part more that is ruled out, before the others.
     pub(crate) fn rule_out(&mut self, part: Plan) -> Result<(), AllocError>
-        ensures same { OnOk result ((at : ℕ → Operation) (words : List (List ℕ))
-            → operands_take at words self.new
-            ≡ (not (takes (operation_of at part) words) && operands_take at words self.old)) }
+        ensures same { OnOk result ((asked words : List (List ℕ))
+            → operands_take asked words self.new
+            ≡ (not (takes (operation_of asked part) words) && operands_take asked words self.old)) }
         ensures order { OnOk result ((table : _) (from : ℕ) → is_ordered table part ≡ true
             → IsInOrder table from self.old → IsInOrder table from self.new) }
+        ensures texts { OnOk result (reads_texts part ≡ false → operands_read self.old ≡ false
+            → operands_read self.new ≡ false) }
     {
         self.excluded.insert(0, part)?;
         Ok(())
     }
 
-    // The plan that takes what all operands take.
+    // The plan that takes what all operands take. Texts are read last, so phrases stand around.
     pub(crate) fn plan(self, alloc: Global) -> Result<Plan, AllocError>
-        ensures same { IfOk result (λ plan. (at : ℕ → Operation) (words : List (List ℕ))
-            → takes (operation_of at plan) words ≡ operands_take at words self) }
+        ensures same { IfOk result (λ plan. (asked words : List (List ℕ))
+            → takes (operation_of asked plan) words ≡ operands_take asked words self) }
         ensures order { IfOk result (λ plan. (table : _) (from : ℕ) → IsInOrder table from self
             → is_ordered table plan ≡ true) }
+        ensures texts { IfOk result (λ plan. operands_read self ≡ false
+            → reads_texts plan ≡ false) }
     {
         let Operands {
             places,
             parts,
             excluded,
+            phrases,
         } = self;
         let all = intersected(places, parts);
-        if excluded.is_empty() {
-            return Ok(all);
-        }
-        let plan = excluding(alloc, all, united(excluded))?;
+        let left = remaining(alloc, all, excluded)?;
+        let plan = with_phrases(alloc, left, phrases.as_slice())?;
         Ok(plan)
     }
 }
 
 // The plan that takes what all places and parts take.
 fn intersected(mut places: SmallVec<usize, 4>, mut parts: Vec<Plan>) -> Plan
-    ensures same { (at : ℕ → Operation) (words : List (List ℕ))
-        → takes (operation_of at result) words ≡ all_take at words places.items parts.items }
+    ensures same { (asked words : List (List ℕ))
+        → takes (operation_of asked result) words ≡ all_take asked words places.items parts.items }
     ensures order { (table : _) → in_order table places.items ≡ true
         → all_parts table parts.items ≡ true → is_ordered table result ≡ true }
+    ensures texts { list_any reads_texts parts.items ≡ false → reads_texts result ≡ false }
 {
     if parts.is_empty() && places.len() < 2 {
         return match places.pop() {
@@ -115,11 +207,12 @@ fn intersected(mut places: SmallVec<usize, 4>, mut parts: Vec<Plan>) -> Plan
 
 // The plan that takes what one of the plans takes.
 pub(crate) fn united(mut plans: Vec<Plan>) -> Plan
-    ensures same { (at : ℕ → Operation) (words : List (List ℕ))
-        → takes (operation_of at result) words ≡ any_takes at words plans.items }
+    ensures same { (asked words : List (List ℕ))
+        → takes (operation_of asked result) words ≡ any_takes asked words plans.items }
     ensures order { (table : _) → all_ordered table plans.items ≡ true
         → is_ordered table result ≡ true }
     ensures union { (table : _) → 1 < length plans.items → (standing table result).union ≡ true }
+    ensures texts { list_any reads_texts plans.items ≡ false → reads_texts result ≡ false }
 {
     if plans.len() == 1 {
         return match plans.pop() {
@@ -130,12 +223,49 @@ pub(crate) fn united(mut plans: Vec<Plan>) -> Plan
     Plan::Unite(plans)
 }
 
+// The plan that takes what the first takes and none of the others does.
+fn remaining(alloc: Global, all: Plan, excluded: Vec<Plan>) -> Result<Plan, AllocError>
+    ensures same { IfOk result (λ plan. (asked words : List (List ℕ))
+        → takes (operation_of asked plan) words ≡ (takes (operation_of asked all) words
+        && not (any_takes asked words excluded.items))) }
+    ensures order { IfOk result (λ plan. (table : _) → is_ordered table all ≡ true
+        → all_ordered table excluded.items ≡ true → is_ordered table plan ≡ true) }
+    ensures texts { IfOk result (λ plan. reads_texts all ≡ false
+        → list_any reads_texts excluded.items ≡ false → reads_texts plan ≡ false) }
+{
+    if excluded.is_empty() {
+        return Ok(all);
+    }
+    let plan = excluding(alloc, all, united(excluded))?;
+    Ok(plan)
+}
+
+// The plan that takes what the plan and all phrases take.
+fn with_phrases(alloc: Global, all: Plan, phrases: &[PhrasePlaces]) -> Result<Plan, AllocError>
+    ensures same { IfOk result (λ plan. (asked words : List (List ℕ))
+        → takes (operation_of asked plan) words ≡ (takes (operation_of asked all) words
+        && phrases_take asked words phrases.now)) }
+    ensures order { IfOk result (λ plan. (table : _) → is_ordered table plan
+        ≡ is_ordered table all) }
+    ensures texts { IfOk result (λ plan. length phrases.now ≡ 0
+        → reads_texts plan ≡ reads_texts all) }
+{
+    let mut plan = all;
+    'phrases: for i in 0..phrases.len() {
+        let PhrasePlaces { first, count } = phrases[i];
+        plan = Plan::Phrase(Box::new(alloc, plan)?, first, count);
+    }
+    Ok(plan)
+}
+
 // The plan that takes what the first takes and the second does not.
 fn excluding(alloc: Global, all: Plan, less: Plan) -> Result<Plan, AllocError>
-    ensures same { IfOk result (λ plan. (at : ℕ → Operation)
-        → operation_of at plan ≡ Without (operation_of at all) (operation_of at less)) }
+    ensures same { IfOk result (λ plan. (asked : List (List ℕ))
+        → operation_of asked plan ≡ Without (operation_of asked all) (operation_of asked less)) }
     ensures order { IfOk result (λ plan. (table : _) → is_ordered table plan
         ≡ (is_ordered table all && is_ordered table less)) }
+    ensures texts { IfOk result (λ plan. reads_texts plan
+        ≡ (reads_texts all || reads_texts less)) }
 {
     let all = Box::new(alloc, all)?;
     let less = Box::new(alloc, less)?;

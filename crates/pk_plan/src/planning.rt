@@ -1,10 +1,11 @@
 //! From a query to its plan.
 
-ghost use Rattle.std.specs.Prelude.{◌≡◌, ◌≤◌, length, IfOk, OnOk, true};
+ghost use Rattle.std.specs.Prelude.{◌≡◌, ◌≤◌, length, IfOk, OnOk, false, true};
 ghost use Rattle.pk_model.specs.Tree.{tree_of};
 ghost use Rattle.pk_plan.specs.Operands.{IsGathered, IsInOrder, IsJoined, IsPassed, IsPlanOf};
 ghost use Rattle.pk_plan.specs.Order.{is_ordered};
 ghost use Rattle.pk_plan.specs.Plans.{IsPlanFor};
+ghost use Rattle.pk_plan.specs.Texts.{has_phrase, reads_texts};
 ghost use Rattle.pk_plan.specs.Words.{leaves, texts};
 
 use crate::operands::{Operands, united};
@@ -25,6 +26,9 @@ pub fn plan<'a>(
         texts planned.words.items ≡ leaves (tree_of query.now)) }
     ensures means { IfOk result (λ planned. IsPlanFor planned (tree_of query.now)) }
     ensures ordered { IfOk result (λ planned. is_ordered frequencies.now planned.plan ≡ true) }
+    // Texts are read for phrases alone.
+    ensures texts { IfOk result (λ planned. has_phrase (tree_of query.now) ≡ false
+        → reads_texts planned.plan ≡ false) }
 {
     let words = words_of(alloc, query)?;
     let mut place = words.len();
@@ -140,6 +144,16 @@ fn put(
         Query::Term(_) => {
             *place -= 1;
             operands.put_term(table, *place)?;
+            Ok(())
+        }
+        Query::Phrase(row) => {
+            *place -= row.len();
+            operands.put_phrase(table, *place, row)?;
+            Ok(())
+        }
+        Query::Prefix(_) => {
+            *place -= 1;
+            operands.put_part(Plan::Prefix(*place))?;
             Ok(())
         }
         Query::Not(part) => {

@@ -11,6 +11,8 @@ ghost use Rattle.std.specs.Prelude.{
   length,
   take,
   drop,
+  slice_index,
+  false,
 };
 ghost use Rattle.std.specs.Iterator.{YieldsFirstBy, item_count};
 ghost use Rattle.std.specs.Str.{IsCharBoundary};
@@ -21,12 +23,14 @@ ghost use Rattle.pk_query.specs.Tokens.{
   lexemes,
   placed_from,
   placed_tokens,
+  plain_token,
   token_of,
 };
 
 use std::marker::Model;
 
-/// A token. A chunk is a part of the text.
+/// A token. A chunk is a part of the text, and so is what stands between the quotation marks of a
+/// phrase.
 #[derive(Clone, Copy)]
 pub(crate) enum Token<'a> {
     Open,
@@ -35,6 +39,9 @@ pub(crate) enum Token<'a> {
     Or,
     Not,
     Chunk(&'a str),
+    Phrase(&'a str),
+    /// A quotation mark that no later one closes: it is the last token.
+    OpenQuote,
 }
 
 /// A token and the place of its first byte.
@@ -96,14 +103,15 @@ impl<'a> Iterator for Lexer<'a> {
     }
 }
 
-/// Whether the byte ends a chunk: a space, `(` or `)`.
+/// Whether the byte ends a chunk: a space, `(`, `)` or a quotation mark.
 fn is_delimiter(b: u8) -> bool
     ensures { result ≡ is_delimiter b }
 {
-    b == b' ' || b == b'(' || b == b')'
+    b == b' ' || b == b'(' || b == b')' || b == b'"'
 }
 
-/// The length of the first lexeme: of a delimiter, or of a longest run without one.
+/// The length of the first lexeme: of a phrase, of another delimiter, or of a longest run without
+/// one.
 fn lexeme_len(text: &str) -> usize
     requires { 0 < length text.now }
     ensures some { 0 < result }
@@ -111,10 +119,47 @@ fn lexeme_len(text: &str) -> usize
     ensures boundary { IsCharBoundary text.now result }
     ensures cut { lexemes text.now ≡ take result text.now ∷ lexemes (drop result text.now) }
 {
-    let bytes = text.as_bytes();
-    if is_delimiter(bytes[0]) {
+    let first = text.as_bytes()[0];
+    if first == b'"' {
+        return phrase_len(text);
+    }
+    if is_delimiter(first) {
         return 1;
     }
+    run_len(text)
+}
+
+/// The length of the phrase with which the text begins: up to the next quotation mark, or to the
+/// text's end.
+fn phrase_len(text: &str) -> usize
+    requires some { 0 < length text.now }
+    requires quote { slice_index text.now 0 ≡ 34 }
+    ensures some { 0 < result }
+    ensures within { result ≤ length text.now }
+    ensures boundary { IsCharBoundary text.now result }
+    ensures cut { lexemes text.now ≡ take result text.now ∷ lexemes (drop result text.now) }
+{
+    let bytes = text.as_bytes();
+    let mut end = 1;
+    'phrase: while end < bytes.len() {
+        if bytes[end] == b'"' {
+            return end + 1;
+        }
+        end += 1;
+    }
+    end
+}
+
+/// The length of the longest run without a delimiter with which the text begins.
+fn run_len(text: &str) -> usize
+    requires some { 0 < length text.now }
+    requires plain { is_delimiter (slice_index text.now 0) ≡ false }
+    ensures some { 0 < result }
+    ensures within { result ≤ length text.now }
+    ensures boundary { IsCharBoundary text.now result }
+    ensures cut { lexemes text.now ≡ take result text.now ∷ lexemes (drop result text.now) }
+{
+    let bytes = text.as_bytes();
     let mut end = 1;
     'run: while end < bytes.len() && !is_delimiter(bytes[end]) {
         end += 1;
@@ -125,6 +170,19 @@ fn lexeme_len(text: &str) -> usize
 /// What a lexeme stands for, a space apart.
 fn token_of(lexeme: &str) -> Token<'_>
     ensures { token_view result ≡ token_of lexeme.now }
+{
+    let Some(rest) = lexeme.strip_prefix('"') else {
+        return plain_token(lexeme);
+    };
+    match rest.strip_suffix('"') {
+        Some(inside) => Token::Phrase(inside),
+        None => Token::OpenQuote,
+    }
+}
+
+/// What a lexeme stands for that begins with no quotation mark, a space apart.
+fn plain_token(lexeme: &str) -> Token<'_>
+    ensures { token_view result ≡ plain_token lexeme.now }
 {
     match lexeme {
         "(" => Token::Open,

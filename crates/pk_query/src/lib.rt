@@ -1,19 +1,26 @@
 //! The query language: from a text to a [`Query`](pk_model::Query), or to the first fault of the
 //! text and its place.
 //!
-//! A text is cut into `(`, `)` and chunks, a chunk being a longest run without space, `(` or `)`.
+//! A text is cut into `(`, `)`, phrases and chunks. A phrase is a quotation mark, the bytes up to
+//! the next one, and that one; a chunk is a longest run without space, `(`, `)` or quotation mark.
 //! The chunks `AND`, `OR` and `NOT`, in exactly these capitals, are operators. Any other chunk
-//! means the AND of its words, in their order. Tokens make a query by four rows:
+//! means the AND of its words, in their order. One that ends in `*` is read without that `*`, and
+//! its last word is only begun: `hop*` asks for a word that begins with `hop`, and `AND*` is no
+//! operator. A phrase asks for its words in a row; a phrase of one word means that word. Inside a
+//! phrase `*`, brackets and operators mean nothing of their own. Tokens make a query by four rows:
 //!
 //! | row | forms |
 //! |---|---|
 //! | or | and; or `OR` and |
 //! | and | not; and `AND` not; and not |
 //! | not | operand; `NOT` not |
-//! | operand | a chunk with a word; `(` or `)` |
+//! | operand | a chunk or a phrase with a word; `(` or `)` |
 //!
 //! So `NOT` binds tightest, two operands side by side mean AND, and AND and OR group to the left:
 //! `a OR b c` is `a OR (b AND c)`, and `NOT a b` is `(NOT a) AND b`.
+//!
+//! A quotation mark that no later one closes is the text's last token. It goes on where the tokens
+//! before it do, and the text cannot end there: it is unclosed at that place.
 //!
 //! [`fault_of`] finds what is wrong with a text, in the order of [`QueryFault`], and takes no
 //! memory. [`parse`] asks it first, so only a text that reads as a query is ever built, and want

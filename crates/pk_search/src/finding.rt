@@ -7,9 +7,11 @@ ghost use Rattle.pk_disk.specs.Units.{apart, extent_bytes, start_of};
 ghost use Rattle.pk_manifest.specs.Sound.{same_segment};
 ghost use Rattle.pk_model.specs.Collection.{Doc};
 ghost use Rattle.pk_model.specs.Tree.{Tree, tree_of};
+ghost use Rattle.pk_search.specs.Answering.{AnswersEntries, AnswersEntry};
 ghost use Rattle.pk_search.specs.Cached.{AddsOnlyOf, AgreesAt, CacheAgrees, KeepsBelow};
 ghost use Rattle.pk_search.specs.Finding.{FoundAs};
 ghost use Rattle.pk_plan.specs.Plans.{IsPlanFor};
+ghost use Rattle.pk_plan.specs.Texts.{has_phrase, reads_texts};
 ghost use Rattle.pk_plan.specs.Words.{texts};
 ghost use Rattle.pk_search.specs.Matching.{AreEntriesOf, AreKept, EntriesAs};
 ghost use Rattle.pk_search.specs.Opened.{AreOpenOf, present, with_deleted};
@@ -162,10 +164,9 @@ fn find_in<D: Disk>(
     planned: &Planned,
     found: &mut Vec<DocNo>,
 ) -> Result<(), ReadFault>
-    requires { start_of entry.now.extent + entry.now.extent.bytes
-        ≤ length (D.content source.old.disk.now) }
+    requires { start_of entry.now.extent + entry.now.extent.bytes ≤ length (D.content source.old.disk.now) }
     ensures found { D.honest → (s : Stored)
-        → IndexesEntry (D.content source.old.disk.now) entry.now s
+        → AnswersEntry (reads_texts planned.now.plan) (D.content source.old.disk.now) entry.now s
         → IsSegmentOf opened.now.segment s.documents
         → (entry.now.kind ≡ 2
         → AreEntriesOf kept.now (texts planned.now.words.items) s.documents)
@@ -190,6 +191,7 @@ fn find_in<D: Disk>(
         let lists = WordLists {
             id: entry.segment,
             segment: &opened.segment,
+            words: planned.words.as_slice(),
             entries: kept,
         };
         return find_planned(alloc, source, cache, &lists, opened, planned, found);
@@ -212,10 +214,9 @@ fn find_all<D: Disk>(
     requires ids { apart same_segment entries.now ≡ true }
     requires count { length kept.now ≡ min (length entries.now) (length opened.now) }
     ensures found { D.honest → (stored : List Stored)
-        → IndexesEntries (D.content source.old.disk.now) entries.now stored
+        → AnswersEntries (reads_texts planned.now.plan) (D.content source.old.disk.now) entries.now stored
         → AreOpenOf opened.now stored
-        → AreKept (D.content source.old.disk.now) (texts planned.now.words.items)
-        entries.now opened.now kept.now
+        → AreKept (D.content source.old.disk.now) (texts planned.now.words.items) entries.now opened.now kept.now
         → (query : Tree) → IsPlanFor planned.now query
         → CacheAgrees (D.content source.old.disk.now) cache.old entries.now opened.now
         → FoundAs query (live_in (present opened.now stored))
@@ -248,7 +249,8 @@ fn find_all<D: Disk>(
 }
 
 /// Puts the numbers of the live documents of all segments that satisfy the query behind those that
-/// were found. Each open segment stands at the place of its entry. Of kind 2 no text is read.
+/// were found. Each open segment stands at the place of its entry. Of kind 2 texts are read for
+/// phrases alone: of the documents that satisfy all else of the phrase's chain.
 ///
 /// Where there is a cache, the blocks of a list that is taken out whole go through it. Let it agree
 /// with the entries and their open segments, then it does so afterwards; a new one does.
@@ -274,7 +276,8 @@ pub fn find_stored<'a, D: Disk>(
     requires ids { apart same_segment entries.now ≡ true }
     ensures plan { IfOk result (λ planned. IsPlanFor planned (tree_of query.now)) }
     ensures found { D.honest → (stored : List Stored)
-        → IndexesEntries (D.content disk.old) entries.now stored → AreOpenOf opened.now stored
+        → AnswersEntries (has_phrase (tree_of query.now)) (D.content disk.old) entries.now stored
+        → AreOpenOf opened.now stored
         → CacheAgrees (D.content disk.old) cache.old entries.now opened.now
         → FoundAs (tree_of query.now) (live_in (present opened.now stored)) found.old.items
         found.new.items result }

@@ -4,13 +4,14 @@
 //! A caller hands the disk, the entries of the body in force and their open segments, each at the
 //! place of its entry. An `OpenSegment` has the numbers of its deleted documents, those of its
 //! deletion list and all. What the entries stand for is said by pk_state: by `SpellsEntries`, and
-//! for a find by `IndexesEntries`, in which the texts of kind 2 may be any bytes. What is left of it
-//! once each deletion counts is `present`; the clauses hold for whatever that is.
+//! for a find without a phrase by `IndexesEntries`, in which the texts of kind 2 may be any bytes
+//! (`AnswersEntries`). What is left of it once each deletion counts is `present`; the clauses hold
+//! for whatever that is.
 //!
 //! | call | answers | reads |
 //! |---|---|---|
 //! | `open_segments` | the segments of a body, with what is deleted of each | headers, ends of directories, deletion lists |
-//! | `find_stored` | the numbers of the live documents that satisfy a query | posting lists, or each document |
+//! | `find_stored` | the numbers of the live documents that satisfy a query | posting lists, texts for phrases, or each document |
 //! | `text_stored` | the text of the live document of a number, or none | one text, by halving |
 //! | `place_stored` | the place of the segment that has it, or none | one directory, by halving |
 //! | `count_stored` | how many documents there are | nothing |
@@ -21,7 +22,10 @@
 //! which is carried out in each of these segments (pk_match, over the lists of `stored`): of an
 //! intersection the rarest word's list is taken out whole by a cursor, block by block; a later word
 //! is sought number by number where its list is more than 50 times as long as what is left, else
-//! taken out too and joined (`lists`). Where nothing is left, nothing more is read. A segment of
+//! taken out too and joined (`lists`). Where nothing is left, nothing more is read. The beginning
+//! of a word is looked for in the dictionary, and the lists of all words that begin so are united
+//! (`begun`). Words in a row are looked for in the texts of what is left at the end (`in_row`), one
+//! text in memory at a time. A segment of
 //! kind 1 has no lists: its documents are read, and the plan carried out over an index of the words
 //! of each (`hits`). The plan is answered, so that other documents are found by it too.
 //!
@@ -40,8 +44,10 @@
 //! memory. It writes nothing.
 #![tactic(auto)]
 
+mod begun;
 mod finding;
 mod hits;
+mod in_row;
 mod kept;
 mod listed;
 mod lists;

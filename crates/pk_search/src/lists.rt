@@ -23,8 +23,8 @@ use pk_posting::{ByteSource, ListPlace};
 use pk_segment::{ReadFault, Segment};
 use pk_sets::is_rising;
 
-// Where the posting list that an entry leads to lies in the segment.
-fn place_of(segment: &Segment, entry: Entry) -> Result<ListPlace, ReadFault>
+/// Where the posting list that an entry leads to lies in the segment.
+pub(crate) fn place_of(segment: &Segment, entry: Entry) -> Result<ListPlace, ReadFault>
     ensures place { (bytes word : List ℕ) (docs : List Doc) → IndexSpells bytes docs
         → IsSegmentOf segment.now docs → LeadsTo docs word entry
         → MatchResult result (λ place. ListLies bytes place (list_with word docs)) IsNoDamage }
@@ -39,10 +39,10 @@ fn place_of(segment: &Segment, entry: Entry) -> Result<ListPlace, ReadFault>
     })
 }
 
-// Puts the list of so many numbers that lies at a place into `out`, block by block. The cursor holds
-// a block, which is no part of the frames of a recursion.
+/// Puts the list of so many numbers that lies at a place into `out`, block by block. The cursor
+/// holds a block, which is no part of the frames of a recursion.
 #[inline(never)]
-fn copy_out<S: ByteSource>(
+pub(crate) fn copy_out<S: ByteSource>(
     source: &mut S,
     place: ListPlace,
     count: u32,

@@ -16,10 +16,12 @@ ghost use Rattle.pk_segment.specs.Opened.{IsSegmentOf};
 ghost use Rattle.pk_segment.specs.Reading.{IsNoDamage};
 ghost use Rattle.pk_segment.specs.Spelling.{DirectorySpells};
 
+use crate::begun::put_begun;
+use crate::in_row::keep_in_row;
 use crate::listed::WordLists;
 use crate::lists::{cut_word, put_word};
 use pk_cache::BlockCache;
-use pk_match::Lists;
+use pk_match::{Lists, asked_beginning, asked_row};
 use pk_posting::ByteSource;
 use pk_segment::{ReadFault, Segment};
 use pk_sets::is_rising;
@@ -39,8 +41,8 @@ pub(crate) struct StoredLists<'a, S: ByteSource> {
 impl<'a, S: ByteSource> Lists for StoredLists<'a, S> {
     type Fault = ReadFault;
 
-    ghost are_of = { λ it words docs.
-        AreStored S.honest (S.content it.source.now) it.lists words docs it.cache.now };
+    ghost are_of = { λ it reads words docs.
+        AreStored S.honest reads (S.content it.source.now) it.lists words docs it.cache.now };
 
     ghost is_no_damage = { IsNoDamage };
 
@@ -73,14 +75,37 @@ impl<'a, S: ByteSource> Lists for StoredLists<'a, S> {
     }
 
     #[inline(never)]
+    fn put_prefix(&mut self, place: usize, out: &mut Vec<u32>) -> Result<(), ReadFault> {
+        let Some(beginning) = asked_beginning(self.lists.words, place) else {
+            out.clear();
+            return Ok(());
+        };
+        put_begun(self.alloc, self.source, self.lists.segment, beginning, out)
+    }
+
+    #[inline(never)]
+    fn keep_row(
+        &mut self,
+        first: usize,
+        count: usize,
+        numbers: &mut Vec<u32>,
+    ) -> Result<(), ReadFault> {
+        let Some(row) = asked_row(self.lists.words, first, count) else {
+            numbers.clear();
+            return Ok(());
+        };
+        keep_in_row(self.alloc, self.source, self.lists.segment, row, numbers)
+    }
+
+    #[inline(never)]
     fn all(&mut self, out: &mut Vec<u32>) -> Result<(), ReadFault> {
         put_all(self.alloc, self.source, self.lists.segment, out)
     }
 
-    ghost are_rising = { λ it words docs are. are.served.index.front.spelled.are.rising };
+    ghost are_rising = { λ it reads words docs are. are.served.index.front.spelled.are.rising };
 
-    ghost are_still = { λ a b fault words docs left are.
-        leave_still fault _ _ _ _ _ _ words docs left.2 are };
+    ghost are_still = { λ a b fault reads words docs left are.
+        leave_still fault _ _ _ _ _ _ reads words docs left.2 are };
 
     ghost leaves_same = { λ it. (refl, refl, leave_none _ _ _ (S.keeps_self _)) };
 

@@ -1,4 +1,5 @@
 pub mod DirectoryLemmas
+pub mod BegunLemmas
 pub mod IndexLemmas
 pub mod ListingLemmas
 pub mod OpeningLemmas

@@ -23,7 +23,7 @@ use Rattle.pk_dict.specs.declared.entry.DictPlace.{DictPlace}
 use Rattle.pk_dict.specs.declared.entry.EntriesFault.{EntriesFault}
 use Rattle.pk_dict.specs.declared.entry.EntriesFault.TheVariants as entries
 use Rattle.pk_dict.specs.declared.entry.Entry.{Entry}
-use Rattle.pk_dict.specs.Dictionary.{entry_of}
+use Rattle.pk_dict.specs.Dictionary.{entry_of, items_with_prefix}
 use Rattle.pk_dict.specs.Entries.{items_from}
 use Rattle.pk_model.specs.Collection.{Doc}
 use Rattle.pk_model.specs.Terms.{terms_of}
@@ -79,3 +79,8 @@ ListedAs docs word (Err fault) = IsNoDamage fault
 abbrev pub TermsAs : List Doc → Result (Vec (Vec ℕ × Entry)) ReadFault → Type 0
 TermsAs docs (Ok terms) = items_from terms.items ≡ items_of docs
 TermsAs docs (Err fault) = IsNoDamage fault
+
+-- what it says of the words that begin with a prefix
+abbrev pub BegunAs : List Doc → List ℕ → Result (Vec (Vec ℕ × Entry)) ReadFault → Type 0
+BegunAs docs prefix (Ok terms) = items_from terms.items ≡ items_with_prefix prefix (items_of docs)
+BegunAs docs prefix (Err fault) = IsNoDamage fault

@@ -4,7 +4,7 @@ ghost use Rattle.std.specs.Prelude.{◌≡◌, ◌≤◌, ◌+◌, ◌*◌, List
 ghost use Rattle.pk_dict.specs.Source.{stretches_of};
 ghost use Rattle.pk_model.specs.Collection.{Doc};
 ghost use Rattle.pk_posting.specs.Source.{CountsFaults};
-ghost use Rattle.pk_segment.specs.Listing.{ListedAs, PlacedAs, TermsAs};
+ghost use Rattle.pk_segment.specs.Listing.{BegunAs, ListedAs, PlacedAs, TermsAs};
 ghost use Rattle.pk_segment.specs.Opened.{IsSegmentOf};
 ghost use Rattle.pk_segment.specs.Reading.{CountsReads};
 ghost use Rattle.pk_segment.specs.Spelling.{IndexSpells};
@@ -77,8 +77,28 @@ impl Segment {
         ensures keeps { S.keeps source.old source.new }
         ensures faults { CountsReads (S.failures source.old) (S.failures source.new) result }
     {
+        self.entries_of(alloc, source, &[])
+    }
+
+    /// The words of a segment of kind 2 that begin with a prefix, rising by their bytes, each with
+    /// its entry. It reads the header, and of the dictionary where these words stand, whatever the
+    /// texts are.
+    pub fn entries_of<S: ByteSource>(
+        &self,
+        alloc: Global,
+        source: &mut S,
+        prefix: &[u8],
+    ) -> Result<Vec<(Vec<u8>, Entry)>, ReadFault>
+        ensures entries { S.honest → (docs : List Doc) → IndexSpells (S.content source.old) docs
+            → IsSegmentOf self.now docs → BegunAs docs prefix.now result }
+        ensures content { S.honest → S.content source.new ≡ S.content source.old }
+        ensures size { length (S.content source.new) ≡ length (S.content source.old) }
+        ensures keeps { S.keeps source.old source.new }
+        ensures faults { CountsReads (S.failures source.old) (S.failures source.new) result }
+    {
         let place = self.dictionary(source)?;
-        let terms = entries_in(alloc, source, place, &[])?;
-        Ok(terms)
+        let mut windows = Windows::on(source, place);
+        let entries = entries_in(alloc, &mut windows, place, prefix)?;
+        Ok(entries)
     }
 }

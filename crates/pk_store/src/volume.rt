@@ -9,12 +9,13 @@ ghost use Rattle.pk_manifest.specs.Spelling.{view};
 ghost use Rattle.pk_model.specs.Collection.{IsCollection};
 ghost use Rattle.pk_model.specs.Tree.{tree_of};
 ghost use Rattle.pk_plan.specs.Plans.{IsPlanFor};
+ghost use Rattle.pk_plan.specs.Texts.{has_phrase};
+ghost use Rattle.pk_search.specs.Answering.{AnswersEntries};
 ghost use Rattle.pk_search.specs.Finding.{FoundAs, LooksUpAs};
 ghost use Rattle.pk_search.specs.Opened.{AreOpenOf, pends, present};
 ghost use Rattle.pk_segment.specs.Spelling.{docs_of};
 ghost use Rattle.pk_segment.specs.Reading.{CountsReads};
 ghost use Rattle.pk_state.specs.Committed.{Stored, live_in, whole_of};
-ghost use Rattle.pk_state.specs.Holds.{IndexesEntries};
 ghost use Rattle.pk_store.specs.Deleting.{DeletesAt, DeletesIn};
 ghost use Rattle.pk_merge.specs.Choosing.{ChoosesAs};
 ghost use Rattle.pk_state.specs.Writing.{sizes_of};
@@ -149,8 +150,8 @@ impl<D: Disk> Volume<D> {
     ) -> Result<Planned<'a>, ReadFault>
         ensures plan { IfOk result (λ planned. IsPlanFor planned (tree_of query.now)) }
         ensures found { D.honest → (stored : List Stored)
-            → IndexesEntries (D.content self.old.disk) self.old.body.entries stored
-            → AreOpenOf self.old.opened stored → self.old.reopen ≡ false
+            → AnswersEntries (has_phrase (tree_of query.now)) (D.content self.old.disk)
+            self.old.body.entries stored → AreOpenOf self.old.opened stored → self.old.reopen ≡ false
             → FoundAs (tree_of query.now) (live_in (present self.old.opened stored)) found.old.items
             found.new.items result }
         ensures keeps { KeepsVolume D.Disk self.old self.new }

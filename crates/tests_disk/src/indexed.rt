@@ -141,6 +141,32 @@ fn has_terms(
     Ok(())
 }
 
+// Prefixes, with the words of the row that begin so.
+static BEGUN: [(&str, &[(&str, Entry)]); 6] = [
+    ("", &[("a", A), ("b", B)]),
+    ("a", &[("a", A)]),
+    ("b", &[("b", B)]),
+    ("ab", &[]),
+    ("c", &[]),
+    ("\0", &[]),
+];
+
+// The words that begin with the prefix are these, with their entries.
+fn has_begun(
+    rt: &impl Abort,
+    alloc: Global,
+    segment: &Segment,
+    source: &mut SliceSource<'_>,
+    (prefix, wanted): (&str, &[(&str, Entry)]),
+) -> Result<(), Fail> {
+    let terms = segment.entries_of(alloc, source, prefix.as_bytes())?;
+    assert!(rt; terms.len() == wanted.len(), "{prefix}");
+    for (term, (word, entry)) in terms.iter().zip(wanted.iter()) {
+        assert!(rt; is_term(term, word, *entry), "{prefix}");
+    }
+    Ok(())
+}
+
 // The row is read, by its documents and by its words, where these bytes stand in place of the
 // texts.
 fn read_with(rt: &impl Abort, alloc: Global, texts: [u8; 4]) -> Result<(), Fail> {
@@ -153,6 +179,9 @@ fn read_with(rt: &impl Abort, alloc: Global, texts: [u8; 4]) -> Result<(), Fail>
     for listed in &LISTED {
         let is = is_listed(alloc, &segment, &mut source, &bytes, *listed)?;
         assert!(rt; is, "{}", listed.word);
+    }
+    for begun in &BEGUN {
+        has_begun(rt, alloc, &segment, &mut source, *begun)?;
     }
     has_terms(rt, alloc, &segment, &mut source)
 }

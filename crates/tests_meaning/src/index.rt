@@ -2,6 +2,7 @@
 
 use crate::checks::{equal, equal_of};
 use pk_index::{Index, Row, both_into};
+use pk_model::{DocNo, Document};
 use pk_query::parse;
 use pk_sets::is_rising;
 use std::alloc::{AllocError, Global};
@@ -36,13 +37,45 @@ fn shown(alloc: Global, numbers: &[u32]) -> Result<String, AllocError> {
     Ok(answer)
 }
 
-/// What a query finds.
-fn found(alloc: Global, index: &Index, live: &[u32], text: &str) -> Result<Vec<u32>, Fail> {
-    let query = parse(alloc, text).ok().ok_or("no query")?;
-    if !is_rising(live) {
-        return Ok(Vec::new(alloc));
+/// The index, with the live documents and their numbers.
+#[derive(Drop)]
+struct Kept {
+    index: Index,
+    live: Vec<u32>,
+    documents: Vec<Document>,
+}
+
+impl Kept {
+    /// No document.
+    fn new(alloc: Global) -> Self {
+        Kept {
+            index: Index::new(alloc),
+            live: Vec::new(alloc),
+            documents: Vec::new(alloc),
+        }
     }
-    Ok(index.find(alloc, &query, live)?)
+
+    /// A document comes.
+    fn add(&mut self, alloc: Global, number: u32, text: &str) -> Result<(), AllocError> {
+        self.index.add(alloc, number, text)?;
+        self.live.push(number)?;
+        let text = String::from_str(alloc, text)?;
+        self.documents.push(Document {
+            number: DocNo(number),
+            text,
+        })?;
+        Ok(())
+    }
+
+    /// What a query finds.
+    fn found(&self, alloc: Global, text: &str) -> Result<Vec<u32>, Fail> {
+        let query = parse(alloc, text).ok().ok_or("no query")?;
+        let live = self.live.as_slice();
+        if !is_rising(live) {
+            return Ok(Vec::new(alloc));
+        }
+        Ok(self.index.find(alloc, &query, live, &self.documents)?)
+    }
 }
 
 /// The live numbers of a row.
@@ -82,32 +115,32 @@ fn terms(alloc: Global, index: &Index, live: &[u32]) -> Result<String, AllocErro
 /// Takes a step, and gives its answer.
 fn taken(
     alloc: Global,
-    index: &mut Index,
-    live: &mut Vec<u32>,
+    kept: &mut Kept,
     step: Step,
     number: u32,
     text: &str,
 ) -> Result<String, Fail> {
     match step {
-        Step::Add => {
-            index.add(alloc, number, text)?;
-            live.push(number)?;
+        Step::Add => kept.add(alloc, number, text)?,
+        Step::Lose => kept.index.add(alloc, number, text)?,
+        Step::Remove => {
+            kept.live.retain(|n| *n != number);
+            kept.documents.retain(|d| d.number.0 != number);
         }
-        Step::Lose => index.add(alloc, number, text)?,
-        Step::Remove => live.retain(|n| *n != number),
         Step::Clear => {
-            index.clear();
-            live.clear();
+            kept.index.clear();
+            kept.live.clear();
+            kept.documents.clear();
         }
-        Step::Find => return Ok(shown(alloc, &found(alloc, index, live, text)?)?),
-        Step::List => return Ok(shown(alloc, &list(alloc, index, live, text)?)?),
-        Step::Terms => return Ok(terms(alloc, index, live)?),
+        Step::Find => return Ok(shown(alloc, &kept.found(alloc, text)?)?),
+        Step::List => return Ok(shown(alloc, &list(alloc, &kept.index, &kept.live, text)?)?),
+        Step::Terms => return Ok(terms(alloc, &kept.index, &kept.live)?),
     }
     Ok(String::new(alloc))
 }
 
 /// Steps, each with a number and a text, and the answer that is wanted.
-const STEPS: [(Step, u32, &str, &str); 38] = [
+const STEPS: [(Step, u32, &str, &str); 51] = [
     (Step::Terms, 0, "", ""),
     (Step::Find, 0, "NOT a", ""),
     (Step::Add, 5, "a b", ""),
@@ -115,6 +148,12 @@ const STEPS: [(Step, u32, &str, &str); 38] = [
     (Step::Find, 0, "NOT a", " 6"),
     (Step::Find, 0, "a OR c", " 5 6"),
     (Step::Find, 0, "a b", " 5"),
+    (Step::Find, 0, "\"a b\"", " 5"),
+    (Step::Find, 0, "\"b a\"", ""),
+    (Step::Find, 0, "NOT \"a b\"", " 6"),
+    (Step::Find, 0, "c* OR b*", " 5 6"),
+    (Step::Find, 0, "NOT a*", " 6"),
+    (Step::Find, 0, "x*", ""),
     (Step::Terms, 0, "", " a b c"),
     (Step::List, 0, "b", " 5"),
     (Step::List, 0, "x", ""),
@@ -122,6 +161,8 @@ const STEPS: [(Step, u32, &str, &str); 38] = [
     (Step::Terms, 0, "", " c"),
     (Step::List, 0, "b", ""),
     (Step::Find, 0, "b", ""),
+    (Step::Find, 0, "b*", ""),
+    (Step::Find, 0, "\"a b\"", ""),
     (Step::Find, 0, "NOT b", " 6"),
     // A number that is given once more has the words of its new text alone.
     (Step::Remove, 6, "", ""),
@@ -133,6 +174,8 @@ const STEPS: [(Step, u32, &str, &str); 38] = [
     (Step::Add, 6, "e", ""),
     (Step::List, 0, "a", " 5"),
     (Step::Find, 0, "x", ""),
+    (Step::Find, 0, "x*", ""),
+    (Step::Find, 0, "\"x a\" OR \"d a\"", " 5"),
     (Step::Find, 0, "NOT a", " 6"),
     (Step::Terms, 0, "", " a d e"),
     (Step::Clear, 0, "", ""),
@@ -166,37 +209,37 @@ const STEPS: [(Step, u32, &str, &str); 38] = [
     ),
     (Step::List, 0, "strasse", " 7"),
     (Step::Find, 0, "Éclair ASCII Straße", " 7"),
+    (Step::Find, 0, "\"strasse Straße\" \"e mail\"", " 7"),
+    (Step::Find, 0, "\"mail e\"", ""),
+    (Step::Find, 0, "éc* unt* NOT wordy*", " 7"),
 ];
 
 /// The step of a row, which a failure names by its number, has the answer that the row wants.
 fn answers(
     rt: &impl Abort,
     alloc: Global,
-    index: &mut Index,
-    live: &mut Vec<u32>,
+    kept: &mut Kept,
     row: usize,
     (step, number, text, wanted): (Step, u32, &str, &str),
 ) -> Result<(), Fail> {
-    let answer = taken(alloc, index, live, step, number, text)?;
+    let answer = taken(alloc, kept, step, number, text)?;
     equal_of(rt, (row, number, text), answer.as_str(), wanted);
     Ok(())
 }
 
 #[test]
 fn documents_come_and_leave(rt: HostRuntime) -> Result<(), Fail> {
-    let mut index = Index::new(rt.alloc());
-    let mut live = Vec::new(rt.alloc());
+    let mut kept = Kept::new(rt.alloc());
     for (i, row) in STEPS.iter().enumerate() {
-        answers(&rt, rt.alloc(), &mut index, &mut live, i, *row)?;
+        answers(&rt, rt.alloc(), &mut kept, i, *row)?;
     }
     Ok(())
 }
 
 /// Adds the documents 1 to 4,096, of which each has `a` and a word of its own.
-fn add_many(alloc: Global, index: &mut Index, live: &mut Vec<u32>) -> Result<(), Fail> {
+fn add_many(alloc: Global, kept: &mut Kept) -> Result<(), Fail> {
     for number in 1u32..4097 {
-        index.add(alloc, number, format!(in alloc; "a N{number}")?.as_str())?;
-        live.push(number)?;
+        kept.add(alloc, number, format!(in alloc; "a N{number}")?.as_str())?;
     }
     Ok(())
 }
@@ -207,21 +250,24 @@ fn count(words: &str) -> usize {
 }
 
 /// A word that each document has, one that one has, and one that none has, have their numbers.
-fn words_have_their_numbers(
-    rt: &impl Abort,
-    alloc: Global,
-    index: &mut Index,
-    live: &mut Vec<u32>,
-) -> Result<(), Fail> {
-    let all = shown(alloc, live)?;
+fn words_have_their_numbers(rt: &impl Abort, alloc: Global, kept: &mut Kept) -> Result<(), Fail> {
+    let all = shown(alloc, &kept.live)?;
     let rows = [
         (Step::Find, 0, "NOT none", all.as_str()),
+        (Step::Find, 0, "n*", all.as_str()),
+        (
+            Step::Find,
+            0,
+            "n409*",
+            " 409 4090 4091 4092 4093 4094 4095 4096",
+        ),
+        (Step::Find, 0, "\"a n4096\"", " 4096"),
         (Step::List, 0, "a", all.as_str()),
         (Step::List, 0, "n4096", " 4096"),
         (Step::Find, 0, "none", ""),
     ];
     for (i, row) in rows.iter().enumerate() {
-        answers(rt, alloc, index, live, i, *row)?;
+        answers(rt, alloc, kept, i, *row)?;
     }
     Ok(())
 }
@@ -236,9 +282,8 @@ fn has_the_words(rt: &impl Abort, alloc: Global, index: &Index, live: &[u32]) ->
 
 #[test]
 fn four_thousand_and_ninety_six_documents(rt: HostRuntime) -> Result<(), Fail> {
-    let mut index = Index::new(rt.alloc());
-    let mut live = Vec::new(rt.alloc());
-    add_many(rt.alloc(), &mut index, &mut live)?;
-    words_have_their_numbers(&rt, rt.alloc(), &mut index, &mut live)?;
-    has_the_words(&rt, rt.alloc(), &index, &live)
+    let mut kept = Kept::new(rt.alloc());
+    add_many(rt.alloc(), &mut kept)?;
+    words_have_their_numbers(&rt, rt.alloc(), &mut kept)?;
+    has_the_words(&rt, rt.alloc(), &kept.index, &kept.live)
 }

@@ -13,4 +13,6 @@ mod plans;
 #[cfg(test)]
 mod queries;
 #[cfg(test)]
+mod rows;
+#[cfg(test)]
 mod words;

@@ -38,10 +38,24 @@ impl Repeated<'_> {
     }
 }
 
+/// Writes the words of a phrase with spaces between them, in quotation marks.
+fn write_row(out: &mut String, row: &[String]) -> Result<(), AllocError> {
+    for (at, word) in row.iter().enumerate() {
+        out.push_str(if at == 0 { "\"" } else { " " })?;
+        out.push_str(word.as_str())?;
+    }
+    out.push_str("\"")
+}
+
 /// Writes a query with a bracket around each operator and what it is applied to.
 fn write_query(out: &mut String, query: &Query) -> Result<(), AllocError> {
     let (left, operator, right) = match query {
         Query::Term(word) => return out.push_str(word.as_str()),
+        Query::Phrase(row) => return write_row(out, row),
+        Query::Prefix(beginning) => {
+            out.push_str(beginning.as_str())?;
+            return out.push_str("*");
+        }
         Query::Not(part) => {
             out.push_str("(NOT ")?;
             write_query(out, part)?;
@@ -57,10 +71,11 @@ fn write_query(out: &mut String, query: &Query) -> Result<(), AllocError> {
     out.push_str(")")
 }
 
-/// How many terms a query has.
+/// How many terms a query has, those of phrases among them.
 fn terms(query: &Query) -> u64 {
     match query {
-        Query::Term(_) => 1,
+        Query::Term(_) | Query::Prefix(_) => 1,
+        Query::Phrase(row) => row.len() as u64,
         Query::And(left, right) => terms(left).saturating_add(terms(right)),
         Query::Or(left, right) => terms(left).saturating_add(terms(right)),
         Query::Not(part) => terms(part),
@@ -98,7 +113,7 @@ fn has_fault(rt: &impl Abort, alloc: Global, text: &str, fault: QueryFault) {
 }
 
 /// Texts with what they read as.
-const READ: [(&str, &str); 35] = [
+const READ: [(&str, &str); 69] = [
     ("a", "a"),
     (" a ", "a"),
     ("a b", "(a AND b)"),
@@ -137,6 +152,48 @@ const READ: [(&str, &str); 35] = [
     ),
     ("a\tAND", "(a AND and)"),
     ("É(Ü)", "(é AND ü)"),
+    // Phrases.
+    ("\"a b\"", "\"a b\""),
+    ("\"a\"", "a"),
+    ("\" a \"", "a"),
+    ("\"E-Mail\"", "\"e mail\""),
+    ("\"a a\"", "\"a a\""),
+    ("\"a b\" c", "(\"a b\" AND c)"),
+    ("a\"b c\"d", "((a AND \"b c\") AND d)"),
+    ("\"a b\"\"c d\"", "(\"a b\" AND \"c d\")"),
+    ("NOT\"a b\"", "(NOT \"a b\")"),
+    ("(\"a b\")", "\"a b\""),
+    ("a OR \"b c\" d", "(a OR (\"b c\" AND d))"),
+    ("\"a AND b\"", "\"a and b\""),
+    ("\"NOT\"", "not"),
+    ("\"(a) (b\"", "\"a b\""),
+    ("\"a* b*\"", "\"a b\""),
+    ("\"a -- b\"", "\"a b\""),
+    ("\"a\tb\"", "\"a b\""),
+    ("\"É ü\"", "\"é ü\""),
+    (
+        "\"for schizophrenia\" OR hop*",
+        "(\"for schizophrenia\" OR hop*)",
+    ),
+    // Beginnings of words.
+    ("a*", "a*"),
+    ("D*", "d*"),
+    ("e-mail*", "(e AND mail*)"),
+    ("a**", "a*"),
+    ("a-*", "a*"),
+    ("*a*", "a*"),
+    ("*a", "a"),
+    ("a*b", "(a AND b)"),
+    ("AND*", "and*"),
+    ("NOT a*", "(NOT a*)"),
+    ("NOT*", "not*"),
+    ("a* OR b*", "(a* OR b*)"),
+    ("Straße*", "strasse*"),
+    ("treat* NOT drug", "(treat* AND (NOT drug))"),
+    (
+        "Appr*\"of schizophrenia\"",
+        "(appr* AND \"of schizophrenia\")",
+    ),
 ];
 
 #[test]
@@ -148,7 +205,7 @@ fn what_texts_read_as(rt: HostRuntime) -> Result<(), Fail> {
 }
 
 /// Texts with their faults.
-const FAULTS: [(&str, QueryFault); 71] = [
+const FAULTS: [(&str, QueryFault); 92] = [
     ("", QueryFault::Unexpected(0)),
     (" ", QueryFault::Unexpected(1)),
     ("   ", QueryFault::Unexpected(3)),
@@ -220,6 +277,29 @@ const FAULTS: [(&str, QueryFault); 71] = [
     ("NOT -", QueryFault::NoWord(4)),
     ("a -(b", QueryFault::NoWord(2)),
     ("\u{7}", QueryFault::NoWord(0)),
+    // Phrases without a word, and those that nothing closes.
+    ("\"\"", QueryFault::NoWord(0)),
+    ("\" \"", QueryFault::NoWord(0)),
+    ("a \"--\"", QueryFault::NoWord(2)),
+    ("\"a\"\"\"", QueryFault::NoWord(3)),
+    ("\"*\"", QueryFault::NoWord(0)),
+    ("\"", QueryFault::Unclosed(0)),
+    ("\"a", QueryFault::Unclosed(0)),
+    ("(\"new", QueryFault::Unclosed(1)),
+    ("drug\"", QueryFault::Unclosed(4)),
+    ("é \"b", QueryFault::Unclosed(3)),
+    ("(a \"b (c", QueryFault::Unclosed(3)),
+    ("\"a\" \"b", QueryFault::Unclosed(4)),
+    ("a AND \"", QueryFault::Unclosed(6)),
+    ("(\"a b\"", QueryFault::Unclosed(0)),
+    ("\"--\" \"", QueryFault::NoWord(0)),
+    (") \"", QueryFault::Unexpected(0)),
+    ("\"a\" AND", QueryFault::Unexpected(7)),
+    // A `*` without a word before it.
+    ("*", QueryFault::NoWord(0)),
+    ("**", QueryFault::NoWord(0)),
+    ("\"a\"*", QueryFault::NoWord(3)),
+    ("a -*", QueryFault::NoWord(2)),
 ];
 
 #[test]
@@ -231,7 +311,7 @@ fn the_fault_of_each_text_and_its_place(rt: HostRuntime) {
 
 /// Texts at the limits, 64 brackets, 64 `NOT` in a row and 4,096 bytes, with how many terms they
 /// have.
-static WITHIN: [(Repeated<'static>, u64); 9] = [
+static WITHIN: [(Repeated<'static>, u64); 14] = [
     (Repeated(1, "", "(", 64, "a", ")"), 1),
     // Brackets that close make room.
     (Repeated(2, "", "(", 64, "a", ")"), 2),
@@ -244,10 +324,17 @@ static WITHIN: [(Repeated<'static>, u64); 9] = [
     // As many terms as fit, as words of their own and in one chunk.
     (Repeated(2048, "", "", 1, "a ", ""), 2048),
     (Repeated(2048, "", "", 1, "a-", ""), 2048),
+    // Phrases, and one of as many words as fit.
+    (Repeated(1024, "", "", 1, "\"a\" ", ""), 1024),
+    (Repeated(1, "\"", "a ", 2047, "\"", ""), 2047),
+    // What stands in a phrase opens nothing.
+    (Repeated(1, "\"", "(", 65, "a\"", ""), 1),
+    (Repeated(1, "\"", "NOT ", 65, "\"", ""), 65),
+    (Repeated(1365, "", "", 1, "a* ", ""), 1365),
 ];
 
 /// Texts at the limits too, and past each, with their faults.
-static PAST: [(Repeated<'static>, QueryFault); 10] = [
+static PAST: [(Repeated<'static>, QueryFault); 13] = [
     (Repeated(1, "", "(", 64, "", ""), QueryFault::Unexpected(64)),
     (Repeated(1, "", "(", 65, "", ""), QueryFault::TooDeep),
     (Repeated(1, "", "(", 65, "a", ")"), QueryFault::TooDeep),
@@ -265,6 +352,12 @@ static PAST: [(Repeated<'static>, QueryFault); 10] = [
     (Repeated(1, "", "(", 4096, "", ""), QueryFault::TooDeep),
     (Repeated(1, "", "(", 4097, "", ""), QueryFault::TooLong),
     (Repeated(4097, "", "", 1, "a", ""), QueryFault::TooLong),
+    (
+        Repeated(1, "\"", "(", 4095, "", ""),
+        QueryFault::Unclosed(0),
+    ),
+    (Repeated(2048, "", "", 1, "\"\"", ""), QueryFault::NoWord(0)),
+    (Repeated(1, "\"a\"", "(", 65, "", ""), QueryFault::TooDeep),
 ];
 
 /// The text of the row has so many terms.

@@ -18,8 +18,8 @@ index-requires c =
     let len = sym (ap length c.self.view_is) ∙ rows_len s.terms s.numbers.items c.self.invariant.0 in
     omega (arith, c.requires, len, c.self.invariant.0, s.numbers.ok.0)
 
-pub returns : goal.returns
-returns c =
+pub returns-clause-row : goal.returns-clause-row
+returns-clause-row c =
     let s = c.self.inside in
     let lists = s.numbers.items in
     let place = c.args.place in
@@ -27,4 +27,4 @@ returns c =
     let within : place < length lists = omega (arith, c.requires, len, c.self.invariant.0) in
     let list = c.as_slice.ensures ∙ ap (λ (l : SmallVec ℕ). l.items) (get_or_read lists place _ within c.index.ensures c.index.result.now) in
     ap (λ (rows : Rows). slice_get rows place) (sym c.self.view_is) ∙ row_at s.terms lists place c.word.result.now c.index.result.now c.word.ensures within
-    ∙ ap (λ (ns : List ℕ). Some (c.word.result.now, ns)) (sym list)
+    ∙ ap (λ (ns : List ℕ). Some (c.word.result.now, ns)) (sym list) ∙ ap Some (sym c.new.ensures.same)

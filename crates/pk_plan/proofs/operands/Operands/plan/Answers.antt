@@ -1,25 +1,34 @@
-use Rattle.std.proofs.Common.{◌∙◌, ◌≡◌, ◌&&◌, List, [], not, sym, ap, ap₂}
-use Rattle.std.proofs.lemmas.Bool.{eqb-true}
-use Rattle.std.proofs.lemmas.List.{nil_from_length}
-use Rattle.pk_plan.specs.declared.plans.Plan.{Plan}
-use Rattle.pk_plan.specs.Operands.{all_take, any_takes}
-use Rattle.pk_plan.specs.Order.{is_ordered}
-use Rattle.pk_plan.specs.Plans.{takes}
-use Rattle.pk_plan.proofs.OrderLemmas.{both_true}
-use Rattle.pk_plan.proofs.TakingLemmas.{and_true}
+use Rattle.std.proofs.Common.{◌∙◌, ◌&&◌, ◌≡◌, ◌||◌, nat_lt, List, length, not, rules, ap, arith}
+use Rattle.std.specs.List.{list_any}
+use Rattle.std.proofs.lemmas.Bool.{ltb-false}
+use Rattle.pk_plan.specs.declared.operands.PhrasePlaces.{PhrasePlaces}
+use Rattle.pk_plan.specs.Operands.{all_take, any_takes, phrases_take}
+use Rattle.pk_plan.specs.Texts.{reads_texts}
+use Rattle.pk_plan.proofs.TextLemmas.{none_left, none_right}
 use Rattle.pk_plan.proofs.operands.Operands.plan.Goals as goal
 
-pub returns-then-is_empty-clause-same : goal.returns-then-is_empty-clause-same
-returns-then-is_empty-clause-same c at words =
-    let none : c.args.self.excluded.items ≡ [] = nil_from_length c.args.self.excluded.items (sym c.args.self.excluded.ok.0 ∙ eqb-true _ 0 (sym c.is_empty.ensures ∙ c.if-is_empty.true)) in
-    let all = all_take at words c.args.self.places.items c.args.self.parts.items in
-    c.intersected-all.ensures.same at words ∙ sym (and_true all) ∙ ap (λ (ps : List Plan). all && not (any_takes at words ps)) (sym none)
-
 pub returns-clause-same : goal.returns-clause-same
-returns-clause-same c at words =
-    ap (λ o. takes o words) (c.in_ok-plan.ensures.same at)
-    ∙ ap₂ (λ a b. a && not b) (c.intersected-all.ensures.same at words) (c.united.ensures.same at words)
+returns-clause-same c asked words =
+    let o = c.args.self in
+    let is : c.as_slice.result.now ≡ o.phrases.items = search rules in
+    let left = not (any_takes asked words o.excluded.items) in
+    c.in_ok-plan.ensures.same asked words
+    ∙ ap (λ b. b && phrases_take asked words c.as_slice.result.now) (c.in_ok-left.ensures.same asked words ∙ ap (λ b. b && left) (c.intersected-all.ensures.same asked words))
+    ∙ ap (λ (ps : List PhrasePlaces). (all_take asked words o.places.items o.parts.items && left) && phrases_take asked words ps) is
 
 pub returns-clause-order : goal.returns-clause-order
-returns-clause-order c table from o = c.in_ok-plan.ensures.order table
-    ∙ both_true (is_ordered table c.intersected-all.result) (is_ordered table c.united.result) (c.intersected-all.ensures.order table o.places o.parts) (c.united.ensures.order table o.excluded)
+returns-clause-order c table from o =
+    c.in_ok-plan.ensures.order table ∙ c.in_ok-left.ensures.order table (c.intersected-all.ensures.order table o.places o.parts) o.excluded
+
+pub returns-clause-texts : goal.returns-clause-texts
+returns-clause-texts c none =
+    let o = c.args.self in
+    let is : c.as_slice.result.now ≡ o.phrases.items = search rules in
+    let parts = list_any reads_texts o.parts.items in
+    let excluded = list_any reads_texts o.excluded.items in
+    let phrases = nat_lt 0 (length o.phrases.items) in
+    let first = none_left (parts || excluded) phrases none in
+    let few = ltb-false 0 (length o.phrases.items) (none_right (parts || excluded) phrases none) in
+    let empty : length c.as_slice.result.now ≡ 0 = ap length is ∙ omega (arith, few) in
+    c.in_ok-plan.ensures.texts empty
+    ∙ c.in_ok-left.ensures.texts (c.intersected-all.ensures.texts (none_left parts excluded first)) (none_right parts excluded first)

@@ -1,12 +1,17 @@
 use Rattle.std.proofs.Common.{◌∙◌, ◌&&◌, List, not, map, ap}
 use Rattle.pk_plan.specs.declared.plans.Plan.{Plan}
-use Rattle.pk_plan.specs.Plans.{operation_of, takes}
-use Rattle.pk_plan.specs.Operands.{all_take, any_takes}
+use Rattle.pk_plan.specs.Plans.{operation_of, takes, word_at}
+use Rattle.pk_plan.specs.Operands.{all_take, any_takes, phrases_take}
 use Rattle.pk_plan.proofs.TakingLemmas.{and_assoc, takes_more}
 use Rattle.pk_plan.proofs.operands.Operands.put_part.Goals as goal
 
 pub returns-clause-same : goal.returns-clause-same
-returns-clause-same c at words =
-    ap (λ (ps : List Plan). all_take at words c.args.self.now.places.items ps && not (any_takes at words c.args.self.now.excluded.items)) c.in_ok-insert.ensures.items
-    ∙ ap (λ b. b && not (any_takes at words c.args.self.now.excluded.items)) (takes_more words (operation_of at c.args.part) (map at c.args.self.now.places.items) (map (operation_of at) c.args.self.now.parts.items))
-    ∙ and_assoc (takes (operation_of at c.args.part) words) (all_take at words c.args.self.now.places.items c.args.self.now.parts.items) (not (any_takes at words c.args.self.now.excluded.items))
+returns-clause-same c asked words =
+    let old = c.args.self.now in
+    let part = takes (operation_of asked c.args.part) words in
+    let others = all_take asked words old.places.items old.parts.items in
+    let left = not (any_takes asked words old.excluded.items) in
+    let stand = phrases_take asked words old.phrases.items in
+    ap (λ (ps : List Plan). (all_take asked words old.places.items ps && left) && stand) c.in_ok-insert.ensures.items
+    ∙ ap (λ b. (b && left) && stand) (takes_more words (operation_of asked c.args.part) (map (word_at asked) old.places.items) (map (operation_of asked) old.parts.items))
+    ∙ ap (λ b. b && stand) (and_assoc part others left) ∙ and_assoc part (others && left) stand

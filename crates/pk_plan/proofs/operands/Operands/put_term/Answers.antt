@@ -1,17 +1,22 @@
 use Rattle.std.proofs.Common.{◌∙◌, ◌&&◌, ◌+◌, ◌≤◌, ◌<◌, List, ℕ, not, map, insert, slice_index, sym, ap, subst}
 use Rattle.std.specs.Simd.Lanes.{Each1}
 use Rattle.pk_plan.specs.Order.{frequency_of, in_order}
-use Rattle.pk_plan.specs.Plans.{operation_of, takes}
-use Rattle.pk_plan.specs.Operands.{all_take, any_takes}
+use Rattle.pk_plan.specs.Plans.{operation_of, takes, word_at}
+use Rattle.pk_plan.specs.Operands.{all_take, any_takes, phrases_take}
 use Rattle.pk_plan.proofs.TakingLemmas.{and_assoc, takes_term}
 use Rattle.pk_plan.proofs.OrderLemmas.{insert_above, insert_ordered}
 use Rattle.pk_plan.proofs.operands.Operands.put_term.Goals as goal
 
 pub returns-clause-same : goal.returns-clause-same
-returns-clause-same c at words =
-    ap (λ (ps : List ℕ). all_take at words ps c.args.self.now.parts.items && not (any_takes at words c.args.self.now.excluded.items)) c.in_ok-insert.ensures.ok
-    ∙ ap (λ b. b && not (any_takes at words c.args.self.now.excluded.items)) (takes_term at words c.args.place c.rank_of-before.result c.args.self.now.places.items (map (operation_of at) c.args.self.now.parts.items))
-    ∙ and_assoc (takes (at c.args.place) words) (all_take at words c.args.self.now.places.items c.args.self.now.parts.items) (not (any_takes at words c.args.self.now.excluded.items))
+returns-clause-same c asked words =
+    let old = c.args.self.now in
+    let word = takes (word_at asked c.args.place) words in
+    let others = all_take asked words old.places.items old.parts.items in
+    let left = not (any_takes asked words old.excluded.items) in
+    let stand = phrases_take asked words old.phrases.items in
+    ap (λ (ps : List ℕ). (all_take asked words ps old.parts.items && left) && stand) c.in_ok-insert.ensures.ok
+    ∙ ap (λ b. (b && left) && stand) (takes_term (word_at asked) words c.args.place c.rank_of-before.result old.places.items (map (operation_of asked) old.parts.items))
+    ∙ ap (λ b. b && stand) (and_assoc word others left) ∙ and_assoc word (others && left) stand
 
 pub returns-clause-order : goal.returns-clause-order
 returns-clause-order c =

@@ -1,0 +1,35 @@
+-- The list at the top is taken off and united.
+use Rattle.std.proofs.Common.{◌∙◌, ◌++◌, ◌∷◌, [], List, ℕ, length, length-append, ap, sym, subst, arith}
+use Rattle.std.specs.Global.{Vec}
+use Rattle.std.specs.List.Sorted.{IsStrictlyIncreasing}
+use Rattle.pk_match.proofs.UnionLemmas.{all_stacked, rest_rise, stacked, taken_off, top_rises}
+use Rattle.pk_match.specs.Uniting.{items_of, union_of}
+use Rattle.pk_sets.specs.Sets.{union}
+use Rattle.pk_match.proofs.uniting.stack_list.Goals as goal
+
+pub put_either-requires-clause-list : goal.put_either-requires-clause-list
+put_either-requires-clause-list c =
+    subst IsStrictlyIncreasing (sym c.deref.ensures.value) (top_rises c.shorter.lists.items c.pop_short.new.lists.items c.in-Some.below c.in-Some.ensures c.shorter.invariant.rising)
+
+pub shorter-preserved : goal.shorter-preserved
+shorter-preserved c =
+    let before = c.shorter.invariant in
+    let lists = c.shorter.lists.items in
+    let left = c.pop_short.new.lists.items in
+    record {
+      rising = rest_rise lists left c.in-Some.below c.in-Some.ensures before.rising;
+      top = c.in_ok-put_either.ensures.rising;
+      same = ap (union (union_of (items_of left))) (c.in_ok-put_either.ensures.numbers ∙ ap (union c.shorter.top.items) c.deref.ensures.value)
+          ∙ taken_off lists left c.in-Some.below c.shorter.top.items c.in-Some.ensures before.rising before.top ∙ before.same;
+    }
+
+pub shorter-smaller : goal.shorter-smaller
+shorter-smaller c = omega (arith, ap length c.in-Some.ensures, length-append c.pop_short.new.lists.items (c.in-Some.below ∷ []))
+
+pub returns-clause-numbers : goal.returns-clause-numbers
+returns-clause-numbers c =
+    stacked c.shorter.lists.items c.push.new.self.items c.shorter.top (c.in_ok-push.ensures.items ∙ ap (λ (ls : List (Vec ℕ)). ls ++ c.shorter.top ∷ []) c.in_default.ensures) c.shorter.invariant.top ∙ c.shorter.invariant.same
+
+pub returns-clause-rising : goal.returns-clause-rising
+returns-clause-rising c =
+    all_stacked c.shorter.lists.items c.push.new.self.items c.shorter.top (c.in_ok-push.ensures.items ∙ ap (λ (ls : List (Vec ℕ)). ls ++ c.shorter.top ∷ []) c.in_default.ensures) c.shorter.invariant.rising c.shorter.invariant.top

@@ -1,0 +1,110 @@
+//! Words in a row, found in texts: expected values by hand.
+
+use crate::checks::{equal, equal_of};
+use pk_words::{has_row, row_table, word_list};
+use std::alloc::{AllocError, Global};
+use std::process::Abort;
+use std::test::Fail;
+
+/// Whether the words of the phrase stand in the text in a row.
+fn stands(alloc: Global, text: &str, phrase: &str) -> Result<bool, AllocError> {
+    let words = word_list(alloc, phrase)?;
+    let mut row = Vec::new(alloc);
+    for word in &words {
+        row.push(word.as_str())?;
+    }
+    let table = row_table(alloc, &row)?;
+    let mut piece = String::new(alloc);
+    has_row(&row, &table, &mut piece, text)
+}
+
+/// The phrase stands in the text, or it does not.
+fn check_row(
+    rt: &impl Abort,
+    alloc: Global,
+    text: &str,
+    phrase: &str,
+    wanted: bool,
+) -> Result<(), AllocError> {
+    equal_of(rt, (text, phrase), stands(alloc, text, phrase)?, wanted);
+    Ok(())
+}
+
+/// Texts and phrases, and whether the one has the other.
+const ROWS: [(&str, &str, bool); 24] = [
+    ("", "", true),
+    ("a", "", true),
+    ("", "a", false),
+    ("a", "a", true),
+    ("a b", "a b", true),
+    ("b a", "a b", false),
+    ("a x b", "a b", false),
+    ("a b a", "a a", false),
+    ("a a", "a a", true),
+    ("a a", "a a a", false),
+    ("x a b", "a b", true),
+    ("a b x", "a b", true),
+    // Of a row that ends early, a part begins another one.
+    ("a a b", "a b", true),
+    ("a a a b", "a a b", true),
+    ("a b a b a c", "a b a c", true),
+    ("a b a b c a b a b d", "a b a b d", true),
+    ("a b a b a b", "a b a c", false),
+    ("a a b a a a c", "a a b a a c", false),
+    // Signs between words count for nothing, capitals neither.
+    (
+        "The Release (Candidate), e-mailed",
+        "release candidate e mailed",
+        true,
+    ),
+    ("release.candidate", "release candidate", false),
+    ("release\ncandidate", "release candidate", true),
+    ("ΣΊΣΥΦΟΣ Straße é", "σίσυφος STRASSE É", true),
+    ("日本語", "日 本", true),
+    ("日本語", "日 語", false),
+];
+
+#[test]
+fn rows_in_texts(rt: HostRuntime) -> Result<(), Fail> {
+    for (text, phrase, wanted) in &ROWS {
+        check_row(&rt, rt.alloc(), text, phrase, *wanted)?;
+    }
+    Ok(())
+}
+
+/// A row that stands behind so many other words, whatever part of the text they end in.
+fn check_behind(
+    rt: &impl Abort,
+    alloc: Global,
+    word: &str,
+    times: usize,
+) -> Result<(), AllocError> {
+    let front = word.repeat(alloc, times)?;
+    let text = format!(in alloc; "{front}new drug for")?;
+    check_row(rt, alloc, &text, "new drug for", true)?;
+    check_row(rt, alloc, &text, "new drugs for", false)
+}
+
+#[test]
+fn rows_at_each_place(rt: HostRuntime) -> Result<(), Fail> {
+    for times in 0..80 {
+        check_behind(&rt, rt.alloc(), "a ", times)?;
+        check_behind(&rt, rt.alloc(), "é ", times)?;
+        check_behind(&rt, rt.alloc(), "new drug ", times)?;
+    }
+    Ok(())
+}
+
+/// 2,046 times the same word and another one, in a text that has the first 262,144 times: whoever
+/// goes on with each row that is begun takes some 500 million steps.
+#[test]
+fn a_long_row_that_is_begun_everywhere(rt: HostRuntime) -> Result<(), Fail> {
+    let text = "a ".repeat(rt.alloc(), 262_144)?;
+    let front = "a ".repeat(rt.alloc(), 2_046)?;
+    let phrase = format!(in rt.alloc(); "{front}b")?;
+    equal(&rt, stands(rt.alloc(), &text, &phrase)?, false);
+    equal(&rt, stands(rt.alloc(), &text, &front)?, true);
+    let ended = format!(in rt.alloc(); "{text}b")?;
+    equal(&rt, stands(rt.alloc(), &ended, &phrase)?, true);
+    Ok(())
+}
