@@ -1,13 +1,16 @@
 -- What is read ahead of an extent, and of the extents of all inputs.
-use Rattle.std.proofs.Common.{◌≡◌, ◌∙◌, ℕ, zero, suc, ◌+◌, ◌-◌, ◌<◌, ◌≤◌, List, [], ◌∷◌, length, set, take, drop, get_or, sym, ap, subst, arith}
+use Rattle.std.proofs.Common.{◌≡◌, ◌∙◌, ℕ, zero, suc, ◌+◌, ◌-◌, ◌≤◌, List, [], ◌∷◌, map, take, drop, get_or, slice_index, refl, sym, ap, subst, arith}
 use Rattle.std.specs.Prelude.{All}
 use Rattle.std.proofs.lemmas.List.{drop-drop, drop-take, take-take}
-use Rattle.std.proofs.lemmas.List.Elements.{All-head, All-tail}
+use Rattle.std.proofs.lemmas.List.Elements.{All-cons, All-head, All-tail}
 use Rattle.pk_disk.specs.Units.{extent_bytes}
 use Rattle.pk_join.specs.declared.ahead.Ahead.{Ahead}
 use Rattle.pk_join.specs.declared.input.MergeInput.{MergeInput}
-use Rattle.pk_join.specs.Ahead.{HasBytes, HoldInputs, HoldsNone, HoldsOf}
+use Rattle.pk_join.specs.Ahead.{HasBytes, HoldsNone, HoldsOf}
+use Rattle.pk_join.specs.declared.walk_input.Input.{Input}
 use Rattle.pk_join.specs.Inputs.{HasSameBytes}
+use Rattle.pk_join.specs.WalkInput.{HaveExtentsOf, Holds, IsBefore, heads_of}
+use Rattle.pk_disk.specs.declared.units.Extent.{Extent}
 
 -- ---- one extent
 
@@ -31,31 +34,23 @@ holds_none bytes a none = record {
 
 -- ---- all inputs
 
-pub hold_none : (bytes : List ℕ) (is : List MergeInput) (aheads : List Ahead) → All HoldsNone aheads → HoldInputs bytes is aheads
-hold_none bytes [] aheads none = tt
-hold_none bytes (i ∷ is) [] none = tt
-hold_none bytes (i ∷ is) (a ∷ aheads) none =
-    (holds_none (extent_bytes bytes i.extent) a (All-head HoldsNone a aheads none), hold_none bytes is aheads (All-tail HoldsNone a aheads none))
+-- before its first word nothing of an input is held
+pub hold_start : (bytes : List ℕ) (is : List Input) → All IsBefore is → All (Holds bytes) is
+hold_start bytes is start k d lt = let x = get_or is k d in holds_none (extent_bytes bytes x.extent) x.ahead (start k d lt).ahead
+
+pub heads_zero : (is : List Input) → All IsBefore is → (i : ℕ) → slice_index (heads_of is) i ≡ 0
+heads_zero [] start i = refl
+heads_zero (x ∷ is) start zero = (All-head IsBefore x is start).head
+heads_zero (x ∷ is) start (suc i) = heads_zero is (All-tail IsBefore x is start) i
 
 -- where the inputs have the same bytes
-pub hold_same : (bytes bytes' : List ℕ) (is : List MergeInput) (aheads : List Ahead) → All (HasSameBytes bytes bytes') is → HoldInputs bytes is aheads → HoldInputs bytes' is aheads
-hold_same bytes bytes' [] aheads same hold = tt
-hold_same bytes bytes' (i ∷ is) [] same hold = tt
-hold_same bytes bytes' (i ∷ is) (a ∷ aheads) same hold =
-    (subst (λ (l : List ℕ). HoldsOf l a) (sym (All-head (HasSameBytes bytes bytes') i is same)) hold.0, hold_same bytes bytes' is aheads (All-tail (HasSameBytes bytes bytes') i is same) hold.1)
-
--- what is held of the ith input
-pub hold_at : (bytes : List ℕ) (is : List MergeInput) (aheads : List Ahead) (i : ℕ) (x : MergeInput) (a : Ahead) → HoldInputs bytes is aheads → i < length is → i < length aheads → x ≡ get_or is i x
-    → HoldsOf (extent_bytes bytes x.extent) (get_or aheads i a)
-hold_at bytes [] aheads i x a hold lt lt' at = absurd (omega arith)
-hold_at bytes (y ∷ is) [] i x a hold lt lt' at = absurd (omega arith)
-hold_at bytes (y ∷ is) (b ∷ aheads) zero x a hold lt lt' at = subst (λ (z : MergeInput). HoldsOf (extent_bytes bytes z.extent) b) (sym at) hold.0
-hold_at bytes (y ∷ is) (b ∷ aheads) (suc i) x a hold lt lt' at = hold_at bytes is aheads i x a hold.1 (omega arith) (omega arith) at
-
--- and after other bytes of it were read
-pub hold_set : (bytes : List ℕ) (is : List MergeInput) (aheads : List Ahead) (i : ℕ) (x : MergeInput) (a : Ahead) → HoldInputs bytes is aheads → i < length is → x ≡ get_or is i x → HoldsOf (extent_bytes bytes x.extent) a
-    → HoldInputs bytes is (set aheads i a)
-hold_set bytes [] aheads i x a hold lt at now = absurd (omega arith)
-hold_set bytes (y ∷ is) [] i x a hold lt at now = tt
-hold_set bytes (y ∷ is) (b ∷ aheads) zero x a hold lt at now = (subst (λ (z : MergeInput). HoldsOf (extent_bytes bytes z.extent) a) at now, hold.1)
-hold_set bytes (y ∷ is) (b ∷ aheads) (suc i) x a hold lt at now = (hold.0, hold_set bytes is aheads i x a hold.1 (omega arith) at now)
+pub hold_same : (bytes bytes' : List ℕ) (given : List MergeInput) (is : List Input) → HaveExtentsOf given is → All (HasSameBytes bytes bytes') given → All (Holds bytes) is → All (Holds bytes') is
+hold_same bytes bytes' [] [] extents same hold = λ k d lt. absurd (omega (arith, lt))
+hold_same bytes bytes' [] (x ∷ is) extents same hold = absurd (cc)
+hold_same bytes bytes' (m ∷ given) [] extents same hold = absurd (cc)
+hold_same bytes bytes' (m ∷ given) (x ∷ is) extents same hold =
+    let first : m.extent ≡ x.extent = cc in
+    let rest : HaveExtentsOf given is = cc in
+    let e = subst (λ (y : Extent). extent_bytes bytes' y ≡ extent_bytes bytes y) first (All-head (HasSameBytes bytes bytes') m given same) in
+    let here = subst (λ (l : List ℕ). HoldsOf l x.ahead) (sym e) (All-head (Holds bytes) x is hold) in
+    All-cons (Holds bytes') x is here (hold_same bytes bytes' given is rest (All-tail (HasSameBytes bytes bytes') m given same) (All-tail (Holds bytes) x is hold))

@@ -1,28 +1,34 @@
 -- Where a walk through the words of inputs has come.
-use Rattle.std.proofs.Common.{ℕ, List, [], ◌∷◌, sym, subst}
-use Rattle.std.specs.Prelude.{All}
-use Rattle.std.proofs.lemmas.List.Elements.{All-head, All-tail}
+use Rattle.std.proofs.Common.{◌≡◌, ◌∙◌, ◌+◌, ◌<◌, ◌≤◌, ◌++◌, ℕ, zero, suc, List, [], ◌∷◌, Some, length, refl, sym, ap, subst, arith}
+use Rattle.std.specs.Prelude.{All, slice_get}
+use Rattle.std.proofs.lemmas.List.Elements.{All-cons, All-head, All-tail}
+use Rattle.pk_disk.specs.Units.{start_of}
+use Rattle.pk_disk.specs.declared.units.Extent.{Extent}
 use Rattle.pk_model.specs.Terms.{terms_of}
 use Rattle.pk_state.specs.Committed.{Stored, live_in}
 use Rattle.pk_join.specs.declared.input.MergeInput.{MergeInput}
-use Rattle.pk_join.specs.declared.lists.InputLists.{InputLists}
 use Rattle.pk_join.specs.declared.walk.Walk.{Walk}
-use Rattle.pk_join.specs.Inputs.{HasSameBytes, SpellsInputs}
-use Rattle.pk_join.specs.Walk.{HasCome, IsAtStart, walk_room}
-use Rattle.pk_join.specs.Walking.{AreListed, CanHold}
-use Rattle.pk_join.proofs.AheadLemmas.{hold_none, hold_same}
+use Rattle.pk_join.specs.Inputs.{HasSameBytes, LiesInside, SpellsInputs}
+use Rattle.pk_join.specs.Walk.{GoesTo, HasCome, IsAtStart, IsSameWalk, WalksWithin, walk_lists, walk_numbers, walk_room, walk_word}
+use Rattle.pk_join.specs.WalkInput.{HaveExtentsOf, Holds, IsWithin, bytes_or_none, extents_of, heads_of, lists_of, passed_of}
+use Rattle.pk_join.specs.Walking.{AreListed, CanHold, HasPassedAt, Walks, passed_at}
+use Rattle.pk_join.specs.declared.walk_input.Input.{Input}
+use Rattle.pk_segment.specs.Indexed.{list_with}
+use Rattle.pk_join.proofs.AheadLemmas.{heads_zero, hold_same, hold_start}
+use Rattle.pk_join.proofs.StandLemmas.{all_stay}
 use Rattle.pk_join.proofs.TermWalkLemmas.{walks_start}
 use Rattle.pk_segment.specs.Spelling.{SegmentSpells}
 
 -- before the first word all terms are to come
-pub come_start : (bytes : List ℕ) (inputs : List MergeInput) (ls : List InputLists) (stored : List Stored) (walk : Walk) → SpellsInputs bytes inputs stored → AreListed inputs ls stored → CanHold stored (walk_room walk)
-    → IsAtStart walk → HasCome bytes inputs ls stored walk [] (terms_of (live_in stored))
-come_start bytes inputs ls stored walk spells listed can start = record {
+pub come_start : (bytes : List ℕ) (inputs : List MergeInput) (stored : List Stored) (walk : Walk) → HaveExtentsOf inputs walk.inputs.items → SpellsInputs bytes inputs stored → AreListed inputs (walk_lists walk) stored
+    → CanHold stored (walk_room walk) → IsAtStart walk → HasCome bytes inputs stored walk [] (terms_of (live_in stored))
+come_start bytes inputs stored walk extents spells listed can start = record {
+  extents = extents;
   spells = spells;
   listed = listed;
   can = can;
-  walks = walks_start ls walk.heads.items stored start.heads;
-  hold = hold_none bytes inputs walk.aheads.items start.aheads;
+  walks = walks_start (walk_lists walk) (heads_of walk.inputs.items) stored (heads_zero walk.inputs.items start);
+  hold = hold_start bytes walk.inputs.items start;
 }
 
 -- what has the same bytes spells the same
@@ -39,12 +45,63 @@ spells_same bytes bytes' (i ∷ is) (s ∷ stored) same spells = (
 )
 
 -- on a disk where the inputs have the same bytes it has come as far
-pub come_stays : (bytes bytes' : List ℕ) (inputs : List MergeInput) (ls : List InputLists) (stored : List Stored) (walk : Walk) (xs ys : List (List ℕ)) → All (HasSameBytes bytes bytes') inputs → HasCome bytes inputs ls stored walk xs ys
-    → HasCome bytes' inputs ls stored walk xs ys
-come_stays bytes bytes' inputs ls stored walk xs ys same come = record {
+pub come_stays : (bytes bytes' : List ℕ) (inputs : List MergeInput) (stored : List Stored) (walk : Walk) (xs ys : List (List ℕ)) → All (HasSameBytes bytes bytes') inputs → HasCome bytes inputs stored walk xs ys
+    → HasCome bytes' inputs stored walk xs ys
+come_stays bytes bytes' inputs stored walk xs ys same come = record {
+  extents = come.extents;
   spells = spells_same bytes bytes' inputs stored same come.spells;
   listed = come.listed;
   can = come.can;
   walks = come.walks;
-  hold = hold_same bytes bytes' inputs walk.aheads.items same come.hold;
+  hold = hold_same bytes bytes' inputs walk.inputs.items come.extents same come.hold;
 }
+
+-- ---- the walk is through the same inputs
+
+pub same_walk_none : (walk : Walk) → IsSameWalk walk walk
+same_walk_none walk = record { lists = refl; extents = refl; room = refl }
+
+pub same_walk_then : (a b c : Walk) → IsSameWalk a b → IsSameWalk b c → IsSameWalk a c
+same_walk_then a b c one two = record { lists = two.lists ∙ one.lists; extents = two.extents ∙ one.extents; room = two.room ∙ one.room }
+
+-- they lie where those lie that are given
+pub within_given : (size : ℕ) (given : List MergeInput) (is : List Input) → HaveExtentsOf given is → All (LiesInside size) given → All (IsWithin size) is
+within_given size [] [] extents inside = λ k d lt. absurd (omega (arith, lt))
+within_given size [] (x ∷ is) extents inside = absurd (cc)
+within_given size (m ∷ given) [] extents inside = absurd (cc)
+within_given size (m ∷ given) (x ∷ is) extents inside =
+    let first : m.extent ≡ x.extent = cc in
+    let rest : HaveExtentsOf given is = cc in
+    let here = subst (λ (e : Extent). start_of e + e.bytes ≤ size) first (All-head (LiesInside size) m given inside) in
+    All-cons (IsWithin size) x is here (within_given size given is rest (All-tail (LiesInside size) m given inside))
+
+-- and stay there
+pub within_same : (size : ℕ) (old new : Walk) → IsSameWalk old new → WalksWithin size old → WalksWithin size new
+within_same size old new same = all_stay (λ (i : Input). i.extent) (λ (e : Extent). start_of e + e.bytes ≤ size) old.inputs.items new.inputs.items same.extents
+
+-- ---- the walk has gone to a word
+
+word_is : (is : List Input) (i : ℕ) (w : List ℕ) → i < length (lists_of is) → passed_at (lists_of is) (heads_of is) i ≡ Some w → passed_of (slice_get is i) ≡ w
+word_is [] i w lt there = absurd (omega arith)
+word_is (x ∷ is) zero w lt there = ap bytes_or_none there
+word_is (x ∷ is) (suc i) w lt there = word_is is i w (omega arith) there
+
+pub gone : (bytes : List ℕ) (inputs : List MergeInput) (stored : List Stored) (walk : Walk) (js : List Input) (xs ys : List (List ℕ)) → walk.inputs.items ≡ js → HaveExtentsOf inputs js → SpellsInputs bytes inputs stored
+    → AreListed inputs (lists_of js) stored → CanHold stored (walk_room walk) → All (Holds bytes) js → HasPassedAt (lists_of js) (heads_of js) stored xs ys (walk_numbers walk) walk.at → GoesTo bytes inputs stored walk xs ys
+gone bytes inputs stored walk js xs ys same extents spells listed can hold passed =
+    let is = passed.passed in
+    let e : walk_word walk ≡ passed.word = ap (λ (l : List Input). passed_of (slice_get l walk.at)) same ∙ word_is js walk.at passed.word passed.within passed.there in
+    let walks = subst (λ (l : List Input). Walks (lists_of l) (heads_of l) stored (xs ++ passed.word ∷ []) is.rest) (sym same) is.walks in
+    record {
+      rest = is.rest;
+      first = is.first ∙ ap (λ (u : List ℕ). u ∷ is.rest) (sym e);
+      numbers = is.numbers_are ∙ ap (λ (u : List ℕ). list_with u (live_in stored)) (sym e);
+      come = record {
+        extents = extents ∙ ap extents_of (sym same);
+        spells = spells;
+        listed = subst (λ (l : List Input). AreListed inputs (lists_of l) stored) (sym same) listed;
+        can = can;
+        walks = subst (λ (u : List ℕ). Walks (walk_lists walk) (heads_of walk.inputs.items) stored (xs ++ u ∷ []) is.rest) (sym e) walks;
+        hold = subst (All (Holds bytes)) (sym same) hold;
+      };
+    }

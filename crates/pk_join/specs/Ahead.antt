@@ -1,11 +1,9 @@
 -- Bytes of an extent that were read ahead.
-use Rattle.std.specs.Prelude.{◌≡◌, ◌≤◌, ◌<◌, ◌+◌, ◌-◌, ◌/◌, ℕ, List, [], ◌∷◌, length, max, min, take, drop}
+use Rattle.std.specs.Prelude.{◌≡◌, ◌≤◌, ◌<◌, ◌+◌, ◌-◌, ◌/◌, ℕ, List, length, max, min, take, drop}
 use Rattle.std.specs.Prelude.{Result, IsOk, IsErrOf, OnOk}
-use Rattle.pk_disk.specs.Units.{extent_bytes}
 use Rattle.pk_posting.specs.declared.source.SourceFault.{SourceFault}
 use Rattle.pk_posting.specs.declared.source.SourceFault.TheVariants.{Disk}
 use Rattle.pk_join.specs.declared.ahead.Ahead.{Ahead}
-use Rattle.pk_join.specs.declared.input.MergeInput.{MergeInput}
 use Rattle.pk_join.specs.declared.lists.InputLists.{InputLists}
 use Rattle.pk_join.specs.declared.lists.InputLists.TheVariants.{Stored, Indexed}
 
@@ -44,13 +42,6 @@ pub record IsAskedAhead {D T : Type 0} (at n size : ℕ) (disk : D) (a : Ahead)
 -- what is held stands there in these bytes
 pub record HoldsOf (bytes : List ℕ) (a : Ahead) : Type 0 where
   pub value : take a.held a.buffer.items ≡ take a.held (drop a.at bytes)
-
--- each holds what the extent of the input at its place has, on a disk of these bytes
-abbrev pub HoldInputs : List ℕ → List MergeInput → List Ahead → Type 0
-HoldInputs bytes [] aheads = Unit {0}
-HoldInputs bytes (i ∷ is) [] = Unit {0}
-HoldInputs bytes (i ∷ is) (a ∷ aheads) =
-    HoldsOf (extent_bytes bytes i.extent) a × HoldInputs bytes is aheads
 
 -- how many bytes are read at once of each of so many inputs: at most 32 KiB, and 64 MiB of all
 abbrev pub share_ahead : ℕ → ℕ

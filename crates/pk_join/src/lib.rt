@@ -14,6 +14,7 @@
 //! | `MergeInput` | a segment on the disk: its extent, its kind, and its deletion list |
 //! | `InputLists` | the words of an input, with their lists |
 //! | `read_lists` | those of a segment of either kind |
+//! | `Input` | an input of a walk: its words with their lists, and how far the walk has come in it |
 //! | `Walk` | goes through the words that the inputs leave, each with its numbers |
 //! | `Ahead` | bytes of an extent that were read ahead, 32,768 at once, or fewer of many inputs |
 //! | `AheadSource` | an extent as a source that reads ahead |
@@ -23,26 +24,27 @@
 //! `Walk` holds 32,768 bytes of each input of kind 2, and lends lists of them as long as they last,
 //! since they lie in the order of their words. A longer list is read beside, block by block. Of an
 //! input of kind 1 there is an index of the texts, in memory. Of the lists that are joined one word's
-//! is in memory at a time. After `read_lists`, `Walk::new` and `Ahead::new` no call takes memory.
+//! is in memory at a time. After `read_lists`, `Input::new`, `Walk::new` and `Ahead::new` no call
+//! takes memory.
 //!
 //! # What is refused
 //!
 //! `Damaged` is a segment that is none, or numbers that don't rise, or are more than there is room
 //! for; `Disk` is answered exactly where a read failed, and then nothing of that input is held; and
-//! `Memory` where memory was refused, by `read_lists`, `Walk::new` and `Ahead::new` alone. The disk is
-//! only read.
+//! `Memory` where memory was refused, by `read_lists`, `Input::new`, `Walk::new` and `Ahead::new`
+//! alone. The disk is only read.
 //!
 //! Where the words are: `specs/Ahead` says what is held of an extent, `specs/Inputs` has what inputs
 //! spell, `specs/Words` how words lie end to end, `specs/Listed` what the words and lists of an input
-//! are, `specs/Marks` what the marks of deleted numbers say, `specs/Joining` what is joined, `specs/Walking` the words side by side, `specs/Keys` their keys,
-//! `specs/Walk` where a walk has come.
+//! are, `specs/Marks` what the marks of deleted numbers say, `specs/Joining` what is joined,
+//! `specs/Keys` the keys of words, `specs/Walking` the words side by side, `specs/Noted` which inputs
+//! have the least of them, `specs/WalkInput` the inputs of a walk, `specs/Walk` where it has come.
 //! Lemma pages: `TermWalkLemmas` on the walk, whose words are the terms of the documents that are
 //! left; `JoinLemmas` on one word's list.
 #![tactic(auto)]
 
 mod ahead;
 mod ahead_source;
-mod aheads;
 mod input;
 mod joined;
 mod joining;
@@ -54,6 +56,7 @@ mod reading;
 mod rooms;
 mod text_lists;
 mod walk;
+mod walk_input;
 mod walking;
 mod words;
 
@@ -63,3 +66,4 @@ pub use input::MergeInput;
 pub use lists::InputLists;
 pub use reading::read_lists;
 pub use walk::Walk;
+pub use walk_input::Input;

@@ -4,254 +4,253 @@ ghost use Rattle.std.specs.Prelude.{
   ◌≡◌,
   ◌≤◌,
   ◌<◌,
-  ◌++◌,
-  [],
+  ◌+◌,
   ℕ,
   List,
   Some,
-  false,
   length,
-  slice_get,
+  take,
   All,
   IfOk,
   IfSome,
   MatchResult,
   OnOk,
+  slice_get,
 };
 ghost use Rattle.std.specs.Option.{option_map};
 ghost use Rattle.pk_disk.specs.Frames.{KeepsDisk};
-ghost use Rattle.pk_disk.specs.Units.{extent_bytes};
-ghost use Rattle.pk_join.specs.Ahead.{HoldInputs, HoldsOf};
-ghost use Rattle.pk_join.specs.Joining.{MayJoin, joined_in, room_in};
-ghost use Rattle.pk_join.specs.Keys.{AreKeys, HasKey};
-ghost use Rattle.pk_join.specs.Listed.{AreListsOf, room_for, words_in};
-ghost use Rattle.pk_join.specs.Inputs.{LiesInside, SpellsInput, SpellsInputs};
+ghost use Rattle.pk_join.specs.Inputs.{SpellsInputs};
+ghost use Rattle.pk_join.specs.Joining.{joined_in, room_in};
+ghost use Rattle.pk_join.specs.Listed.{words_in};
+ghost use Rattle.pk_join.specs.Noted.{AreNoted, NotesAs, next_noted, noted_of, order_of};
+ghost use Rattle.pk_join.specs.WalkInput.{
+  HasRoom,
+  HaveExtentsOf,
+  Holds,
+  IsBefore,
+  IsWithin,
+  extents_of,
+  heads_of,
+  lists_of,
+};
 ghost use Rattle.pk_join.specs.Walking.{
   AreListed,
   CanHold,
   IsAtHeads,
   IsPassed,
-  PassesAs,
+  PassedAs,
   Walks,
-  is_word,
   least_of,
   lesser_of,
   to_come,
 };
+ghost use Rattle.pk_join.specs.declared.input.MergeInput.{MergeInput};
 ghost use Rattle.pk_posting.specs.Source.{CountsFaults};
 ghost use Rattle.pk_segment.specs.Indexed.{list_with};
-ghost use Rattle.pk_state.specs.Committed.{Stored, live_in, live_of};
+ghost use Rattle.pk_state.specs.Committed.{Stored, live_in};
 
-use crate::ahead::Ahead;
-use crate::input::MergeInput;
 use crate::joined::Joined;
-use crate::keys::{Sought, key_at};
-use crate::lists::{InputLists, join_word};
+use crate::keys::Sought;
+use crate::walk_input::Input;
 use pk_disk::Disk;
 use pk_posting::SourceFault;
 use std::cmp::Ordering;
 
-// The lesser of a word and the one at the head of an input, if there are any. A word of a greater key
-// is not looked at.
-fn lesser<'a>(
+// What a scan of the heads has noted: the least word, and how many inputs have it.
+#[derive(Clone, Copy)]
+struct Noted<'a> {
     least: Option<Sought<'a>>,
-    lists: &'a InputLists,
-    head: usize,
-    key: u64,
-) -> Option<Sought<'a>>
-    requires { HasKey key (slice_get (words_in lists.now) head) }
-    ensures { option_map (λ s. s.word.now) result
-        ≡ lesser_of (option_map (λ s. s.word.now) least.entry) (slice_get (words_in lists.now) head) }
+    count: usize,
+}
+
+// How the word at the head of an input stands to another; the end of an input stands behind each.
+// Where the keys tell, no word is looked at.
+fn order(input: &Input, sought: Sought) -> Ordering
+    ensures { result ≡ order_of sought.entry.word.now
+        (slice_get (words_in input.now.lists) input.now.head) }
 {
-    let Some(sought) = least else {
-        let word = lists.word(head)?;
-        return Some(Sought { word, key });
+    if sought.key < input.key {
+        return Ordering::Greater;
+    }
+    let Some(word) = input.word() else {
+        return Ordering::Greater;
     };
-    if sought.key < key {
-        return least;
+    if input.key < sought.key {
+        return Ordering::Less;
     }
-    let Some(word) = lists.word(head) else {
-        return least;
+    word.cmp(sought.word)
+}
+
+// Notes the ith input where none that was seen has a lesser word at its head.
+fn note<'a>(noted: Noted<'a>, input: &'a Input, i: usize, found: &mut [usize]) -> Noted<'a>
+    requires count { noted.count ≤ i }
+    requires within { i < length found.old }
+    ensures least { option_map (λ s. s.word.now) result.least
+        ≡ lesser_of (option_map (λ s. s.word.now) noted.entry.least)
+        (slice_get (words_in input.now.lists) input.now.head) }
+    ensures noted { take result.count found.new
+        ≡ next_noted (option_map (λ s. s.word.now) noted.entry.least)
+        (slice_get (words_in input.now.lists) input.now.head)
+        (take noted.entry.count found.old) i }
+    ensures count { result.count ≤ i + 1 }
+{
+    let order = match noted.least {
+        Some(sought) => order(input, sought),
+        None => Ordering::Less,
     };
-    if key < sought.key {
-        return Some(Sought { word, key });
-    }
-    match word.cmp(sought.word) {
-        Ordering::Less => Some(Sought { word, key }),
-        _ => least,
-    }
-}
-
-/// The least of the words at the heads of the inputs, whose keys these are; none where all have come
-/// to their ends.
-fn least_head<'a>(lists: &'a [InputLists], heads: &[usize], keys: &[u64]) -> Option<Sought<'a>>
-    requires heads { length heads.now ≡ length lists.now }
-    requires long { length keys.now ≡ length lists.now }
-    requires keys { AreKeys lists.now heads.now keys.now }
-    ensures { option_map (λ s. s.word.now) result
-        ≡ least_of lists.now heads.now (length lists.now) }
-{
-    let mut least = None;
-    for i in 0..lists.len() {
-        least = lesser(least, &lists[i], heads[i], keys[i]);
-    }
-    least
-}
-
-// Whether an input, whose head has this key, has the word at its head.
-fn is_head(lists: &InputLists, head: usize, key: u64, sought: Sought) -> bool
-    requires { HasKey key (slice_get (words_in lists.now) head) }
-    ensures { result ≡ is_word sought.entry.word.now (slice_get (words_in lists.now) head) }
-{
-    if key != sought.key {
-        return false;
-    }
-    match lists.word(head) {
-        Some(other) => other == sought.word,
-        None => false,
-    }
-}
-
-/// Passes a word: each input that has it at its head goes one on.
-fn pass_word(lists: &[InputLists], heads: &mut [usize], keys: &mut [u64], sought: Sought)
-    requires heads { length heads.old ≡ length lists.now }
-    requires long { length keys.old ≡ length lists.now }
-    requires keys { AreKeys lists.now heads.old keys.old }
-    ensures passed { IsPassed lists.now sought.entry.word.now heads.old heads.new }
-    ensures keys { AreKeys lists.now heads.new keys.new }
-{
-    for i in 0..lists.len() {
-        if is_head(&lists[i], heads[i], keys[i], sought) {
-            heads[i] += 1;
-            keys[i] = key_at(&lists[i], heads[i]);
+    match order {
+        Ordering::Greater => noted,
+        Ordering::Equal => {
+            found[noted.count] = i;
+            Noted {
+                least: noted.least,
+                count: noted.count + 1,
+            }
+        }
+        Ordering::Less => {
+            let Some(word) = input.word() else {
+                return noted;
+            };
+            found[0] = i;
+            Noted {
+                least: Some(Sought {
+                    word,
+                    key: input.key,
+                }),
+                count: 1,
+            }
         }
     }
 }
 
-// Joins what an input leaves of the list of a word, if it has it at its head.
-fn join_head<D: Disk>(
-    disk: &mut D,
-    input: &MergeInput,
-    lists: &InputLists,
-    head: usize,
-    key: u64,
-    sought: Sought,
-    ahead: &mut Ahead,
-    room: &mut [u32],
-    joined: &mut Joined,
-) -> Result<(), SourceFault>
-    requires key { HasKey key (slice_get (words_in lists.now) head) }
-    requires inside { LiesInside (length (D.content disk.old)) input.now }
-    requires room { room_for lists.now ≤ length room.old }
-    ensures joined { D.honest → (s : Stored)
-        → HoldsOf (extent_bytes (D.content disk.old) input.now.extent) ahead.old
-        → SpellsInput (D.content disk.old) input.now s
-        → AreListsOf lists.now input.now.kind s.documents s.dead
-        → (is_word sought.entry.word.now (slice_get (words_in lists.now) head) ≡ false
-        → list_with sought.entry.word.now (live_of s) ≡ [])
-        → MayJoin joined.old (list_with sought.entry.word.now (live_of s)) → MatchResult result
-        (λ _. joined_in joined.new ≡ joined_in joined.old ++ list_with sought.entry.word.now (live_of s))
-        (λ e. e ≡ SourceFault.Disk) }
-    ensures holds { D.honest
-        → HoldsOf (extent_bytes (D.content disk.old) input.now.extent) ahead.old
-        → HoldsOf (extent_bytes (D.content disk.new) input.now.extent) ahead.new }
-    ensures room { joined.new.room ≡ joined.old.room }
-    ensures keeps { KeepsDisk D.Disk disk.old disk.new }
-    ensures faults { CountsFaults (D.failed_reads disk.old) (D.failed_reads disk.new) result }
+/// Notes the places of the inputs that have the least word at their heads, in one scan, and answers
+/// how many they are; none where all have come to their ends.
+fn note_heads(inputs: &[Input], found: &mut [usize]) -> Option<usize>
+    requires { length inputs.now ≤ length found.old }
+    ensures { NotesAs (lists_of inputs.now) (heads_of inputs.now) found.new result }
 {
-    if !is_head(lists, head, key, sought) {
-        return Ok(());
+    let mut noted = Noted {
+        least: None,
+        count: 0,
+    };
+    for i in 0..inputs.len() {
+        noted = note(noted, &inputs[i], i, found);
     }
-    join_word(disk, input, lists, head, ahead, room, joined)
+    match noted.least {
+        Some(_) => Some(noted.count),
+        None => None,
+    }
 }
 
-/// Joins what all inputs leave of the list of a word, which those have at their heads that have
-/// it. What is read ahead at each place is of the input there. It takes no memory.
-fn join_all<D: Disk>(
+/// Passes a word: each input that has it at its head goes one on.
+fn pass_noted(inputs: &mut [Input], found: &[usize])
+    requires { AreNoted (lists_of inputs.old) (heads_of inputs.old) found.now }
+    ensures passed { (w : List ℕ)
+        → least_of (lists_of inputs.old) (heads_of inputs.old) (length (lists_of inputs.old)) ≡ Some w
+        → IsPassed (lists_of inputs.old) w (heads_of inputs.old) (heads_of inputs.new) }
+    ensures lists { lists_of inputs.new ≡ lists_of inputs.old }
+    ensures extents { extents_of inputs.new ≡ extents_of inputs.old }
+    ensures hold { (bytes : List ℕ) → All (Holds bytes) inputs.old → All (Holds bytes) inputs.new }
+{
+    for k in 0..found.len() {
+        let i = found[k];
+        let within = i < inputs.len();
+        prove!(within);
+        let input = &mut inputs[i];
+        input.pass();
+    }
+}
+
+/// Joins what the inputs that are noted leave of the list of the word at their heads. It takes no
+/// memory.
+fn join_noted<D: Disk>(
     disk: &mut D,
-    inputs: &[MergeInput],
-    lists: &[InputLists],
-    heads: &[usize],
-    keys: &[u64],
-    sought: Sought,
-    aheads: &mut [Ahead],
+    inputs: &mut [Input],
+    found: &[usize],
     room: &mut [u32],
     joined: &mut Joined,
 ) -> Result<(), SourceFault>
-    requires heads { length heads.now ≡ length lists.now }
-    requires long { length keys.now ≡ length lists.now }
-    requires keys { AreKeys lists.now heads.now keys.now }
-    requires inputs { length inputs.now ≡ length lists.now }
-    requires aheads { length aheads.old ≡ length lists.now }
-    requires inside { All (LiesInside (length (D.content disk.old))) inputs.now }
-    requires room { All (λ l. room_for l ≤ length room.old) lists.now }
-    ensures joined { D.honest → (stored : List Stored)
-        → HoldInputs (D.content disk.old) inputs.now aheads.old
-        → SpellsInputs (D.content disk.old) inputs.now stored
-        → AreListed inputs.now lists.now stored → CanHold stored (room_in joined.old)
-        → IsAtHeads lists.now heads.now sought.entry.word.now stored → MatchResult result
-        (λ _. joined_in joined.new ≡ list_with sought.entry.word.now (live_in stored))
-        (λ e. e ≡ SourceFault.Disk) }
-    ensures hold { D.honest → HoldInputs (D.content disk.old) inputs.now aheads.old
-        → OnOk result (HoldInputs (D.content disk.new) inputs.now aheads.new) }
+    requires noted { AreNoted (lists_of inputs.old) (heads_of inputs.old) found.now }
+    requires within { All (IsWithin (length (D.content disk.old))) inputs.old }
+    requires room { All (HasRoom (length room.old)) inputs.old }
+    ensures joined { D.honest → (given : List MergeInput) (stored : List Stored) (w : List ℕ)
+        → HaveExtentsOf given inputs.old
+        → All (Holds (D.content disk.old)) inputs.old
+        → SpellsInputs (D.content disk.old) given stored
+        → AreListed given (lists_of inputs.old) stored → CanHold stored (room_in joined.old)
+        → least_of (lists_of inputs.old) (heads_of inputs.old) (length (lists_of inputs.old)) ≡ Some w
+        → IsAtHeads (lists_of inputs.old) (heads_of inputs.old) w stored → MatchResult result
+        (λ _. joined_in joined.new ≡ list_with w (live_in stored)) (λ e. e ≡ SourceFault.Disk) }
+    ensures hold { D.honest → All (Holds (D.content disk.old)) inputs.old
+        → OnOk result (All (Holds (D.content disk.new)) inputs.new) }
+    ensures lists { lists_of inputs.new ≡ lists_of inputs.old }
+    ensures heads { heads_of inputs.new ≡ heads_of inputs.old }
+    ensures extents { extents_of inputs.new ≡ extents_of inputs.old }
     ensures room { room_in joined.new ≡ room_in joined.old }
     ensures keeps { KeepsDisk D.Disk disk.old disk.new }
     ensures faults { CountsFaults (D.failed_reads disk.old) (D.failed_reads disk.new) result }
 {
     joined.clear();
-    for i in 0..lists.len() {
-        let ahead = &mut aheads[i];
-        join_head(
-            disk, &inputs[i], &lists[i], heads[i], keys[i], sought, ahead, room, joined,
-        )?;
+    for k in 0..found.len() {
+        let i = found[k];
+        let within = i < inputs.len();
+        prove!(within);
+        let input = &mut inputs[i];
+        input.join(disk, room, joined)?;
     }
     Ok(())
 }
 
-/// Passes words until the inputs leave numbers of one: that word, whose numbers are then joined. It
-/// takes no memory.
-pub(crate) fn next_word<'a, D: Disk>(
+/// Passes words until the inputs leave numbers of one, whose numbers are then joined: the place of an
+/// input that has it. It takes no memory.
+pub(crate) fn next_word<D: Disk>(
     disk: &mut D,
-    inputs: &[MergeInput],
-    lists: &'a [InputLists],
-    heads: &mut [usize],
-    keys: &mut [u64],
-    aheads: &mut [Ahead],
+    inputs: &mut [Input],
+    found: &mut [usize],
     room: &mut [u32],
     joined: &mut Joined,
-) -> Result<Option<&'a [u8]>, SourceFault>
-    requires heads { length heads.old ≡ length lists.now }
-    requires long { length keys.old ≡ length lists.now }
-    requires keys { AreKeys lists.now heads.old keys.old }
-    requires inputs { length inputs.now ≡ length lists.now }
-    requires aheads { length aheads.old ≡ length lists.now }
-    requires inside { All (LiesInside (length (D.content disk.old))) inputs.now }
-    requires room { All (λ l. room_for l ≤ length room.old) lists.now }
-    ensures passed { D.honest → (stored : List Stored) (xs ys : List (List ℕ))
-        → HoldInputs (D.content disk.old) inputs.now aheads.old
-        → SpellsInputs (D.content disk.old) inputs.now stored
-        → AreListed inputs.now lists.now stored → CanHold stored (room_in joined.old)
-        → Walks lists.now heads.old stored xs ys
-        → MatchResult result (λ o. PassesAs lists.now heads.new stored xs ys (joined_in joined.new)
-        (option_map (λ w. w.now) o)) (λ e. e ≡ SourceFault.Disk) }
-    ensures hold { D.honest → HoldInputs (D.content disk.old) inputs.now aheads.old
-        → OnOk result (HoldInputs (D.content disk.new) inputs.now aheads.new) }
-    ensures keys { AreKeys lists.now heads.new keys.new }
+) -> Result<Option<usize>, SourceFault>
+    requires found { length inputs.old ≤ length found.old }
+    requires within { All (IsWithin (length (D.content disk.old))) inputs.old }
+    requires room { All (HasRoom (length room.old)) inputs.old }
+    ensures passed { D.honest → (given : List MergeInput) (stored : List Stored)
+        (xs ys : List (List ℕ)) → HaveExtentsOf given inputs.old
+        → All (Holds (D.content disk.old)) inputs.old
+        → SpellsInputs (D.content disk.old) given stored
+        → AreListed given (lists_of inputs.old) stored → CanHold stored (room_in joined.old)
+        → Walks (lists_of inputs.old) (heads_of inputs.old) stored xs ys
+        → MatchResult result (PassedAs (lists_of inputs.new) (heads_of inputs.new) stored xs ys
+        (joined_in joined.new)) (λ e. e ≡ SourceFault.Disk) }
+    ensures hold { D.honest → All (Holds (D.content disk.old)) inputs.old
+        → OnOk result (All (Holds (D.content disk.new)) inputs.new) }
+    ensures lists { lists_of inputs.new ≡ lists_of inputs.old }
+    ensures extents { extents_of inputs.new ≡ extents_of inputs.old }
     ensures fewer { IfOk result (λ o. IfSome o (λ _.
-        to_come lists.now heads.new (length lists.now)
-        < to_come lists.now heads.old (length lists.now))) }
+        to_come (lists_of inputs.old) (heads_of inputs.new) (length (lists_of inputs.old))
+        < to_come (lists_of inputs.old) (heads_of inputs.old) (length (lists_of inputs.old)))) }
     ensures room { room_in joined.new ≡ room_in joined.old }
     ensures keeps { KeepsDisk D.Disk disk.old disk.new }
     ensures faults { CountsFaults (D.failed_reads disk.old) (D.failed_reads disk.new) result }
 {
-    'words: while let Some(sought) = least_head(lists, heads, keys) {
-        join_all(
-            disk, inputs, lists, heads, keys, sought, aheads, room, joined,
-        )?;
-        pass_word(lists, heads, keys, sought);
+    'words: while let Some(count) = note_heads(inputs, found) {
+        let noted = &found[..count];
+        join_noted(disk, inputs, noted, room, joined)?;
+        pass_noted(inputs, noted);
         if !joined.numbers().is_empty() {
-            return Ok(Some(sought.word));
+            return Ok(Some(noted[0]));
         }
     }
     Ok(None)
+}
+
+/// Goes back before the first word of each input.
+pub(crate) fn restart_all(inputs: &mut [Input])
+    ensures before { All IsBefore inputs.new }
+    ensures lists { lists_of inputs.new ≡ lists_of inputs.old }
+    ensures extents { extents_of inputs.new ≡ extents_of inputs.old }
+{
+    for i in 0..inputs.len() {
+        let input = &mut inputs[i];
+        input.restart();
+    }
 }

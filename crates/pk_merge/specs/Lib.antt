@@ -11,4 +11,3 @@ pub mod Prepared
 pub mod ReadAll
 pub mod Spans
 pub mod Streaming
-pub mod Writing

@@ -2,7 +2,8 @@
 use Rattle.std.specs.Prelude.{◌≡◌, ◌≤◌, ◌+◌, ◌*◌, ℕ, List, [], ◌++◌, length, All, Option, Some, None, Result, Ok, Err}
 use Rattle.pk_join.specs.declared.input.MergeInput.{MergeInput}
 use Rattle.pk_join.specs.Inputs.{LiesInside}
-use Rattle.pk_join.specs.Walk.{walk_room}
+use Rattle.pk_join.specs.Walk.{walk_lists, walk_room}
+use Rattle.pk_join.specs.WalkInput.{HaveExtentsOf}
 use Rattle.pk_join.specs.Walking.{AreListed, CanHold}
 use Rattle.pk_merge.specs.declared.fault.MergeFault.{MergeFault}
 use Rattle.pk_merge.specs.declared.prepared.Prepared.{Prepared}
@@ -21,7 +22,7 @@ use Rattle.pk_state.specs.Committed.{Stored, live_in}
 -- What is prepared is the merge of these inputs, on a disk of these bytes.
 pub record IsPrepared (bytes : List ℕ) (inputs : List MergeInput) (stored : List Stored)
     (p : Prepared) : Type 0 where
-  pub listed : AreListed inputs p.lists.items stored
+  pub listed : AreListed inputs (walk_lists p.walk) stored
   pub kept : AreKept bytes p.documents.items (live_in stored)
   pub can : CanHold stored (walk_room p.walk)
   pub dictionary_is : p.dictionary.items ≡ dictionary (live_in stored)
@@ -52,12 +53,12 @@ PreparesAs bytes inputs stored (Ok None) = live_in stored ≡ []
 PreparesAs bytes inputs stored (Ok (Some p)) = IsPrepared bytes inputs stored p
 PreparesAs bytes inputs stored (Err fault) = MergeFails (live_in stored) 2 fault
 
--- a merge that is prepared is one of so many inputs, on a disk of so many bytes, and the texts that
--- it keeps stay apart from what is apart from the inputs
+-- a merge that is prepared is one of these inputs, on a disk of so many bytes, and the texts that it
+-- keeps stay apart from what is apart from the inputs
 abbrev pub IsReady : ℕ → List MergeInput → Result (Option Prepared) MergeFault → Type 0
 IsReady bytes inputs (Ok None) = Unit {0}
 IsReady bytes inputs (Ok (Some p)) =
-    (p.disk_bytes ≡ bytes) × (length p.lists.items ≡ length inputs)
+    (p.disk_bytes ≡ bytes) × HaveExtentsOf inputs p.walk.inputs.items
     × StayApart inputs p.documents.items
 IsReady bytes inputs (Err fault) = Unit {0}
 

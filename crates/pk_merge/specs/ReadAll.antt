@@ -2,7 +2,8 @@
 use Rattle.std.specs.Prelude.{ℕ, List, ◌++◌, Result, Ok, Err}
 use Rattle.std.specs.Global.{Vec}
 use Rattle.pk_join.specs.declared.input.MergeInput.{MergeInput}
-use Rattle.pk_join.specs.declared.lists.InputLists.{InputLists}
+use Rattle.pk_join.specs.declared.walk_input.Input.{Input}
+use Rattle.pk_join.specs.WalkInput.{lists_of}
 use Rattle.pk_join.specs.Walking.{AreListed}
 use Rattle.pk_merge.specs.declared.fault.MergeFault.{MergeFault}
 use Rattle.pk_merge.specs.declared.left.Left.{Left}
@@ -15,7 +16,8 @@ use Rattle.pk_state.specs.Committed.{Stored, live_in}
 -- the words and lists of all inputs were read, and the documents that they leave are kept behind
 -- those so far; or a merge of them fails, even to a segment of kind 1
 abbrev pub ReadsAllAs : List ℕ → List Doc → List MergeInput → List Stored → Left
-    → Result (Vec InputLists) MergeFault → Type 0
-ReadsAllAs bytes so_far inputs stored new (Ok lists) =
-    AreListed inputs lists.items stored × AreKept bytes (kept_in new) (so_far ++ live_in stored)
+    → Result (Vec Input) MergeFault → Type 0
+ReadsAllAs bytes so_far inputs stored new (Ok read) =
+    AreListed inputs (lists_of read.items) stored
+    × AreKept bytes (kept_in new) (so_far ++ live_in stored)
 ReadsAllAs bytes so_far inputs stored new (Err fault) = MergeFails (so_far ++ live_in stored) 1 fault

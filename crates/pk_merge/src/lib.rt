@@ -41,6 +41,7 @@
 //! | each document left | 24 bytes for its place, 12 for its directory entry, 4 in the list of one word |
 //! | each term of an input of kind 2 | some 40 bytes, and the word |
 //! | an input of kind 1 | the index of its texts, and its words |
+//! | an input of kind 2 | 32,768 bytes to read ahead, of more than 2,048 inputs its share of 64 MiB |
 //! | each deleted number | 4 bytes, and one for each number up to the next one, at most 64 |
 //! | the dictionary | its bytes |
 //! | the longest posting list | its bytes |

@@ -1,13 +1,13 @@
 //! A merge that is prepared: all that it needs to be written, and its memory.
 
 ghost use Rattle.std.specs.Prelude.{◌≤◌, ◌<◌, ◌^◌, length, All};
-ghost use Rattle.pk_join.specs.Walk.{IsAtStart, IsWalkOf};
+ghost use Rattle.pk_join.specs.Walk.{IsAtStart};
 ghost use Rattle.pk_merge.specs.Keeping.{EndBy};
 ghost use Rattle.pk_merge.specs.declared.texts.TheConstants.{SPAN_BYTES};
 ghost use Rattle.pk_segment.specs.Spelling.{longest};
 
 use crate::kept::Kept;
-use pk_join::{InputLists, Walk};
+use pk_join::Walk;
 use pk_posting::SliceSource;
 use pk_segment::Segment;
 
@@ -19,9 +19,7 @@ pub struct Prepared {
     pub(crate) documents: Vec<Kept>,
     // How many bytes the disk has.
     pub(crate) disk_bytes: u64,
-    // The words of each input, with their lists,
-    pub(crate) lists: Vec<InputLists>,
-    // and the walk through them, before the first word.
+    // The walk through the words of the inputs, before the first one.
     pub(crate) walk: Walk,
     // Where the list of a word is spelled.
     pub(crate) encoded: Vec<u8>,
@@ -36,7 +34,6 @@ pub struct Prepared {
     // How many bytes the segment has.
     pub(crate) size: u32,
     ghost start: { IsAtStart walk },
-    ghost walk_of: { IsWalkOf lists.items walk },
     ghost some: { 0 < length buffer.items },
     ghost room_for_texts: { SPAN_BYTES ≤ length room.items },
     ghost inside: { All (EndBy disk_bytes) documents.items },

@@ -4,7 +4,8 @@ ghost use Rattle.std.specs.Prelude.{◌≡◌, ◌⊎◌, ℕ, List, length, All
 ghost use Rattle.std.specs.List.Sorted.{IsStrictlyIncreasing};
 ghost use Rattle.pk_disk.specs.Frames.{KeepsDisk};
 ghost use Rattle.pk_join.specs.Inputs.{HasKind, LiesInside, SpellsInputs};
-ghost use Rattle.pk_join.specs.Walk.{IsWalkOf, walk_room};
+ghost use Rattle.pk_join.specs.Walk.{walk_lists, walk_room};
+ghost use Rattle.pk_join.specs.WalkInput.{extents_of};
 ghost use Rattle.pk_join.specs.Walking.{AreListed, CanHold};
 ghost use Rattle.pk_merge.specs.Keeping.{AreKept};
 ghost use Rattle.pk_merge.specs.Left.{kept_in};
@@ -25,7 +26,7 @@ use crate::reading::read_all;
 use crate::texts::SPAN_BYTES;
 use crate::word_plan::WordPlan;
 use pk_disk::Disk;
-use pk_join::{InputLists, MergeInput, Walk};
+use pk_join::{MergeInput, Walk};
 use pk_model::limits::MAX_SEGMENT_BYTES;
 use std::alloc::Global;
 
@@ -33,20 +34,20 @@ use std::alloc::Global;
 fn prepare_of(
     alloc: Global,
     left: Left,
-    lists: Vec<InputLists>,
     mut walk: Walk,
     plan: WordPlan,
 ) -> Result<Prepared, MergeFault>
-    requires written { IsWritten plan }
-    requires walk { IsWalkOf lists.items walk }
+    requires { IsWritten plan }
     ensures prepared { (bytes : List ℕ) (inputs : List MergeInput) (stored : List Stored)
-        → AreListed inputs lists.items stored → AreKept bytes (kept_in left) (live_in stored)
+        → AreListed inputs (walk_lists walk) stored
+        → AreKept bytes (kept_in left) (live_in stored)
         → CanHold stored (walk_room walk)
         → HasPlanned plan (terms_of (live_in stored)) (live_in stored)
         → PreparesOneAs bytes inputs stored result }
     ensures documents { IfOk result (λ p. p.documents.items ≡ kept_in left) }
     ensures disk_bytes { IfOk result (λ p. p.disk_bytes ≡ left.disk_bytes) }
-    ensures lists { IfOk result (λ p. p.lists ≡ lists) }
+    ensures extents { IfOk result (λ p. extents_of p.walk.inputs.items
+        ≡ extents_of walk.inputs.items) }
     ensures cause { IfErr result (λ f. (f ≡ MergeFault.TooLarge) ⊎ (f ≡ MergeFault.Memory)) }
 {
     let plain = left.bytes();
@@ -64,7 +65,7 @@ fn prepare_of(
         terms: plan.terms,
     };
     let front = front_of(alloc, counts, &left.documents)?;
-    walk.restart(&lists);
+    walk.restart();
     let encoded = vec![in alloc; 0u8; plan.longest_list as usize]?;
     let room = vec![in alloc; 0u8; SPAN_BYTES]?;
     let buffer = vec![in alloc; 0u8; WRITE]?;
@@ -72,7 +73,6 @@ fn prepare_of(
     Ok(Prepared {
         documents: left.documents,
         disk_bytes: left.disk_bytes,
-        lists,
         walk,
         encoded,
         room,
@@ -104,12 +104,12 @@ pub fn prepare<D: Disk>(
     ensures reads { CountsMerge (D.failed_reads disk.old) (D.failed_reads disk.new) result }
 {
     let mut left = Left::new(alloc, disk.len());
-    let lists = read_all(alloc, disk, inputs, &mut left)?;
+    let read = read_all(alloc, disk, inputs, &mut left)?;
     if left.documents.is_empty() {
         return Ok(None);
     }
-    let mut walk = Walk::new(alloc, &lists, left.documents.len())?;
-    let plan = plan_words(alloc, disk, inputs, &lists, &mut walk)?;
-    let prepared = prepare_of(alloc, left, lists, walk, plan)?;
+    let mut walk = Walk::new(alloc, read, left.documents.len())?;
+    let plan = plan_words(alloc, disk, &mut walk)?;
+    let prepared = prepare_of(alloc, left, walk, plan)?;
     Ok(Some(prepared))
 }

@@ -17,6 +17,7 @@ ghost use Rattle.std.specs.Prelude.{
 ghost use Rattle.pk_disk.specs.Frames.{KeepsDisk};
 ghost use Rattle.pk_disk.specs.Units.{extent_bytes, start_of};
 ghost use Rattle.pk_join.specs.Inputs.{HasKind, LiesInside, SpellsInputs};
+ghost use Rattle.pk_join.specs.WalkInput.{HaveExtentsOf, IsBefore};
 ghost use Rattle.pk_merge.specs.Gathering.{RiseFrom};
 ghost use Rattle.pk_merge.specs.Inputs.{ReadsAs};
 ghost use Rattle.pk_merge.specs.Keeping.{AreKept, KeepsBetween, StayApart};
@@ -31,7 +32,7 @@ use crate::fault::MergeFault;
 use crate::left::Left;
 use pk_dead::Dead;
 use pk_disk::{Disk, UNIT};
-use pk_join::{Ahead, AheadSource, InputLists, MergeInput, READ_AHEAD, read_lists};
+use pk_join::{Ahead, AheadSource, Input, InputLists, MergeInput, READ_AHEAD, read_lists};
 use pk_posting::ByteSource;
 use pk_segment::Segment;
 use std::alloc::Global;
@@ -102,13 +103,13 @@ pub(crate) fn read_input<D: Disk>(
     read_from(alloc, &mut source, input.kind, start, input.dead, left)
 }
 
-/// The words of all inputs, with their lists, and the documents that they leave.
+/// All inputs, each before its first word, and the documents that they leave.
 pub(crate) fn read_all<D: Disk>(
     alloc: Global,
     disk: &mut D,
     inputs: &[MergeInput],
     left: &mut Left,
-) -> Result<Vec<InputLists>, MergeFault>
+) -> Result<Vec<Input>, MergeFault>
     requires kinds { All HasKind inputs.now }
     requires inside { All (LiesInside (length (D.content disk.old))) inputs.now }
     requires disk_bytes { left.old.disk_bytes ≡ length (D.content disk.old) }
@@ -119,17 +120,19 @@ pub(crate) fn read_all<D: Disk>(
         → ReadsAllAs (D.content disk.old) so_far inputs.now stored left.new result }
     ensures apart { StayApart inputs.now (kept_in left.old)
         → OnOk result (StayApart inputs.now (kept_in left.new)) }
-    ensures long { IfOk result (λ v. length v.items ≡ length inputs.now) }
+    ensures extents { IfOk result (λ v. HaveExtentsOf inputs.now v.items) }
+    ensures before { IfOk result (λ v. All IsBefore v.items) }
     ensures disk_bytes { left.new.disk_bytes ≡ left.old.disk_bytes }
     ensures keeps { KeepsDisk D.Disk disk.old disk.new }
     ensures reads { CountsMerge (D.failed_reads disk.old) (D.failed_reads disk.new) result }
 {
-    let mut lists = Vec::with_capacity(alloc, inputs.len())?;
+    let mut read = Vec::with_capacity(alloc, inputs.len())?;
     for input in inputs {
-        let of_input = read_input(alloc, disk, input, left)?;
-        let Ok(()) = lists.push(of_input) else {
+        let lists = read_input(alloc, disk, input, left)?;
+        let before = Input::new(alloc, input.extent, lists, inputs.len())?;
+        let Ok(()) = read.push(before) else {
             return Err(MergeFault::Memory);
         };
     }
-    Ok(lists)
+    Ok(read)
 }

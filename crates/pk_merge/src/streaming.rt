@@ -17,8 +17,8 @@ ghost use Rattle.std.specs.Prelude.{
   OnOk,
 };
 ghost use Rattle.pk_disk.specs.Disk.{in_range};
-ghost use Rattle.pk_join.specs.Inputs.{LiesInside, SpellsInputs};
-ghost use Rattle.pk_join.specs.Walk.{HasCome, IsWalkOf};
+ghost use Rattle.pk_join.specs.Inputs.{SpellsInputs};
+ghost use Rattle.pk_join.specs.Walk.{HasCome, WalksWithin};
 ghost use Rattle.pk_merge.specs.Keeping.{AreKept, EndBy, KeptApart};
 ghost use Rattle.pk_merge.specs.Output.{AreGiven, IsGiven, LiesApart};
 ghost use Rattle.pk_merge.specs.Prepared.{CanMerge, IsPrepared};
@@ -38,7 +38,7 @@ use crate::prepared::Prepared;
 use crate::texts::{SPAN_BYTES, write_texts};
 use crate::writing::write_lists;
 use pk_disk::{Disk, UNIT};
-use pk_join::{InputLists, MergeInput, Walk};
+use pk_join::{MergeInput, Walk};
 use pk_replace::StreamFault;
 
 // Gives header, directory and texts.
@@ -68,22 +68,17 @@ fn write_front<D: Disk>(
 // Gives posting lists and dictionary.
 fn write_index<D: Disk>(
     disk: &mut D,
-    inputs: &[MergeInput],
-    lists: &[InputLists],
     walk: &mut Walk,
     encoded: &mut [u8],
     dictionary: &[u8],
     output: &mut Output,
 ) -> Result<(), StreamFault>
-    requires walk { IsWalkOf lists.now walk.old }
-    requires inputs { length inputs.now ≡ length lists.now }
-    requires inside { All (LiesInside (length (D.content disk.old))) inputs.now }
+    requires walk { WalksWithin (length (D.content disk.old)) walk.old }
     requires stretch { output.old.end ≤ length (D.content disk.old) }
     ensures given { IsGiven D.Disk disk.old disk.new output.old output.new result }
-    ensures bytes { D.honest → (stored : List Stored)
-        → HasCome (D.content disk.old) inputs.now lists.now stored walk.old []
-        (terms_of (live_in stored))
-        → All (LiesApart output.old.start output.old.end) inputs.now
+    ensures bytes { D.honest → (inputs : List MergeInput) (stored : List Stored)
+        → HasCome (D.content disk.old) inputs stored walk.old [] (terms_of (live_in stored))
+        → All (LiesApart output.old.start output.old.end) inputs
         → All (λ w. length (list_spelling (list_with w (live_in stored))) ≤ length encoded.old)
         (terms_of (live_in stored))
         → output.old.at + output.old.filled
@@ -91,14 +86,15 @@ fn write_index<D: Disk>(
         → AreGiven D.Disk disk.old disk.new output.old output.new
         (postings (live_in stored) ++ dictionary.now) result }
 {
-    write_lists(disk, inputs, lists, walk, encoded, output)?;
+    write_lists(disk, walk, encoded, output)?;
     output.offer(disk, dictionary)
 }
 
 impl Prepared {
     ghost use Rattle.pk_merge.specs.Streaming.{IsMergeCause};
 
-    /// Writes the segment from unit `first` on, as it is read. It takes no memory.
+    /// Writes the segment from unit `first` on, as it is read. It takes no memory. The inputs are what
+    /// it was prepared from, of which the clauses speak; they are read by the walk.
     pub(crate) fn write_segment<D: Disk>(
         self,
         disk: &mut D,
@@ -130,15 +126,7 @@ impl Prepared {
         )?;
         let mut walk = self.walk;
         let mut encoded = self.encoded;
-        write_index(
-            disk,
-            inputs,
-            &self.lists,
-            &mut walk,
-            &mut encoded,
-            &self.dictionary,
-            &mut output,
-        )?;
+        write_index(disk, &mut walk, &mut encoded, &self.dictionary, &mut output)?;
         output.flush(disk)
     }
 

@@ -15,10 +15,9 @@ ghost use Rattle.std.specs.Prelude.{
   MatchResult,
 };
 ghost use Rattle.pk_disk.specs.Frames.{KeepsDisk};
-ghost use Rattle.pk_join.specs.Inputs.{LiesInside};
-ghost use Rattle.pk_join.specs.Walk.{HasCome, IsWalkOf, walk_room, words_to_come};
+ghost use Rattle.pk_join.specs.Walk.{GoesAs, HasCome, IsSameWalk, WalksWithin, words_to_come};
+ghost use Rattle.pk_join.specs.declared.input.MergeInput.{MergeInput};
 ghost use Rattle.pk_merge.specs.Output.{AreGiven, IsGiven, LiesApart};
-ghost use Rattle.pk_merge.specs.Writing.{GoesOn};
 ghost use Rattle.pk_posting.specs.Posting.{IsPosting};
 ghost use Rattle.pk_posting.specs.Spelling.{spelling as list_spelling};
 ghost use Rattle.pk_replace.specs.Cause.{IsCause};
@@ -28,35 +27,25 @@ ghost use Rattle.pk_state.specs.Committed.{Stored, live_in};
 
 use crate::output::Output;
 use pk_disk::Disk;
-use pk_join::{InputLists, MergeInput, Walk};
+use pk_join::Walk;
 use pk_posting::{SourceFault, encode_into, length_of};
 use pk_replace::StreamFault;
 
 // Goes on to the next word; whether there was one.
-fn go_on<D: Disk>(
-    disk: &mut D,
-    inputs: &[MergeInput],
-    lists: &[InputLists],
-    walk: &mut Walk,
-) -> Result<bool, StreamFault>
-    requires walk { IsWalkOf lists.now walk.old }
-    requires inputs { length inputs.now ≡ length lists.now }
-    requires inside { All (LiesInside (length (D.content disk.old))) inputs.now }
-    ensures goes { D.honest → (stored : List Stored) (xs ys : List (List ℕ))
-        → HasCome (D.content disk.old) inputs.now lists.now stored walk.old xs ys
-        → MatchResult result
-        (GoesOn (D.content disk.new) inputs.now lists.now stored walk.new xs ys)
+fn go_on<D: Disk>(disk: &mut D, walk: &mut Walk) -> Result<bool, StreamFault>
+    requires { WalksWithin (length (D.content disk.old)) walk.old }
+    ensures goes { D.honest → (inputs : List MergeInput) (stored : List Stored)
+        (xs ys : List (List ℕ)) → HasCome (D.content disk.old) inputs stored walk.old xs ys
+        → MatchResult result (GoesAs (D.content disk.new) inputs stored walk.new xs ys)
         (λ e. e ≡ StreamFault.Read) }
     ensures fewer { IfOk result (λ more. IsTrue more
-        → words_to_come lists.now walk.new < words_to_come lists.now walk.old) }
-    ensures walk { IsWalkOf lists.now walk.new }
-    ensures room { walk_room walk.new ≡ walk_room walk.old }
+        → words_to_come walk.new < words_to_come walk.old) }
+    ensures same { IsSameWalk walk.old walk.new }
     ensures keeps { KeepsDisk D.Disk disk.old disk.new }
     ensures cause { IsCause D.Disk disk.old disk.new result }
 {
-    match walk.next(disk, inputs, lists) {
-        Ok(Some(_)) => Ok(true),
-        Ok(None) => Ok(false),
+    match walk.next(disk) {
+        Ok(more) => Ok(more),
         Err(SourceFault::Disk) => Err(StreamFault::Read),
         Err(SourceFault::Damaged) => Err(StreamFault::Damaged),
     }
@@ -87,28 +76,23 @@ fn write_list<D: Disk>(
 /// Gives the posting lists of all words, in their order. It takes no memory.
 pub(crate) fn write_lists<D: Disk>(
     disk: &mut D,
-    inputs: &[MergeInput],
-    lists: &[InputLists],
     walk: &mut Walk,
     encoded: &mut [u8],
     output: &mut Output,
 ) -> Result<(), StreamFault>
-    requires walk { IsWalkOf lists.now walk.old }
-    requires inputs { length inputs.now ≡ length lists.now }
-    requires inside { All (LiesInside (length (D.content disk.old))) inputs.now }
+    requires walk { WalksWithin (length (D.content disk.old)) walk.old }
     requires stretch { output.old.end ≤ length (D.content disk.old) }
     ensures given { IsGiven D.Disk disk.old disk.new output.old output.new result }
-    ensures bytes { D.honest → (stored : List Stored)
-        → HasCome (D.content disk.old) inputs.now lists.now stored walk.old []
-        (terms_of (live_in stored))
-        → All (LiesApart output.old.start output.old.end) inputs.now
+    ensures bytes { D.honest → (inputs : List MergeInput) (stored : List Stored)
+        → HasCome (D.content disk.old) inputs stored walk.old [] (terms_of (live_in stored))
+        → All (LiesApart output.old.start output.old.end) inputs
         → All (λ w. length (list_spelling (list_with w (live_in stored))) ≤ length encoded.old)
         (terms_of (live_in stored))
         → output.old.at + output.old.filled + length (postings (live_in stored)) ≤ output.old.end
         → AreGiven D.Disk disk.old disk.new output.old output.new (postings (live_in stored))
         result }
 {
-    'words: while go_on(disk, inputs, lists, walk)? {
+    'words: while go_on(disk, walk)? {
         write_list(disk, walk.numbers(), encoded, output)?;
     }
     Ok(())

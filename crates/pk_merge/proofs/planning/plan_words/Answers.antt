@@ -1,6 +1,8 @@
 -- At first no term is planned, and all are to come.
-use Rattle.std.proofs.Common.{[], refl}
+use Rattle.std.proofs.Common.{[], refl, ℕ, length, subst, sym}
 use Rattle.pk_disk.proofs.FrameLemmas.{keeps_disk_none}
+use Rattle.pk_join.specs.Walk.{WalksWithin}
+use Rattle.pk_join.proofs.ComeLemmas.{same_walk_none, within_same}
 use Rattle.pk_model.specs.Terms.{terms_of}
 use Rattle.pk_state.specs.Committed.{live_in}
 use Rattle.pk_merge.proofs.planning.plan_words.Goals as goal
@@ -9,8 +11,12 @@ pub words-init : goal.words-init
 words-init g c = record {
   keeps = keeps_disk_none _ _;
   reads = refl;
-  room = refl;
-  walk_of = c.requires.walk;
+  same = same_walk_none c.args.walk.now;
   written = c.new-plan.ensures.written;
-  come = λ honest stored come. ([], terms_of (live_in stored), come, c.new-plan.ensures.planned (live_in stored));
+  come = λ honest inputs stored come. ([], terms_of (live_in stored), come, c.new-plan.ensures.planned (live_in stored));
 }
+
+pub next-requires : goal.next-requires
+next-requires g c =
+    let inv = c.words.invariant in
+    within_same (length (g.D.Disk.content c.words.disk)) c.args.walk.now c.words.walk inv.same (subst (λ (n : ℕ). WalksWithin n c.args.walk.now) (sym inv.keeps.size) c.requires)

@@ -1,14 +1,15 @@
 -- The terms that were passed are planned, and the others are to come.
 use Rattle.std.proofs.Common.{◌≡◌, List, ℕ, []}
 use Rattle.pk_disk.specs.Frames.{KeepsDisk}
-use Rattle.pk_join.specs.Walk.{HasCome, IsWalkOf, walk_room, words_to_come}
+use Rattle.pk_join.specs.declared.input.MergeInput.{MergeInput}
+use Rattle.pk_join.specs.Walk.{HasCome, IsSameWalk, words_to_come}
 use Rattle.pk_model.specs.Terms.{terms_of}
 use Rattle.pk_merge.specs.Planned.{HasPlanned, IsWritten}
 use Rattle.pk_state.specs.Committed.{Stored, live_in}
 use Rattle.pk_merge.proofs.planning.plan_words.Given as goal
 
 abbrev pub decreases-words : goal.decreases-words
-decreases-words g l = words_to_come l.lists l.walk
+decreases-words g l = words_to_come l.walk
 
 abbrev pub invariant-words : goal.invariant-words
 invariant-words g l =
@@ -16,9 +17,8 @@ invariant-words g l =
     record {
       keeps : KeepsDisk disk l.fn.disk l.disk;
       reads : disk.failed_reads l.disk ≡ disk.failed_reads l.fn.disk;
-      room : walk_room l.walk ≡ walk_room l.fn.walk;
-      walk_of : IsWalkOf l.lists l.walk;
+      same : IsSameWalk l.fn.walk l.walk;
       written : IsWritten l.plan;
-      come : disk.honest → (stored : List Stored) → HasCome (disk.content l.fn.disk) l.inputs l.lists stored l.fn.walk [] (terms_of (live_in stored))
-          → (xs : List (List ℕ)) × (ys : List (List ℕ)) × HasCome (disk.content l.disk) l.inputs l.lists stored l.walk xs ys × HasPlanned l.plan xs (live_in stored);
+      come : disk.honest → (inputs : List MergeInput) (stored : List Stored) → HasCome (disk.content l.fn.disk) inputs stored l.fn.walk [] (terms_of (live_in stored))
+          → (xs : List (List ℕ)) × (ys : List (List ℕ)) × HasCome (disk.content l.disk) inputs stored l.walk xs ys × HasPlanned l.plan xs (live_in stored);
     }

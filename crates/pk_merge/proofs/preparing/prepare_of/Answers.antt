@@ -1,14 +1,13 @@
 -- The lengths of the parts make that of the segment.
 use Rattle.std.proofs.Common.{◌≡◌, ◌∙◌, ◌+◌, ◌-◌, ◌*◌, List, length, refl, ap, sym, subst, arith}
 use Rattle.pk_dict.specs.Dictionary.{spelling as dictionary_spelling}
-use Rattle.pk_join.specs.Walking.{CanHold}
+use Rattle.pk_join.specs.Walking.{AreListed, CanHold}
 use Rattle.pk_model.specs.Collection.{Doc}
 use Rattle.pk_model.specs.Terms.{terms_of}
 use Rattle.pk_segment.specs.Indexed.{dictionary, items_of}
 use Rattle.pk_segment.proofs.PlanLemmas.{dictionary_is, lists_all, size_sum}
 use Rattle.pk_state.specs.Committed.{live_in}
 use Rattle.pk_join.specs.declared.lists.InputLists.{InputLists}
-use Rattle.pk_join.specs.Walk.{IsWalkOf}
 use Rattle.pk_merge.specs.Keeping.{kept_directory}
 use Rattle.pk_merge.specs.Left.{kept_in}
 use Rattle.pk_merge.proofs.GatherLemmas.{front_of}
@@ -18,9 +17,6 @@ use Rattle.pk_merge.proofs.preparing.prepare_of.Goals as goal
 dictionary_long : (docs : List Doc) → length (dictionary_spelling (items_of docs)) ≡ length (dictionary docs)
 unfolding dictionary
 dictionary_long docs = refl
-
-pub invariant_of-result-clause-walk_of : goal.invariant_of-result-clause-walk_of
-invariant_of-result-clause-walk_of c = subst (λ (ls : List InputLists). IsWalkOf ls c.restart.new.self) c.deref-2.ensures.value c.restart.ensures.walk
 
 pub invariant_of-result-clause-some : goal.invariant_of-result-clause-some
 invariant_of-result-clause-some c = omega (arith, c.in_ok-buffer.ensures.len, c.in_ok-buffer.buffer.ok)
@@ -57,9 +53,9 @@ returns-clause-prepared c = λ bytes inputs stored listed kept can planned.
     let count : c.len-documents.result ≡ length docs = omega (arith, long, c.args.left.documents.ok, c.len-documents.ensures) in
     let words_are : c.size.result ≡ length (dictionary docs) = words ∙ dictionary_long docs in
     record {
-      listed = listed;
+      listed = subst (λ (ls : List InputLists). AreListed inputs ls stored) (sym c.restart.ensures.same.lists) listed;
       kept = kept;
-      can = subst (CanHold stored) (sym c.restart.ensures.room) can;
+      can = subst (CanHold stored) (sym c.restart.ensures.same.room) can;
       dictionary_is = dictionary_is docs c.in_ok-dictionary.dictionary.items (c.in_ok-dictionary.ensures (items_of docs) planned.added);
       front_is = c.in_ok-front.ensures.bytes ∙ front_same docs c.len-documents.result (c.bytes-plain.result - 24 - 12 * c.len-documents.result) c.args.plan.postings (c.from.result + c.from-2.result + c.size.result - c.bytes-plain.result - c.args.plan.postings) c.args.plan.terms (kept_directory 0 c.deref.result.now)
           count (omega (arith, plain, front_of docs, count)) lists (omega (arith, c.from.ensures, c.from-2.ensures, words_are)) planned.terms_are (ap (kept_directory 0) c.deref.ensures.value ∙ directory_is bytes 0 ks docs kept);

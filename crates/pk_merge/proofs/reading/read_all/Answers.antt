@@ -1,10 +1,13 @@
 -- One input after the other.
 use Rattle.std.proofs.Common.{◌∙◌, ◌∷◌, ◌++◌, [], ◌<◌, ◌+◌, List, ℕ, length, take, drop, refl, sym, ap, subst, arith}
-use Rattle.std.proofs.lemmas.List.{length-append, take_all}
+use Rattle.std.specs.Prelude.{All}
+use Rattle.std.proofs.lemmas.List.{take_all}
+use Rattle.std.proofs.lemmas.List.Elements.{All-push}
 use Rattle.std.proofs.lemmas.Result.{err_from_is_err_and}
 use Rattle.pk_disk.proofs.FrameLemmas.{keeps_disk_then}
 use Rattle.pk_join.specs.declared.input.MergeInput.{MergeInput}
 use Rattle.pk_join.specs.declared.lists.InputLists.{InputLists}
+use Rattle.pk_join.specs.WalkInput.{HaveExtentsOf, IsBefore, lists_of}
 use Rattle.pk_join.specs.Inputs.{SpellsInputs}
 use Rattle.pk_join.specs.Listed.{AreListsOf}
 use Rattle.pk_join.specs.Walking.{AreListed, stored_at}
@@ -20,10 +23,11 @@ use Rattle.pk_merge.specs.Merging.{MergeFails}
 use Rattle.pk_merge.specs.Output.{LiesApart}
 use Rattle.pk_merge.proofs.GatherLemmas.{fails_longer, left_next, left_on}
 use Rattle.pk_merge.proofs.InputLemmas.{all_on, live_here}
+use Rattle.pk_merge.proofs.ReadLemmas.{pushed_extents, pushed_lists}
 use Rattle.pk_merge.proofs.reading.read_all.Goals as goal
 
-pub returns-in_err-of_input-clause-read : goal.returns-in_err-of_input-clause-read
-returns-in_err-of_input-clause-read g c = λ honest so_far stored spells rise are.
+pub returns-in_err-lists-clause-read : goal.returns-in_err-lists-clause-read
+returns-in_err-lists-clause-read g c = λ honest so_far stored spells rise are.
     let content = g.D.Disk.content in
     let inv = c.loop-input.invariant in
     let i = c.loop-input.input-index in
@@ -39,11 +43,11 @@ returns-in_err-of_input-clause-read g c = λ honest so_far stored spells rise ar
     let before = so_far ++ live_in (take i stored) in
     let kept = subst (λ (b : List ℕ). AreKept b (kept_in c.loop-input.left) before) (sym same) known.1 in
     let part = left_by dead s.documents in
-    let fault = c.in_err-of_input.ensures.read honest before s.documents (all_in (drop (i + 1) stored)) input.segment next kept in
+    let fault = c.in_err-lists.ensures.read honest before s.documents (all_in (drop (i + 1) stored)) input.segment next kept in
     let on = left_on live_in live_append stored i s so_far before part (take_stored stored i lt) (live_here dead s input.dead) refl in
-    let found = err_from_is_err_and c.from_residual-in_err-of_input.result c.from_residual-in_err-of_input.ensures.1 in
+    let found = err_from_is_err_and c.from_residual-in_err-lists.result c.from_residual-in_err-lists.ensures.1 in
     rw found.1 (subst (λ (y : MergeFault). MergeFails (so_far ++ live_in stored) 1 y) (sym found.2)
-    (fails_longer (before ++ part) (live_in (drop (i + 1) stored)) (so_far ++ live_in stored) c.in_err-of_input.field-0.0 on fault))
+    (fails_longer (before ++ part) (live_in (drop (i + 1) stored)) (so_far ++ live_in stored) c.in_err-lists.field-0.0 on fault))
 
 pub loop-input-preserved : goal.loop-input-preserved
 loop-input-preserved g c =
@@ -51,12 +55,14 @@ loop-input-preserved g c =
     let inv = c.loop-input.invariant in
     let i = c.loop-input.input-index in
     let x = c.input-item.result in
+    let y = c.in_ok-before.before in
     record {
       keeps = keeps_disk_then _ _ _ _ inv.keeps c.read_input.ensures.keeps;
-      reads = c.in_ok-of_input.ensures.reads.ok ∙ inv.reads;
+      reads = c.in_ok-lists.ensures.reads.ok ∙ inv.reads;
       disk_bytes = c.read_input.ensures.disk_bytes ∙ inv.disk_bytes;
-      apart = λ before start end all. c.in_ok-of_input.ensures.between start end (subst (LiesApart start end) (sym c.input-item.is) (all i x c.loop-input-test.true)) (inv.apart before start end all);
-      long = ap length c.in-Ok.ensures.items ∙ omega (arith, length-append c.loop-input.lists.items (c.in_ok-of_input.of_input ∷ []), inv.long);
+      apart = λ before start end all. c.in_ok-lists.ensures.between start end (subst (LiesApart start end) (sym c.input-item.is) (all i x c.loop-input-test.true)) (inv.apart before start end all);
+      extents = pushed_extents c.args.inputs.now i x c.loop-input.read.items c.push.new.self.items y c.loop-input-test.true c.input-item.is c.in-Ok.ensures.items c.in_ok-before.ensures.extent inv.extents;
+      before = subst (All IsBefore) (sym c.in-Ok.ensures.items) (All-push IsBefore c.loop-input.read.items y inv.before (record { head = c.in_ok-before.ensures.start; ahead = c.in_ok-before.ensures.none }));
       read = λ honest so_far stored spells rise are.
           let s = stored_at stored i in
           let dead = x.dead.now in
@@ -69,13 +75,14 @@ loop-input-preserved g c =
           let before = so_far ++ live_in (take i stored) in
           let kept = subst (λ (b : List ℕ). AreKept b (kept_in c.loop-input.left) before) (sym same) known.1 in
           let part = left_by dead s.documents in
-          let has = c.in_ok-of_input.ensures.read honest before s.documents (all_in (drop (i + 1) stored)) input.segment next kept in
+          let has = c.in_ok-lists.ensures.read honest before s.documents (all_in (drop (i + 1) stored)) input.segment next kept in
           let all = left_next live_in live_append stored i s so_far before part (take_stored stored i lt) (live_here dead s input.dead) refl in
-          let listed = subst (AreListsOf c.in_ok-of_input.of_input x.kind s.documents) input.dead has.listed in
-          let more = listed_snoc (take i c.args.inputs.now) c.loop-input.lists.items (take i stored) x c.in_ok-of_input.of_input s known.0 listed in (
-            subst (λ (is : List MergeInput). AreListed is c.push.new.self.items (take (i + 1) stored)) (sym (inputs_more c.args.inputs.now i x c.loop-input-test.true c.input-item.is))
-                (subst (λ (ls : List InputLists). AreListed (take i c.args.inputs.now ++ x ∷ []) ls (take (i + 1) stored)) (sym c.in-Ok.ensures.items)
-                (subst (AreListed (take i c.args.inputs.now ++ x ∷ []) (c.loop-input.lists.items ++ c.in_ok-of_input.of_input ∷ [])) (sym (take_stored stored i lt)) more)),
+          let listed = subst (AreListsOf c.in_ok-lists.lists x.kind s.documents) input.dead has.listed in
+          let more = listed_snoc (take i c.args.inputs.now) (lists_of c.loop-input.read.items) (take i stored) x c.in_ok-lists.lists s known.0 listed in
+          let pushed = pushed_lists c.loop-input.read.items c.push.new.self.items y c.in_ok-lists.lists c.in-Ok.ensures.items c.in_ok-before.ensures.lists in (
+            subst (λ (is : List MergeInput). AreListed is (lists_of c.push.new.self.items) (take (i + 1) stored)) (sym (inputs_more c.args.inputs.now i x c.loop-input-test.true c.input-item.is))
+                (subst (λ (ls : List InputLists). AreListed (take i c.args.inputs.now ++ x ∷ []) ls (take (i + 1) stored)) (sym pushed)
+                (subst (AreListed (take i c.args.inputs.now ++ x ∷ []) (lists_of c.loop-input.read.items ++ c.in_ok-lists.lists ∷ [])) (sym (take_stored stored i lt)) more)),
             subst (λ (b : List ℕ). AreKept b (kept_in c.read_input.new.left) (so_far ++ live_in (take (i + 1) stored))) same
                 (subst (AreKept (content c.loop-input.disk) (kept_in c.read_input.new.left)) all has.kept),
             has.rise,
@@ -90,6 +97,11 @@ returns-clause-read g c = λ honest so_far stored spells rise are.
     let long = inputs_long (content c.args.disk.now) c.args.inputs.now stored spells in
     let all = take_all i stored (omega (arith, c.loop-input-test.false, long)) in
     let each = take_all i c.args.inputs.now (omega (arith, c.loop-input-test.false)) in (
-      subst (λ (is : List MergeInput). AreListed is c.loop-input.lists.items stored) each (subst (AreListed (take i c.args.inputs.now) c.loop-input.lists.items) all known.0),
+      subst (λ (is : List MergeInput). AreListed is (lists_of c.loop-input.read.items) stored) each (subst (AreListed (take i c.args.inputs.now) (lists_of c.loop-input.read.items)) all known.0),
       subst (λ (ss : List Stored). AreKept (content c.args.disk.now) (kept_in c.loop-input.left) (so_far ++ live_in ss)) all known.1,
     )
+
+pub returns-clause-extents : goal.returns-clause-extents
+returns-clause-extents g c =
+    let i = c.loop-input.input-index in
+    subst (λ (is : List MergeInput). HaveExtentsOf is c.loop-input.read.items) (take_all i c.args.inputs.now (omega (arith, c.loop-input-test.false))) c.loop-input.invariant.extents

@@ -1,7 +1,9 @@
 -- The inputs so far were read, and the documents of the others rise.
-use Rattle.std.proofs.Common.{◌≡◌, ◌++◌, List, length, take, drop}
+use Rattle.std.proofs.Common.{◌≡◌, ◌++◌, List, take, drop}
+use Rattle.std.specs.Prelude.{All}
 use Rattle.pk_disk.specs.Frames.{KeepsDisk}
 use Rattle.pk_join.specs.Inputs.{SpellsInputs}
+use Rattle.pk_join.specs.WalkInput.{HaveExtentsOf, IsBefore, lists_of}
 use Rattle.pk_join.specs.Walking.{AreListed}
 use Rattle.pk_model.specs.Collection.{Doc}
 use Rattle.pk_state.specs.Committed.{Stored, all_in, live_in}
@@ -18,7 +20,8 @@ invariant-loop-input g l =
       reads : disk.failed_reads l.disk ≡ disk.failed_reads l.fn.disk;
       disk_bytes : l.left.disk_bytes ≡ l.fn.left.disk_bytes;
       apart : StayApart l.inputs (kept_in l.fn.left) → StayApart l.inputs (kept_in l.left);
-      long : length l.lists.items ≡ l.input-index;
+      extents : HaveExtentsOf (take l.input-index l.inputs) l.read.items;
+      before : All IsBefore l.read.items;
       read : disk.honest → (so_far : List Doc) (stored : List Stored) → SpellsInputs (disk.content l.fn.disk) l.inputs stored → RiseFrom l.fn.left.last (all_in stored) → AreKept (disk.content l.fn.disk) (kept_in l.fn.left) so_far
-          → AreListed (take l.input-index l.inputs) l.lists.items (take l.input-index stored) × AreKept (disk.content l.fn.disk) (kept_in l.left) (so_far ++ live_in (take l.input-index stored)) × RiseFrom l.left.last (all_in (drop l.input-index stored));
+          → AreListed (take l.input-index l.inputs) (lists_of l.read.items) (take l.input-index stored) × AreKept (disk.content l.fn.disk) (kept_in l.left) (so_far ++ live_in (take l.input-index stored)) × RiseFrom l.left.last (all_in (drop l.input-index stored));
     }

@@ -2,7 +2,8 @@
 use Rattle.std.proofs.Common.{◌≡◌, ◌∙◌, ◌≤◌, ◌++◌, ◌∷◌, [], refl, ap, sym, subst, append_assoc, append-nil, arith, List, ℕ, length, Err}
 use Rattle.std.specs.Prelude.{All}
 use Rattle.std.proofs.lemmas.Result.{err_from_is_err_and}
-use Rattle.pk_join.proofs.ComeLemmas.{come_stays}
+use Rattle.pk_join.specs.Walk.{GoesAs, WalksWithin, walk_word}
+use Rattle.pk_join.proofs.ComeLemmas.{come_stays, same_walk_then, within_same}
 use Rattle.pk_model.specs.Terms.{terms_of}
 use Rattle.pk_posting.specs.Spelling.{spelling as list_spelling}
 use Rattle.pk_replace.specs.declared.stream.StreamFault.{StreamFault}
@@ -11,19 +12,17 @@ use Rattle.pk_segment.specs.Indexed.{list_with, lists_of, postings}
 use Rattle.pk_segment.proofs.PlanLemmas.{lists_all, lists_next}
 use Rattle.pk_state.specs.Committed.{live_in}
 use Rattle.pk_merge.specs.Output.{AreGiven}
-use Rattle.pk_merge.specs.Writing.{GoesOn}
 use Rattle.pk_merge.proofs.GivenLemmas.{all_mid, are_given_read, are_given_then, err_given, is_given_read, is_given_then, lists_within, same_bytes, well}
 use Rattle.pk_merge.proofs.StreamLemmas.{apart_there}
 use Rattle.pk_merge.proofs.writing.write_lists.Goals as goal
 
 pub returns-in_err-write_list-clause-bytes : goal.returns-in_err-write_list-clause-bytes
-returns-in_err-write_list-clause-bytes g c = λ honest stored start apart enough room.
+returns-in_err-write_list-clause-bytes g c = λ honest inputs stored start apart enough room.
     let inv = c.words.invariant in
     let docs = live_in stored in
-    let known = inv.come honest stored start apart enough room in
-    let goes = subst (GoesOn (g.D.Disk.content c.go_on.new.disk) c.args.inputs.now c.args.lists.now stored c.go_on.new.walk known.0 known.1) c.if-branch.true (c.in_ok-go_on.ensures.goes honest stored known.0 known.1 known.2) in
-    let w = goes.0 in
-    let to = goes.1 in
+    let known = inv.come honest inputs stored start apart enough room in
+    let to = subst (GoesAs (g.D.Disk.content c.go_on.new.disk) inputs stored c.go_on.new.walk known.0 known.1) c.if-branch.true (c.in_ok-go_on.ensures.goes honest inputs stored known.0 known.1 known.2) in
+    let w = walk_word c.go_on.new.walk in
     let terms = to.come.walks.terms ∙ append_assoc known.0 (w ∷ []) to.rest in
     let P = λ (v : List ℕ). length (list_spelling (list_with v docs)) ≤ length c.args.encoded.now in
     let most : length (list_spelling (list_with w docs)) ≤ length c.args.encoded.now = all_mid P known.0 w to.rest (subst (All P) terms enough) in
@@ -42,15 +41,14 @@ words-preserved g c =
     let read = is_given_read d c.args.disk.now c.words.disk c.go_on.new.disk c.args.output.now c.words.output inv.given c.go_on.ensures.keeps c.in_ok-go_on.ensures.cause in
     record {
       given = is_given_then d c.args.disk.now c.go_on.new.disk c.write_list.new.disk c.args.output.now c.words.output c.write_list.new.output tt read c.in_ok-write_list.ensures.given;
-      walk_of = c.go_on.ensures.walk;
+      same = same_walk_then c.args.walk.now c.words.walk c.go_on.new.walk inv.same c.go_on.ensures.same;
       encoded = omega (arith, c.write_list.auto.encoded, inv.encoded);
-      come = λ honest stored start apart enough room.
+      come = λ honest inputs stored start apart enough room.
           let docs = live_in stored in
-          let known = inv.come honest stored start apart enough room in
-          let goes = subst (GoesOn (g.D.Disk.content c.go_on.new.disk) c.args.inputs.now c.args.lists.now stored c.go_on.new.walk known.0 known.1) c.if-branch.true (c.in_ok-go_on.ensures.goes honest stored known.0 known.1 known.2) in
+          let known = inv.come honest inputs stored start apart enough room in
+          let to = subst (GoesAs (g.D.Disk.content c.go_on.new.disk) inputs stored c.go_on.new.walk known.0 known.1) c.if-branch.true (c.in_ok-go_on.ensures.goes honest inputs stored known.0 known.1 known.2) in
           let ws = known.0 in
-          let w = goes.0 in
-          let to = goes.1 in
+          let w = walk_word c.go_on.new.walk in
           let same = (c.go_on.ensures.keeps.read honest).bytes in
           let so_far = are_given_read d c.args.disk.now c.words.disk c.go_on.new.disk c.args.output.now c.words.output (lists_of ws docs) same known.3 in
           let terms = to.come.walks.terms ∙ append_assoc ws (w ∷ []) to.rest in
@@ -63,24 +61,29 @@ words-preserved g c =
           let all = are_given_then d c.args.disk.now c.go_on.new.disk c.write_list.new.disk c.args.output.now c.words.output c.write_list.new.output (lists_of ws docs) _ tt so_far given in
           let own = c.in_ok-write_list.ensures.given.writes in
           let stretch = inv.given.stretch in
-          let apart_now = apart_there c.args.inputs.now c.args.output.now.start c.args.output.now.end c.words.output.start c.words.output.end stretch.start stretch.end apart in
-          let inputs = same_bytes (content c.go_on.new.disk) (content c.write_list.new.disk) c.args.inputs.now c.words.output.start c.words.output.end own.size (own.changed honest).same apart_now in (
+          let apart_now = apart_there inputs c.args.output.now.start c.args.output.now.end c.words.output.start c.words.output.end stretch.start stretch.end apart in
+          let stay = same_bytes (content c.go_on.new.disk) (content c.write_list.new.disk) inputs c.words.output.start c.words.output.end own.size (own.changed honest).same apart_now in (
             ws ++ w ∷ [],
             to.rest,
-            come_stays (content c.go_on.new.disk) (content c.write_list.new.disk) c.args.inputs.now c.args.lists.now stored c.go_on.new.walk (ws ++ w ∷ []) to.rest inputs to.come,
+            come_stays (content c.go_on.new.disk) (content c.write_list.new.disk) inputs stored c.go_on.new.walk (ws ++ w ∷ []) to.rest stay to.come,
             subst (λ (l : List ℕ). AreGiven d c.args.disk.now c.write_list.new.disk c.args.output.now c.write_list.new.output l well)
                 (ap (λ (l : List ℕ). lists_of ws docs ++ list_spelling l) numbers ∙ sym (lists_next ws w docs)) all,
           );
     }
 
 pub returns-clause-bytes : goal.returns-clause-bytes
-returns-clause-bytes g c = λ honest stored start apart enough room.
+returns-clause-bytes g c = λ honest inputs stored start apart enough room.
     let docs = live_in stored in
-    let known = c.words.invariant.come honest stored start apart enough room in
-    let all : known.1 ≡ [] = subst (GoesOn (g.D.Disk.content c.go_on.new.disk) c.args.inputs.now c.args.lists.now stored c.go_on.new.walk known.0 known.1) c.if-branch.false (c.in_ok-go_on.ensures.goes honest stored known.0 known.1 known.2) in
+    let known = c.words.invariant.come honest inputs stored start apart enough room in
+    let all : known.1 ≡ [] = subst (GoesAs (g.D.Disk.content c.go_on.new.disk) inputs stored c.go_on.new.walk known.0 known.1) c.if-branch.false (c.in_ok-go_on.ensures.goes honest inputs stored known.0 known.1 known.2) in
     let terms = known.2.walks.terms ∙ ap (λ (us : List (List ℕ)). known.0 ++ us) all ∙ append-nil known.0 in
     let lists = ap (λ (ws : List (List ℕ)). lists_of ws docs) (sym terms) ∙ lists_all docs (terms_of docs) refl in
     let same = (c.go_on.ensures.keeps.read honest).bytes in
     let so_far = subst (λ (l : List ℕ). AreGiven g.D.Disk c.args.disk.now c.go_on.new.disk c.args.output.now c.words.output l well) lists
     (are_given_read g.D.Disk c.args.disk.now c.words.disk c.go_on.new.disk c.args.output.now c.words.output (lists_of known.0 docs) same known.3) in
     record { count = so_far.count; given_are = so_far.given_are; undamaged = tt }
+
+pub go_on-requires : goal.go_on-requires
+go_on-requires g c =
+    let inv = c.words.invariant in
+    within_same (length (g.D.Disk.content c.words.disk)) c.args.walk.now c.words.walk inv.same (subst (λ (n : ℕ). WalksWithin n c.args.walk.now) (sym inv.given.writes.size) c.requires.walk)

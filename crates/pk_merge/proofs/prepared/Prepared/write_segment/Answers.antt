@@ -2,9 +2,8 @@
 use Rattle.std.proofs.Common.{◌≡◌, ◌∙◌, ◌≤◌, ◌+◌, ◌*◌, ◌++◌, List, ℕ, Bool, Result, Ok, Err, length, sym, ap, subst, arith, length-append}
 use Rattle.std.specs.Prelude.{All}
 use Rattle.std.proofs.lemmas.Result.{err_from_is_err_and}
-use Rattle.pk_join.specs.declared.lists.InputLists.{InputLists}
-use Rattle.pk_join.specs.Walking.{AreListed}
-use Rattle.pk_join.proofs.ComeLemmas.{come_start}
+use Rattle.pk_join.specs.Walk.{WalksWithin}
+use Rattle.pk_join.proofs.ComeLemmas.{come_start, within_given}
 use Rattle.pk_model.specs.Terms.{terms_of}
 use Rattle.pk_posting.specs.Spelling.{spelling as list_spelling}
 use Rattle.pk_replace.specs.declared.stream.StreamFault.{StreamFault}
@@ -29,6 +28,11 @@ write_front-requires-clause-apart g c =
     let end : o.end ≡ 512 * c.args.first + size = omega (arith, fresh.end_is, c.from-start.ensures, c.from.ensures) in
     let apart = apart_there c.args.inputs.now (512 * c.args.first) (512 * c.args.first + size) o.start o.end start end c.requires.apart in
     subst (λ (ks : List Kept). All (KeptApart o.start o.end) ks) (sym c.deref-2.ensures.value) (c.requires.ready.2 o.start o.end apart)
+
+pub write_index-requires-clause-walk : goal.write_index-requires-clause-walk
+write_index-requires-clause-walk g c =
+    let inside = within_given _ c.args.inputs.now c.args.self.walk.inputs.items c.requires.ready.1 c.requires.inside in
+    subst (λ (n : ℕ). WalksWithin n c.args.self.walk) (sym c.in_ok-write_front.ensures.given.writes.size) inside
 
 pub returns-in_err-write_front-clause-undamaged : goal.returns-in_err-write_front-clause-undamaged
 returns-in_err-write_front-clause-undamaged g c = λ honest stored spells is.
@@ -66,12 +70,11 @@ returns-in_err-write_index-clause-undamaged g c = λ honest stored spells is.
     let apart = apart_there c.args.inputs.now (512 * c.args.first) (512 * c.args.first + self.size) p.start p.end start end c.requires.apart in
     let before = apart_there c.args.inputs.now p.start p.end o.start o.end (sym given.stretch.start) (sym given.stretch.end) apart in
     let here = spells_stays (content c.args.disk.now) (content c.write_front.new.disk) c.args.inputs.now stored o.start o.end given.writes.size (given.writes.changed honest).same before spells in
-    let listed = subst (λ (ls : List InputLists). AreListed c.args.inputs.now ls stored) (sym c.deref-3.ensures.value) is.listed in
     let enough = subst (λ (l : List ℕ). All (λ w. length (list_spelling (list_with w docs)) ≤ length l) (terms_of docs)) (sym c.deref_mut-2.ensures.value) is.enough in
-    let words = c.deref-4.ensures.value ∙ is.dictionary_is in
-    let whole = two_lengths docs c.deref.result.now c.deref-4.result.now front words in
-    let more : p.at + p.filled + length (postings docs ++ c.deref-4.result.now) ≤ p.end = omega (arith, whole, is.size_is, one.count, fresh.at_is, fresh.end_is, fresh.none_held, given.stretch.end, c.from.ensures) in
-    let cause = (c.in_err-write_index.ensures.bytes honest stored (come_start _ c.args.inputs.now _ stored self.walk here listed is.can self.start) apart enough more).undamaged in
+    let words = c.deref-3.ensures.value ∙ is.dictionary_is in
+    let whole = two_lengths docs c.deref.result.now c.deref-3.result.now front words in
+    let more : p.at + p.filled + length (postings docs ++ c.deref-3.result.now) ≤ p.end = omega (arith, whole, is.size_is, one.count, fresh.at_is, fresh.end_is, fresh.none_held, given.stretch.end, c.from.ensures) in
+    let cause = (c.in_err-write_index.ensures.bytes honest c.args.inputs.now stored (come_start _ c.args.inputs.now stored self.walk c.requires.ready.1 here is.listed is.can self.start) apart enough more).undamaged in
     let found = err_from_is_err_and c.from_residual-in_err-write_index.result c.from_residual-in_err-write_index.ensures.1 in
     subst (λ (r : Result (Unit {0}) StreamFault). IsUndamaged r) (sym found.1) (subst (λ (x : StreamFault). IsUndamaged {T = Unit {0}} (Err x)) (sym found.2) cause)
 
@@ -109,17 +112,16 @@ returns-clause-there g c = λ honest stored spells is.
     let apart = apart_there c.args.inputs.now (512 * c.args.first) (512 * c.args.first + self.size) p.start p.end start end c.requires.apart in
     let before = apart_there c.args.inputs.now p.start p.end o.start o.end (sym given.stretch.start) (sym given.stretch.end) apart in
     let here = spells_stays (content c.args.disk.now) (content c.write_front.new.disk) c.args.inputs.now stored o.start o.end given.writes.size (given.writes.changed honest).same before spells in
-    let listed = subst (λ (ls : List InputLists). AreListed c.args.inputs.now ls stored) (sym c.deref-3.ensures.value) is.listed in
     let enough = subst (λ (l : List ℕ). All (λ w. length (list_spelling (list_with w docs)) ≤ length l) (terms_of docs)) (sym c.deref_mut-2.ensures.value) is.enough in
-    let words = c.deref-4.ensures.value ∙ is.dictionary_is in
-    let whole = two_lengths docs c.deref.result.now c.deref-4.result.now front words in
-    let more : p.at + p.filled + length (postings docs ++ c.deref-4.result.now) ≤ p.end = omega (arith, whole, is.size_is, one.count, fresh.at_is, fresh.end_is, fresh.none_held, given.stretch.end, c.from.ensures) in
-    let two = c.in_ok-write_index.ensures.bytes honest stored (come_start _ c.args.inputs.now _ stored self.walk here listed is.can self.start) apart enough more in
+    let words = c.deref-3.ensures.value ∙ is.dictionary_is in
+    let whole = two_lengths docs c.deref.result.now c.deref-3.result.now front words in
+    let more : p.at + p.filled + length (postings docs ++ c.deref-3.result.now) ≤ p.end = omega (arith, whole, is.size_is, one.count, fresh.at_is, fresh.end_is, fresh.none_held, given.stretch.end, c.from.ensures) in
+    let two = c.in_ok-write_index.ensures.bytes honest c.args.inputs.now stored (come_start _ c.args.inputs.now stored self.walk c.requires.ready.1 here is.listed is.can self.start) apart enough more in
     let q = c.write_index.new.output in
     let xs = c.deref.result.now ++ texts docs in
-    let ys = postings docs ++ c.deref-4.result.now in
+    let ys = postings docs ++ c.deref-3.result.now in
     let all = are_given_next d c.args.disk.now c.write_front.new.disk c.write_index.new.disk o p q xs ys c.in_ok-write_front.field-0 (Ok c.in_ok-write_index.field-0) one two in
-    let bytes = all.given_are ∙ ap (λ (l : List ℕ). l ++ (xs ++ ys)) (fresh_given (content c.args.disk.now) _ _ o fresh) ∙ all_bytes docs c.deref.result.now c.deref-4.result.now front words in
+    let bytes = all.given_are ∙ ap (λ (l : List ℕ). l ++ (xs ++ ys)) (fresh_given (content c.args.disk.now) _ _ o fresh) ∙ all_bytes docs c.deref.result.now c.deref-3.result.now front words in
     let same = c.in_ok-write_index.ensures.given.stretch in
     flushed c.flush.result (content c.write_index.new.disk) (content c.flush.new.disk) _ q c.flush.new.self (512 * c.args.first) self.size
     (c.flush.ensures.given honest) c.flush.ensures.empty c.flush.ensures.count
