@@ -9,11 +9,19 @@ refused it, a call of the disk fails: then the store is opened again, and has th
 had committed before that line, or those that the line commits. The player may also end for want of
 memory of its own. A creation that was refused memory has changed no byte of its disk.
 
-Rows in which a call fails by its number are left out, since a line that is asked again makes other
-calls, and so are those that are too long: BYTES and LINES say which. Each row is told with how many
-requests were refused: of the store, where a line was asked again; of the player; of the disk's
-record; and of what can do without, as a cache of blocks. The last line is `N passed, M failed`, in
-runs.
+A line that is asked again makes other calls, and so does a cache that was refused memory. So where
+a row counts its calls, these are to be as they are written up to more reads, unless a line was asked
+again since the opening. Where a row has a failing call, this may come in another line behind the
+opening; then there is left what there was before that line or behind it. An opening that is asked
+again has no failing call any more.
+
+Of a row that is too long, as LINES and BYTES say, each loop has FEW rounds, or TWO: what is answered
+then is what the player answers with no request refused. A row that is played below page caches alone is
+played so here.
+
+Each row is told with how many requests were refused: of the store, where a line was asked again; of
+the player; of the disk's record, or with a failing call in another line; and of what can do without,
+as a cache of blocks. The last line is `N passed, M failed`, in runs.
 """
 
 import os
@@ -25,7 +33,7 @@ import tempfile
 from collections import Counter
 from concurrent.futures import ProcessPoolExecutor
 
-from . import scripts, test_below
+from . import scripts
 
 sys.path.insert(0, str(pathlib.Path(__file__).resolve().parent.parent / "tools"))
 import preload  # noqa: E402  pylint: disable=wrong-import-position
@@ -33,8 +41,9 @@ import refusals  # noqa: E402  pylint: disable=wrong-import-position
 
 SETTINGS = ("!blocks 0", "!blocks 1")
 
-# Rows of more lines, or of longer ones, are left out, with `--quick` those of more than QUICK.
-LINES, BYTES, QUICK = 400, 1_000_000, 80
+# A row of more lines is too long, and of its loops there are FEW rounds; of one of more bytes there
+# are TWO. With `--quick` rows of more than QUICK lines are left out.
+LINES, BYTES, FEW, TWO, QUICK = 400, 8_000_000, 16, 2, 80
 
 # The row whose find keeps a block. Where the cache is refused memory for it, the reply is left: by
 # a store that keeps one, more requests go without a word.
@@ -50,6 +59,12 @@ REFUSALS = ("memory", "refused memory")
 FAULTS = ("disk", "refused disk")
 NOTED = ("!set", "!create", "!open", "commit", "merge", "tidy")
 
+# The lines from which calls are counted.
+OPENINGS = ("!create", "!open")
+
+# A failing call that no script makes.
+NEVER = "!fail 1000000"
+
 # The status of a player that had no memory of its own.
 STOPPED = 2
 
@@ -61,35 +76,69 @@ CREATION = ("!disk 32768", "!set 20000 A7 00 5B", "!bytes 0 32768", "!create", "
 _NUMBERS = re.compile(r"(?:added|show|delete|found \d+:)((?: \d+)+)")
 
 
-def is_line(text):
-    """Whether a line of a row is the player's, and is answered alike where it is asked again."""
-    return not text.startswith(("!fail each", "!calls"))
+class Course:
+    """A row as it goes where no memory is refused: its lines, and what each is answered."""
 
-
-class Play:
-    """A row in a setting: what the player is given, and what it is to answer."""
-
-    def __init__(self, row, setting):
-        row = row._replace(lines=[line for line in row.lines if is_line(line.text)
-                                  and not line.text.startswith("holds ")])
-        self.setting = setting
-        given = scripts.input_of(row, setting)
-        self.options = ["--again"]
-        self.wrong = scripts.differences([given])
-        self.lines = [setting, *(text.partition(" => ")[0] for text in row.texts)]
-        self.answers = scripts.answers([[setting, *row.texts]])[0]
-        numbers = {int(number) for text in (*self.lines, *self.answers)
-                   for found in _NUMBERS.finditer(text) for number in found[1].split()}
-        self.asked = [*LEFT, *(f"show {number}" for number in sorted(numbers))]
-        self.given = given + "".join(f"!left\n{text}\n" for text in self.asked)
+    def __init__(self, texts, asked):
+        self.lines = [text.partition(" => ")[0] for text in texts]
+        self.answers = scripts.answers([texts])[0]
+        self.asked = asked
         self.lefts = {}
 
     def left(self, count):
-        """What is left behind so many lines."""
+        """What is left behind so many lines, when it is asked for."""
         if count not in self.lefts:
             told = scripts.answers([self.lines[:count] + self.asked])[0]
             self.lefts[count] = what_is_left(told[count:])
         return self.lefts[count]
+
+    def is_as(self, place, answer, again):
+        """Whether that may be answered to a line where those lines were asked again."""
+        wanted = self.answers[place]
+        if self.lines[place] != "!calls" or answer == wanted:
+            return answer == wanted
+        opened = max(at for at in range(place) if self.lines[at] in OPENINGS)
+        return any(opened < at < place for at in again) or \
+            len(answer) >= len(wanted) and answer.replace("r", "") == wanted.replace("r", "")
+
+
+class Play:
+    """A row in a setting: what the player is given, and what it is to answer. Of one that is not
+    whole the answers are those that the player gives where no memory is refused."""
+
+    def __init__(self, row, setting, is_whole=True):
+        row = row._replace(lines=[line for line in row.lines if line.text != "!fail each"
+                                  and not line.text.startswith("holds ")])
+        self.options = ["--again"]
+        self.texts = [*setting.splitlines(), *row.texts]
+        self.courses = {None: Course(self.texts, [])}
+        self.lines, answers = self.courses[None].lines, self.courses[None].answers
+        numbers = {int(number) for text in (*self.lines, *answers)
+                   for found in _NUMBERS.finditer(text) for number in found[1].split()}
+        self.asked = [*LEFT, *(f"show {number}" for number in sorted(numbers))]
+        self.courses[None].asked = self.asked
+        given = scripts.input_of(row, setting)
+        self.wrong = scripts.differences([given]) if is_whole else \
+            "".join(f"{answer}\n" for answer in answers if answer in REFUSALS)
+        self.given = given + "".join(f"!left\n{text}\n" for text in self.asked)
+        # Where a failing call is planned, by the place of the opening that it is counted from.
+        self.plans = {next(at for at in range(place, len(self.lines)) if self.lines[at] in OPENINGS):
+                      place for place, line in enumerate(self.lines)
+                      if line.startswith(("!fail ", "!stop "))}
+
+    def course(self, again):
+        """How it goes where those lines are asked again."""
+        dropped = next((plan for opening, plan in self.plans.items() if opening in again), None)
+        if dropped not in self.courses:
+            texts = [*self.texts[:dropped], NEVER, *self.texts[dropped + 1:]]
+            self.courses[dropped] = Course(texts, self.asked)
+        return self.courses[dropped]
+
+    def may_fail(self, place):
+        """Whether a call may fail in a line, where the disk's record was refused memory, or a
+        failing call has come to another line."""
+        return self.lines[place].split(" ")[0] in NOTED or \
+            any(opening <= place for opening in self.plans)
 
     def kind(self, status, told):
         """Who was refused memory in a run that told this."""
@@ -106,19 +155,21 @@ class Play:
         got = [line[2:] for line in told]
         body = got if status == STOPPED else got[:-len(self.asked)]
         body = body[:len(self.lines)]
-        is_cut = bool(body) and body[-1] in FAULTS and body[-1] != self.answers[len(body) - 1] \
-            and self.lines[len(body) - 1].split(" ")[0] in NOTED
-        for place, (answer, wanted) in enumerate(zip(body[:len(body) - is_cut], self.answers)):
-            if answer != wanted:
-                asked = self.lines[place][:300]
-                return f"{asked}\n  wanted: {wanted[:300]}\n  got:    {answer[:300]}"
+        again = {place for place, _ in enumerate(body) if told[place].startswith("+ ")}
+        course = self.course(again)
+        is_cut = bool(body) and body[-1] in FAULTS and body[-1] != course.answers[len(body) - 1] \
+            and self.may_fail(len(body) - 1)
+        for place, answer in enumerate(body[:len(body) - is_cut]):
+            if not course.is_as(place, answer, again):
+                asked, wanted = self.lines[place][:300], course.answers[place][:300]
+                return f"{asked}\n  wanted: {wanted}\n  got:    {answer[:300]}"
         if status == STOPPED:
             return None
         if not is_cut and len(body) != len(self.lines):
             return f"it ended behind {self.lines[len(body) - 1]}"
         places = (len(body) - 1, len(body)) if is_cut else (len(body),)
         left = what_is_left(got[-len(self.asked):])
-        return None if left in [self.left(place) for place in places] else \
+        return None if left in [course.left(place) for place in places] else \
             f"behind {self.lines[len(body) - 1]} there is something else: {left}"
 
 
@@ -127,7 +178,6 @@ class Creation:
     handed back is made a store."""
 
     def __init__(self, setting):
-        self.setting = setting
         self.lines = [setting, *CREATION]
         self.given = "".join(f"{line}\n" for line in ("!script creation", *self.lines))
         self.options = ["--tell"]
@@ -158,6 +208,12 @@ class Creation:
         return f"{first}, {closed}, {again}, {opened}, {count}; the disk: {behind[:3000]}"
 
 
+def creations():
+    """A creation in each setting."""
+    for setting in SETTINGS:
+        yield setting, Creation(setting)
+
+
 def what_is_left(told):
     """What is told in the end: whether the store was opened, and what it has."""
     return [told[2] if told[1] in FAULTS else told[1], *told[3:]]
@@ -181,28 +237,40 @@ def runs_of(play, shim):
     return refused, kinds, faults
 
 
-def is_played(row, is_quick):
-    """Whether a row is."""
-    numbered = row.kind == "script" and not test_below.is_played(row)
-    long = sum(len(scripts.spelled(text)) for text in row.texts) > BYTES
-    return not numbered and not long and len(row.lines) <= (QUICK if is_quick else LINES)
+def bytes_of(row):
+    """How many bytes the lines of a row have."""
+    return sum(len(scripts.spelled(text)) for text in row.texts)
+
+
+def is_long(row):
+    """Whether a row is too long."""
+    return len(row.lines) > LINES or bytes_of(row) > BYTES
 
 
 def rows(is_quick):
-    """The rows that are played, the longest first, by file and title."""
-    played = [row for file in scripts.files() for row in file.rows if is_played(row, is_quick)]
-    for row in sorted(played, key=lambda row: -len(row.lines)):
+    """The rows that are played, those that take longest first, by file and title."""
+    played = [row for file in scripts.files() for row in file.rows
+              if not is_quick or len(row.lines) <= QUICK and not is_long(row)]
+    for row in sorted(played, key=lambda row: -len(row.lines) - bytes_of(row) // 10_000):
         yield row.file, row.title
+
+
+def plays(name, title):
+    """A row in each of its settings, with fewer rounds of its loops where it is too long."""
+    row = scripts.file(name).row(title)
+    is_whole = not is_long(row)
+    if not is_whole:
+        row = scripts.File(name, TWO if bytes_of(row) > BYTES else FEW).row(title)
+    for setting in SETTINGS if set(SETTINGS) <= set(row.settings) else row.settings:
+        yield setting, Play(row, setting, is_whole)
 
 
 def played(case):
     """Plays a row in each setting, or a creation: what is told of it, how many runs there were, and
     what is wrong."""
     shim, name, title = case
-    found = [row for row in scripts.file(name).rows if row.title == title] if name else []
     told, runs, faults, spared = [], 0, [], []
-    for setting in SETTINGS:
-        play = Play(found[0], setting) if found else Creation(setting)
+    for setting, play in plays(name, title) if name else creations():
         if play.wrong:
             faults.append(f"{setting}, nothing refused:\n{play.wrong}")
             continue

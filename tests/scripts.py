@@ -77,10 +77,11 @@ class Row(NamedTuple):
 
 
 class File:
-    """A file of scripts: its preludes and its rows."""
+    """A file of scripts: its preludes and its rows, with so many rounds of each `for` at the most."""
 
-    def __init__(self, name: str) -> None:
+    def __init__(self, name: str, rounds: int | None = None) -> None:
         self.name = name
+        self.rounds = rounds
         self.preludes: dict[str, list[Line]] = {}
         self._blocks: list[tuple[Line, list[Line]]] = []
         for line in self._lines():
@@ -110,6 +111,10 @@ class File:
         if twice := {title for title in titles if titles.count(title) > 1}:
             raise ValueError(f"{self.name}: there are two of {twice}")
         return made
+
+    def row(self, title: str) -> Row:
+        """The script or the sweep of a title."""
+        return next(row for row in self.rows if row.title == title)
 
     def _rows(self, head: Line, lines: list[Line]) -> Iterator[Row]:
         kind, _, title = head.text.partition(" ")
@@ -154,7 +159,7 @@ class File:
                 body = []
                 while waiting and waiting[-1].depth > line.depth:
                     body.append(waiting.pop())
-                for number in range(int(found[1]), int(found[2]) + 1):
+                for number in [*range(int(found[1]), int(found[2]) + 1)][:self.rounds]:
                     lines = [one._replace(text=one.text.replace("{n}", str(number)))
                              for one in body]
                     yield from self._spelled(lines, [])

@@ -37,6 +37,7 @@ WORKED = {
         "indexed::a_segment_is_built", "indexed::a_segment_is_read", "indexed::its_texts_are_read",
         "manifest::the_body_of_a_new_store_has_these_bytes",
         "manifest::the_greater_generation_is_in_force",
+        "manifest::a_refused_installation_leaves_the_old_body",
         "space::the_first_run_that_fits_is_taken",
         "merge::what_is_left_is_one_segment", "merge::nothing_is_left"),
     "tests_engine": ("buffer::documents_come_and_leave",),

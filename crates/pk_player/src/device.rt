@@ -53,13 +53,13 @@ pub struct Notes {
 
 impl Notes {
     /// Room for all.
-    pub fn new(alloc: Global) -> Result<Notes, AllocError> {
+    pub(crate) fn new(alloc: Global) -> Result<Notes, AllocError> {
         let letters = String::with_capacity(alloc, MOST_NOTES)?;
         Ok(Notes { letters })
     }
 
     /// The letters.
-    pub fn letters(&self) -> &str {
+    pub(crate) fn letters(&self) -> &str {
         self.letters.as_str()
     }
 
@@ -86,7 +86,7 @@ pub struct Device {
 
 impl Device {
     /// The disk, with the calls that are to fail.
-    pub fn on(disk: MemoryDisk, failing: Option<Failing>, notes: Notes) -> Device {
+    pub(crate) fn on(disk: MemoryDisk, failing: Option<Failing>, notes: Notes) -> Device {
         Device {
             disk,
             failing,
@@ -98,7 +98,7 @@ impl Device {
     }
 
     /// The disk, the notes of its calls, and how many bytes its reads gave.
-    pub fn into_parts(self) -> (MemoryDisk, Notes, u64) {
+    pub(crate) fn into_parts(self) -> (MemoryDisk, Notes, u64) {
         let Device {
             disk,
             notes,

@@ -175,7 +175,7 @@ fn reply_in(alloc: Global, output: &[u8]) -> Result<String, AllocError> {
 
 impl Player {
     /// One without a disk.
-    pub fn new(alloc: Global) -> Player {
+    pub(crate) fn new(alloc: Global) -> Player {
         Player {
             alloc,
             disk: None,
@@ -189,7 +189,7 @@ impl Player {
     }
 
     /// What a line of a script is answered.
-    pub fn answer(&mut self, line: &str) -> Result<String, AllocError> {
+    pub(crate) fn answer(&mut self, line: &str) -> Result<String, AllocError> {
         if !line.starts_with("!") {
             return self.ask(line);
         }

@@ -29,7 +29,7 @@ pub struct Answer {
 
 impl Answer {
     /// Whether it is what the line says.
-    pub fn is_wanted(&self) -> bool {
+    pub(crate) fn is_wanted(&self) -> bool {
         self.got == self.wanted
     }
 
@@ -82,7 +82,7 @@ fn spelled_out(alloc: Global, text: &str) -> Result<String, AllocError> {
 
 impl Stage {
     /// One on which nothing was played.
-    pub fn new(alloc: Global, mode: Mode) -> Stage {
+    pub(crate) fn new(alloc: Global, mode: Mode) -> Stage {
         Stage {
             alloc,
             player: Player::new(alloc),
@@ -99,7 +99,7 @@ impl Stage {
 
     /// Takes a line of the input, and tells what it was answered, if it asks anything and its
     /// script has not failed.
-    pub fn take(&mut self, line: &str) -> Result<Option<Answer>, AllocError> {
+    pub(crate) fn take(&mut self, line: &str) -> Result<Option<Answer>, AllocError> {
         let line = line.trim();
         let (step, rest) = line.split_once(" ").unwrap_or((line, ""));
         match step {
@@ -186,7 +186,7 @@ impl Stage {
     }
 
     /// How many scripts were answered as they say, and how many were not, when all were played.
-    pub fn counts(mut self) -> (u64, u64) {
+    pub(crate) fn counts(mut self) -> (u64, u64) {
         self.end();
         (self.passed, self.failed)
     }

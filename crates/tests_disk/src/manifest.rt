@@ -522,14 +522,14 @@ fn faulty(disk: MemoryDisk, passed: u32, once: bool) -> FaultDisk<MemoryDisk>
 }
 
 // Installs the next generation on the spare half of what is in force, over a faulty disk; and
-// whether it answered the fault.
+// which fault it answered, if any.
 fn install_next(
     alloc: Global,
     mut disk: MemoryDisk,
     has_table: bool,
     passed: u32,
     once: bool,
-) -> Result<(MemoryDisk, bool), Fail>
+) -> Result<(MemoryDisk, Option<ManifestFault>), Fail>
     requires size { length (⟦<MemoryDisk as Disk>⟧.content disk) ≡ 32768 }
     requires closed { ⟦<MemoryDisk as Disk>⟧.is_open disk ≡ nowhere }
     ensures { IfOk result (λ r. length (⟦<MemoryDisk as Disk>⟧.content r.0) ≡ 32768) }
@@ -538,39 +538,40 @@ fn install_next(
     let next = following(alloc, old.next_generation()?, has_table)?;
     let mut over = faulty(disk, passed, once);
     let answer = install(alloc, &mut over, &next, half.other());
-    Ok((over.into_inner(), answer == Err(ManifestFault::Disk)))
+    Ok((over.into_inner(), answer.err()))
 }
 
-// Puts a first body in force, over a faulty disk; and whether it answered the fault. A disk that
+// Puts a first body in force, over a faulty disk; and which fault it answered, if any. A disk that
 // is a store is handed back as it is.
 fn establish_on(
     alloc: Global,
     mut disk: MemoryDisk,
     passed: u32,
     once: bool,
-) -> Result<(MemoryDisk, bool), Fail>
+) -> Result<(MemoryDisk, Option<ManifestFault>), Fail>
     requires size { length (⟦<MemoryDisk as Disk>⟧.content disk) ≡ 32768 }
     requires closed { ⟦<MemoryDisk as Disk>⟧.is_open disk ≡ nowhere }
     ensures { IfOk result (λ r. length (⟦<MemoryDisk as Disk>⟧.content r.0) ≡ 32768) }
 {
     let body = empty(alloc, 1).spell(alloc)?;
     let Err(ManifestFault::NotAStore) = read_current(alloc, &mut disk) else {
-        return Ok((disk, false));
+        return Ok((disk, None));
     };
     let mut over = faulty(disk, passed, once);
     let answer = establish(&mut over, &body);
-    Ok((over.into_inner(), answer == Err(DiskFault)))
+    let fault = answer.err().map(|_| ManifestFault::Disk);
+    Ok((over.into_inner(), fault))
 }
 
 // What is in force after a crash with every pick the same, if anything is.
-fn left_by(alloc: Global, disk: MemoryDisk, pick: u8) -> Result<Option<InForce>, Fail>
+fn left_by(alloc: Global, disk: MemoryDisk, pick: u8) -> Result<Option<InForce>, ManifestFault>
     requires { length (⟦<MemoryDisk as Disk>⟧.content disk) ≡ 32768 }
 {
     let picks = vec![in alloc; pick; SIZE]?;
     match in_force(alloc, &mut disk.crash(&picks)) {
         Ok(found) => Ok(Some(found)),
         Err(ManifestFault::NotAStore) => Ok(None),
-        Err(fault) => Err(fault)?,
+        Err(fault) => Err(fault),
     }
 }
 
@@ -587,13 +588,13 @@ enum Start {
     Zeros,
 }
 
-// Puts a body in force over a faulty disk: what it leaves, and whether it answered the fault.
+// Puts a body in force over a faulty disk: what it leaves, and which fault it answered, if any.
 fn put_in_force(
     alloc: Global,
     start: Start,
     passed: u32,
     once: bool,
-) -> Result<(MemoryDisk, bool), Fail>
+) -> Result<(MemoryDisk, Option<ManifestFault>), Fail>
     ensures { IfOk result (λ r. length (⟦<MemoryDisk as Disk>⟧.content r.0) ≡ 32768) }
 {
     match start {
@@ -659,17 +660,17 @@ static ROWS: [Row; 5] = [
     },
 ];
 
-// Puts a body in force over a faulty disk: whether it answered the fault, and what is in force after
-// a crash with every pick the same.
+// Puts a body in force over a faulty disk: which fault it answered, if any, and what is in force
+// after a crash with every pick the same.
 fn outcome(
     alloc: Global,
     start: Start,
     passed: u32,
     once: bool,
     pick: u8,
-) -> Result<(bool, Option<InForce>), Fail> {
-    let (disk, failed) = put_in_force(alloc, start, passed, once)?;
-    Ok((failed, left_by(alloc, disk, pick)?))
+) -> Result<(Option<ManifestFault>, Option<InForce>), Fail> {
+    let (disk, fault) = put_in_force(alloc, start, passed, once)?;
+    Ok((fault, left_by(alloc, disk, pick)?))
 }
 
 // Each of its calls fails, once and for good, and then a crash: the old body is in force, but for
@@ -679,7 +680,10 @@ fn cut_off(rt: &impl Abort, alloc: Global, row: Row, once: bool, pick: u8) -> Re
         let is_new = pick == 0xA7 && passed >= row.before_gate;
         let want = if is_new { row.new } else { row.old };
         let told = outcome(alloc, row.start, passed, once, pick)?;
-        assert!(rt; told == (true, want), "{passed} calls passed");
+        assert!(rt;
+            told == (Some(ManifestFault::Disk), want),
+            "{passed} calls passed"
+        );
     }
     Ok(())
 }
@@ -692,7 +696,7 @@ fn what_is_cut_off_leaves_the_old_body_or_the_new(rt: HostRuntime) -> Result<(),
             cut_off(&rt, alloc, *row, true, pick)?;
             cut_off(&rt, alloc, *row, false, pick)?;
             let told = outcome(alloc, row.start, row.calls, false, pick)?;
-            assert!(rt; told == (false, row.new));
+            assert!(rt; told == (None, row.new));
         }
     }
     Ok(())
@@ -703,11 +707,36 @@ fn what_is_cut_off_leaves_the_old_body_or_the_new(rt: HostRuntime) -> Result<(),
 fn a_failed_read_writes_nothing(rt: HostRuntime) -> Result<(), Fail> {
     let alloc = rt.alloc();
     let before = created(alloc, 0)?.into_bytes();
-    let (disk, failed) = put_in_force(alloc, Start::Created(0), 0, false)?;
-    assert!(rt; failed);
+    let (disk, fault) = put_in_force(alloc, Start::Created(0), 0, false)?;
+    assert!(rt; fault == Some(ManifestFault::Disk));
     let picks = vec![in alloc; 0xFFu8; SIZE]?;
     let after = disk.crash(&picks).into_bytes();
     assert!(rt; after.as_slice() == before.as_slice());
+    Ok(())
+}
+
+// Whether a body with a table was installed over a new store. One that was refused memory answers so,
+// or as a call of the disk that failed for want of its record, and after a crash the old body is in
+// force.
+fn is_installed(rt: &impl Abort, alloc: Global) -> Result<bool, Fail> {
+    let (disk, fault) = put_in_force(alloc, Start::Tabled, 6, false)?;
+    let left = left_by(alloc, disk, 0)?;
+    let Some(fault) = fault else {
+        assert!(rt; left == Some(SECOND));
+        return Ok(true);
+    };
+    assert!(rt; fault == ManifestFault::Memory || fault == ManifestFault::Disk);
+    assert!(rt; left == Some(FIRST));
+    Ok(false)
+}
+
+// Also run with one request for memory refused after another (tools/refuse_memory.py): of two
+// installations the one that was refused none is made.
+#[test]
+fn a_refused_installation_leaves_the_old_body(rt: HostRuntime) -> Result<(), Fail> {
+    let first = is_installed(&rt, rt.alloc())?;
+    let second = is_installed(&rt, rt.alloc())?;
+    assert!(rt; first || second);
     Ok(())
 }
 

@@ -1,10 +1,9 @@
-//! Kept blocks: the worked row, segments apart, blocks that are not there, reads that fail, and
-//! memory that is refused.
+//! Kept blocks: rows of what is asked for, blocks that are not there, reads that fail, and memory that
+//! is refused.
 
-ghost use Rattle.std.specs.Prelude.{◌≡◌, ◌<◌, ◌≤◌, IfOk, length};
-ghost use Rattle.pk_posting.specs.Parts.{Fits, LiesIn};
+ghost use Rattle.std.specs.Prelude.{◌≡◌, ◌<◌, IfOk, length};
 
-use crate::checks::equal;
+use crate::checks::{equal, equal_of};
 use crate::failing::Failing;
 use crate::made::apart;
 use crate::plain::plain_encode;
@@ -13,17 +12,6 @@ use pk_posting::{ByteSource, ListPlace, Shape, SliceSource, SourceFault};
 use std::alloc::{AllocError, Global};
 use std::process::Abort;
 use std::test::Fail;
-
-// The first block of the list of a segment, and two that come after it.
-const FIRST: BlockKey = BlockKey {
-    segment: 1,
-    at: 0,
-    block: 0,
-};
-
-const FOURTH: BlockKey = BlockKey { block: 3, ..FIRST };
-
-const TWELFTH: BlockKey = BlockKey { block: 11, ..FIRST };
 
 // The bytes of the list of 2,048 numbers from `gap` on that are `gap` apart: sixteen blocks.
 fn list_bytes(rt: &impl Abort, alloc: Global, gap: u32) -> Result<Vec<u8>, AllocError>
@@ -52,127 +40,109 @@ fn is_block(rt: &impl Abort, numbers: &[u32; 128], block: u32, gap: u32) {
     }
 }
 
-// Asks for a block of the list of a segment, whose numbers are `gap` apart. Says whether the source
-// was asked.
-fn asks<S: ByteSource>(
-    rt: &impl Abort,
+// A block of the list of a segment, and whether the source was asked for it.
+fn block_of<S: ByteSource>(
     cache: &mut BlockCache,
-    key: BlockKey,
-    place: ListPlace,
-    shape: Shape,
     source: &mut S,
-    gap: u32,
-) -> bool
-    requires at { place.at ≡ key.at }
-    requires lies { LiesIn place (length (S.content source.old)) }
-    requires fits { Fits shape place }
-    ensures lies { LiesIn place (length (S.content source.new)) }
+    place: ListPlace,
+    segment: u32,
+    block: u32,
+) -> Result<([u32; 128], bool), SourceFault>
+    requires { place.at ≡ 0 }
 {
+    let shape = Shape::read(source, place)?;
     let before = source.asked();
-    let answer = cache.block(key, place, shape, source);
-    assert!(rt; answer.is_ok());
-    is_block(rt, &answer.unwrap_or([0; 128]), key.block, gap);
-    source.asked() != before
-}
-
-// Blocks 0, 0, 11 and 0 of the numbers 1 to 2,048: whether the last one is kept still.
-fn row(rt: &impl Abort, alloc: Global, bytes: &[u8], capacity: usize) -> Result<bool, Fail>
-    requires bytes { length bytes.now < 1000000 }
-    requires some { 1 ≤ capacity }
-    requires most { capacity ≤ 65536 }
-{
-    let place = whole(bytes);
-    let mut source = SliceSource::new(bytes);
-    let shape = Shape::read(&mut source, place)?;
-    let mut cache = BlockCache::new(alloc, capacity)?;
-    let asked = [
-        asks(rt, &mut cache, FIRST, place, shape, &mut source, 1),
-        asks(rt, &mut cache, FIRST, place, shape, &mut source, 1),
-        asks(rt, &mut cache, TWELFTH, place, shape, &mut source, 1),
-    ];
-    equal(rt, asked, [true, false, true]);
-    Ok(!asks(rt, &mut cache, FIRST, place, shape, &mut source, 1))
-}
-
-#[test]
-fn the_row_is_answered(rt: HostRuntime) -> Result<(), Fail> {
-    let bytes = list_bytes(&rt, rt.alloc(), 1)?;
-    let kept = [
-        row(&rt, rt.alloc(), &bytes, 1)?,
-        row(&rt, rt.alloc(), &bytes, 2)?,
-        row(&rt, rt.alloc(), &bytes, 65_536)?,
-    ];
-    equal(&rt, kept, [false, true, true]);
-    Ok(())
-}
-
-// A block of the list in `bytes`, and one of the even numbers' list, which is that of another
-// segment, each twice in turn.
-fn are_apart(rt: &impl Abort, alloc: Global, bytes: &[u8], even_bytes: &[u8]) -> Result<(), Fail>
-    requires bytes { length bytes.now < 1000000 }
-    requires even { length even_bytes.now < 1000000 }
-{
-    let (place, even_place) = (whole(bytes), whole(even_bytes));
-    let mut source = SliceSource::new(bytes);
-    let mut evens = SliceSource::new(even_bytes);
-    let shape = Shape::read(&mut source, place)?;
-    let even_shape = Shape::read(&mut evens, even_place)?;
-    let mut cache = BlockCache::new(alloc, 4)?;
-    let even = BlockKey {
-        segment: 2,
-        ..FOURTH
+    let key = BlockKey {
+        segment: u64::from(segment),
+        at: 0,
+        block,
     };
-    let asked = [
-        asks(rt, &mut cache, FOURTH, place, shape, &mut source, 1),
-        asks(rt, &mut cache, even, even_place, even_shape, &mut evens, 2),
-        asks(rt, &mut cache, FOURTH, place, shape, &mut source, 1),
-        asks(rt, &mut cache, even, even_place, even_shape, &mut evens, 2),
-    ];
-    equal(rt, asked, [true, true, false, false]);
-    Ok(())
+    let numbers = cache.block(key, place, shape, source)?;
+    Ok((numbers, source.asked() != before))
 }
 
-// A block of one segment is not answered for another one's.
-#[test]
-fn each_segment_has_its_own_blocks(rt: HostRuntime) -> Result<(), Fail> {
-    let bytes = list_bytes(&rt, rt.alloc(), 1)?;
-    let even_bytes = list_bytes(&rt, rt.alloc(), 2)?;
-    are_apart(&rt, rt.alloc(), &bytes, &even_bytes)
-}
-
-// That the list has no such block.
-fn has_no_block<S: ByteSource>(
+// Asks for a block of the list of a segment, whose numbers are as far apart as the segment's number
+// says. Says whether the source was asked.
+fn asks(
     rt: &impl Abort,
     cache: &mut BlockCache,
-    key: BlockKey,
-    place: ListPlace,
-    shape: Shape,
-    source: &mut S,
-)
-    requires at { place.at ≡ key.at }
-    requires lies { LiesIn place (length (S.content source.old)) }
-    requires fits { Fits shape place }
-    ensures lies { LiesIn place (length (S.content source.new)) }
+    bytes: &[u8],
+    segment: u32,
+    block: u32,
+) -> Result<bool, SourceFault>
+    requires { length bytes.now < 1000000 }
 {
-    let answer = cache.block(key, place, shape, source);
-    equal(rt, answer.err(), Some(SourceFault::Damaged));
+    let mut source = SliceSource::new(bytes);
+    let (numbers, asked) = block_of(cache, &mut source, whole(bytes), segment, block)?;
+    is_block(rt, &numbers, block, segment);
+    Ok(asked)
+}
+
+// How many blocks a cache has room for, and blocks that are asked for in turn: of which segment, which
+// one, and whether the source is asked. In the last row a block of one segment is not answered for
+// another one's.
+static ROWS: [(usize, &[(u32, u32, bool)]); 4] = [
+    (
+        1,
+        &[(1, 0, true), (1, 0, false), (1, 11, true), (1, 0, true)],
+    ),
+    (
+        2,
+        &[(1, 0, true), (1, 0, false), (1, 11, true), (1, 0, false)],
+    ),
+    (
+        65_536,
+        &[(1, 0, true), (1, 0, false), (1, 11, true), (1, 0, false)],
+    ),
+    (
+        4,
+        &[(1, 3, true), (2, 3, true), (1, 3, false), (2, 3, false)],
+    ),
+];
+
+// That a row is answered so, whose first segment has one list and whose second the other.
+fn is_answered(
+    rt: &impl Abort,
+    alloc: Global,
+    first: &[u8],
+    second: &[u8],
+    row: &(usize, &[(u32, u32, bool)]),
+) -> Result<(), Fail>
+    requires first { length first.now < 1000000 }
+    requires second { length second.now < 1000000 }
+{
+    let (room, steps) = *row;
+    assert!(rt; 1 <= room && room <= 65_536);
+    let mut cache = BlockCache::new(alloc, room)?;
+    for (segment, block, asked) in steps {
+        let found = match *segment {
+            1 => asks(rt, &mut cache, first, 1, *block)?,
+            n => asks(rt, &mut cache, second, n, *block)?,
+        };
+        equal_of(rt, (room, *segment, *block), found, *asked);
+    }
+    Ok(())
+}
+
+#[test]
+fn the_rows_are_answered(rt: HostRuntime) -> Result<(), Fail> {
+    let first = list_bytes(&rt, rt.alloc(), 1)?;
+    let second = list_bytes(&rt, rt.alloc(), 2)?;
+    for row in &ROWS {
+        is_answered(&rt, rt.alloc(), &first, &second, row)?;
+    }
+    Ok(())
 }
 
 // The list has the blocks 0 to 15.
 #[test]
 fn no_block_past_the_end(rt: HostRuntime) -> Result<(), Fail> {
     let bytes = list_bytes(&rt, rt.alloc(), 1)?;
-    let place = whole(&bytes);
-    let mut source = SliceSource::new(&bytes);
-    let shape = Shape::read(&mut source, place)?;
     let mut cache = BlockCache::new(rt.alloc(), 1)?;
-    let next = BlockKey { block: 16, ..FIRST };
-    has_no_block(&rt, &mut cache, next, place, shape, &mut source);
-    let last = BlockKey {
-        block: 4_294_967_295,
-        ..FIRST
-    };
-    has_no_block(&rt, &mut cache, last, place, shape, &mut source);
+    for block in [16, 4_294_967_295] {
+        let answer = asks(&rt, &mut cache, &bytes, 1, block);
+        equal_of(&rt, block, answer, Err(SourceFault::Damaged));
+    }
     Ok(())
 }
 
@@ -185,32 +155,27 @@ fn asks_for_shape(bytes: &[u8]) -> Result<u64, SourceFault>
     Ok(source.asked())
 }
 
-// That a block whose call after so many others fails is answered at the next call, and kept then.
-fn is_kept_later(rt: &impl Abort, alloc: Global, bytes: &[u8], passes: u64) -> Result<(), Fail>
+// That a block isn't answered whose call of the source after so many others fails.
+fn fails_once(rt: &impl Abort, cache: &mut BlockCache, bytes: &[u8], passes: u64)
     requires { length bytes.now < 1000000 }
 {
-    let place = whole(bytes);
     let mut source = Failing::after(bytes, passes);
-    let shape = Shape::read(&mut source, place)?;
-    let mut cache = BlockCache::new(alloc, 1)?;
-    let answer = cache.block(TWELFTH, place, shape, &mut source);
-    assert!(rt; answer == Err(SourceFault::Disk));
+    let answer = block_of(cache, &mut source, whole(bytes), 1, 11);
+    equal(rt, answer, Err(SourceFault::Disk));
     equal(rt, source.failures, 1);
-    let asked = [
-        asks(rt, &mut cache, TWELFTH, place, shape, &mut source, 1),
-        asks(rt, &mut cache, TWELFTH, place, shape, &mut source, 1),
-    ];
-    equal(rt, asked, [true, false]);
-    Ok(())
 }
 
-// Each call of the source that a block takes fails in turn.
+// Each call of the source that a block takes fails in turn. The block is answered at the next call,
+// and kept then.
 #[test]
 fn a_failed_read_keeps_nothing(rt: HostRuntime) -> Result<(), Fail> {
     let bytes = list_bytes(&rt, rt.alloc(), 1)?;
     let first = asks_for_shape(&bytes)?;
     for passed in 0..2 {
-        is_kept_later(&rt, rt.alloc(), &bytes, first.wrapping_add(passed))?;
+        let mut cache = BlockCache::new(rt.alloc(), 1)?;
+        fails_once(&rt, &mut cache, &bytes, first.wrapping_add(passed));
+        equal(&rt, asks(&rt, &mut cache, &bytes, 1, 11)?, true);
+        equal(&rt, asks(&rt, &mut cache, &bytes, 1, 11)?, false);
     }
     Ok(())
 }
@@ -221,14 +186,11 @@ fn blocks_short_of_memory(rt: HostRuntime) -> Result<(), Fail> {
     let Ok(bytes) = list_bytes(&rt, rt.alloc(), 1) else {
         return Ok(());
     };
-    let place = whole(&bytes);
-    let mut source = SliceSource::new(&bytes);
-    let shape = Shape::read(&mut source, place)?;
     let Ok(mut cache) = BlockCache::new(rt.alloc(), 2) else {
         return Ok(());
     };
-    let _ = asks(&rt, &mut cache, FIRST, place, shape, &mut source, 1);
-    let _ = asks(&rt, &mut cache, TWELFTH, place, shape, &mut source, 1);
-    let _ = asks(&rt, &mut cache, FIRST, place, shape, &mut source, 1);
+    for block in [0, 11, 0] {
+        let _asked = asks(&rt, &mut cache, &bytes, 1, block)?;
+    }
     Ok(())
 }

@@ -171,8 +171,10 @@ fn longer_lists_have_their_bytes(rt: HostRuntime) -> Result<(), Fail> {
 
 // Puts other bytes over those at one place.
 fn overwrite(bytes: &mut [u8], at: usize, new: &[u8]) {
-    for (old, byte) in bytes.iter_mut().skip(at).zip(new.iter()) {
-        *old = *byte;
+    for (i, byte) in new.iter().enumerate() {
+        if let Some(old) = bytes.get_mut(at.saturating_add(i)) {
+            *old = *byte;
+        }
     }
 }
 
