@@ -1,7 +1,9 @@
 /* SQLite FTS5 as a peer over a pipe: a base in a file is asked a line each, and answers as the
    program does.
      fts5 ask PATH    a line is an expression of FTS5; with `!` before it, what it does not match
-     fts5 merge PATH  at each line the index becomes one, made lasting, and `merged` is answered */
+     fts5 merge PATH  at each line the index becomes one, made lasting, and `merged` is answered
+     fts5 fill PATH   makes a base of the lines, without positions of words, a transaction for each
+                      4,096, behind which it answers `committed` */
 #include <sqlite3.h>
 #include <stdio.h>
 #include <stdlib.h>
@@ -13,7 +15,12 @@ static const char others[] =
     "SELECT rowid FROM documents EXCEPT SELECT rowid FROM documents WHERE documents MATCH ?"
     " ORDER BY rowid";
 static const char optimizing[] = "INSERT INTO documents(documents) VALUES ('optimize')";
+static const char creating[] =
+    "PRAGMA journal_mode=DELETE; PRAGMA synchronous=FULL;"
+    "CREATE VIRTUAL TABLE documents USING fts5(text, detail=none)";
+static const char adding[] = "INSERT INTO documents(text) VALUES (?)";
 static char line[1 << 16];
+enum { BATCH = 4096 };
 
 static void stop(sqlite3 *base)
 {
@@ -72,15 +79,60 @@ static void merge(sqlite3 *base)
     }
 }
 
+static void run(sqlite3 *base, const char *command)
+{
+    if (sqlite3_exec(base, command, NULL, NULL, NULL))
+        stop(base);
+}
+
+static void commit(sqlite3 *base)
+{
+    run(base, "COMMIT");
+    puts("committed");
+    fflush(stdout);
+}
+
+static void fill(sqlite3 *base)
+{
+    sqlite3_stmt *add;
+    int count = 0;
+    run(base, creating);
+    if (sqlite3_prepare_v2(base, adding, -1, &add, NULL))
+        stop(base);
+    for (; fgets(line, sizeof line, stdin); count++) {
+        if (count % BATCH == 0)
+            run(base, "BEGIN");
+        sqlite3_bind_text(add, 1, line, strcspn(line, "\n"), SQLITE_STATIC);
+        if (sqlite3_step(add) != SQLITE_DONE)
+            stop(base);
+        sqlite3_reset(add);
+        if (count % BATCH == BATCH - 1)
+            commit(base);
+    }
+    if (count % BATCH)
+        commit(base);
+}
+
+static const struct task {
+    const char *name;
+    int flags;
+    void (*run)(sqlite3 *);
+} tasks[] = {
+    {"ask", SQLITE_OPEN_READONLY, ask},
+    {"merge", SQLITE_OPEN_READWRITE, merge},
+    {"fill", SQLITE_OPEN_READWRITE | SQLITE_OPEN_CREATE, fill},
+};
+
 int main(int argc, char **argv)
 {
     sqlite3 *base;
-    const int merging = argc == 3 && !strcmp(argv[1], "merge");
-    const int flags = merging ? SQLITE_OPEN_READWRITE : SQLITE_OPEN_READONLY;
-    if (argc != 3 || (!merging && strcmp(argv[1], "ask")))
-        return 2;
-    if (sqlite3_open_v2(argv[2], &base, flags, NULL))
-        stop(base);
-    (merging ? merge : ask)(base);
-    return 0;
+    for (size_t at = 0; argc == 3 && at < sizeof tasks / sizeof *tasks; at++) {
+        if (strcmp(argv[1], tasks[at].name))
+            continue;
+        if (sqlite3_open_v2(argv[2], &base, tasks[at].flags, NULL))
+            stop(base);
+        tasks[at].run(base);
+        return 0;
+    }
+    return 2;
 }

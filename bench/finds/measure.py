@@ -1,17 +1,18 @@
-"""Measures finds in committed documents beside SQLite FTS5, Xapian and loops in C.
+"""Measures finds in committed documents beside SQLite FTS5, Xapian, Lucene and loops in C.
 
     measure.py PROGRAM LINES FOLDER
 
-LINES has a text a line; FOLDER has the peers fts5, limit and, where it could be built, xapian. The
-texts go into a store of the program, a base of FTS5 and a database of Xapian, each 4,096 made
-lasting at once. Every query is asked over a pipe on both sides, twice over: one after the other,
-each when the last is answered, and many in a row, without waiting. The sides take turns, and of each
-the best round counts, since other work on the machine may make a round slower by half or more. First
-as the stores were filled, then merged, optimized and compacted.
+LINES has a text a line; FOLDER has the peers fts5, limit, write and, where they could be built,
+xapian and lucene. The texts go into a store of the program, a base of FTS5, a database of Xapian and
+an index of Lucene, each 4,096 made lasting at once. Every query is asked over a pipe on all sides,
+twice over: one after the other, each when the last is answered, and many in a row, without waiting.
+The sides take turns, and of each the best round counts, since other work on the machine may make a
+round slower by half or more. First as the stores were filled, then merged, optimized and compacted.
 """
 
 import collections
 import functools
+import itertools
 import os
 import pathlib
 import platform
@@ -27,18 +28,40 @@ import unicodedata
 sys.path.insert(0, str(pathlib.Path(__file__).parent.parent / "store"))
 from peers import BATCH, Fts5, Program, Xapian, merged, segments  # noqa: E402
 
+# A side that answers: its name, its process, and the line that asks a find of it, or None.
+Side = collections.namedtuple("Side", "name peer line")
+
+# A find: its name, the best microseconds by the names of sides, and how many it finds.
+Row = collections.namedtuple("Row", "name spent found")
+
+# The peers that may not be there, as peers.sh names them, with what they keep.
+OTHERS = {"xapian": "database", "lucene": "index"}
+
+# What writes the bytes of a reply, and nothing else.
+ALONE = "its bytes alone"
+
+# The columns of the table that is left for the picture, before the loops.
+DRAWN = "program", "FTS5", "Xapian", "Lucene", ALONE
+
 # In how many rounds each side is asked a query.
 ROUNDS = 9
 
-# How long a query is asked in a round before it is timed and, 21 times at least, while it is.
+# How many seconds a query is asked in a round before it is timed and while it is, and how often at
+# least, but for one that takes long: that is asked no longer than LONGEST, three times at least.
 WARM = 0.01
 TIMED = 0.03
 TIMES = 21
+LONGEST = 1
+FEWEST = 3
 
 # How many seconds the finds in a row take in a round, by the time of one that is waited for, and how
-# many they are at least and at most.
+# many they are at most; at least as above.
 ROW = 0.06
-FEWEST, MOST = 21, 100_000
+MOST = 100_000
+
+# How many seconds each find is asked, and how many times in a row at once, of a side that is compiled
+# as it runs; and how often all are.
+WARM_UP, WARM_ROW, WARM_TIMES = 1, 100, 2
 
 # The bytes that a pipe holds, and how long the reader sleeps between two pieces: it is to find much
 # in the pipe, and not to be woken for each reply.
@@ -155,26 +178,59 @@ def fill(program, texts, folder):
     fts5.create()
     fts5.fill(texts)
     fts5.close()
-    if os.path.exists(f"{folder}/xapian"):
-        Xapian(f"{folder}/xapian", f"{folder}/database").fill(texts)
+    fill_others(texts, folder)
+
+
+def others(folder):
+    """Xapian and Lucene, where they are there, each with the path of what it keeps."""
+    there = (name for name in OTHERS if os.path.exists(f"{folder}/{name}"))
+    return {name: f"{folder}/{OTHERS[name]}" for name in there}
+
+
+def fill_others(texts, folder, positions=False):
+    """The texts in a database of Xapian and an index of Lucene."""
+    for name, path in others(folder).items():
+        shutil.rmtree(path, ignore_errors=True)
+        Xapian(f"{folder}/{name}", path).fill(texts, positions)
 
 
 def merge(program, folder):
     """The same in one segment, one level and one table."""
     merged(program, "run", f"{folder}/store")
     merged(f"{folder}/fts5", "merge", f"{folder}/base")
-    if os.path.exists(f"{folder}/xapian"):
-        shutil.rmtree(f"{folder}/compact", ignore_errors=True)
-        merged(f"{folder}/xapian", "merge", f"{folder}/compact", f"{folder}/database")
+    merge_others(folder)
+
+
+def merge_others(folder):
+    """Xapian's tables compacted, in the place of those that were filled, and Lucene's index in one
+    segment."""
+    for name, path in others(folder).items():
+        if name == "lucene":
+            merged(f"{folder}/{name}", "merge", path)
+            continue
+        compact = f"{folder}/compact"
+        shutil.rmtree(compact, ignore_errors=True)
+        merged(f"{folder}/{name}", "merge", compact, path)
+        shutil.rmtree(path)
+        os.rename(compact, path)
+
+
+def bytes_below(path):
+    """The bytes of the files in a folder."""
+    return sum(file.stat().st_size for file in pathlib.Path(path).iterdir())
 
 
 def show_sizes(folder):
-    """Prints how many bytes the segments have, and FTS5's pages."""
+    """Prints how many bytes the segments have, FTS5's pages, and what the others keep."""
     ours = sum(segments(f"{folder}/store"))
     base = Fts5(f"{folder}/base")
     theirs = base.used_bytes()
     base.close()
-    print(f"\nSegments: {ours:,} bytes; pages of FTS5: {theirs:,} bytes; {ours / theirs:.3f}")
+    told = [f"Segments: {ours:,} bytes", f"pages of FTS5: {theirs:,}, {ours / theirs:.3f}"]
+    for name, path in others(folder).items():
+        size = bytes_below(path)
+        told.append(f"files of {name.title()}: {size:,}, {ours / size:.3f}")
+    print(f"\n{'; '.join(told)}")
 
 
 def timed(peer, line):
@@ -184,17 +240,25 @@ def timed(peer, line):
         peer.ask(line)
     begin = time.perf_counter()
     seconds = []
-    while len(seconds) < TIMES or time.perf_counter() < begin + TIMED:
+    while len(seconds) < wanted(time.perf_counter() - begin):
         start = time.perf_counter()
         peer.ask(line)
         seconds.append(time.perf_counter() - start)
     return 1e6 * statistics.median(seconds)
 
 
+def wanted(seconds):
+    """How many answers a round wants that has gone on for so long."""
+    if seconds < TIMED:
+        return MOST
+    return TIMES if seconds < LONGEST else FEWEST
+
+
 def timed_row(peer, line, waited, reply):
     """The microseconds of a find among many in a row, each answered so, where one that is waited
     for takes so many."""
-    count = min(max(int(1e6 * ROW / waited), FEWEST), MOST)
+    fewest = min(max(int(1e6 * LONGEST / waited), FEWEST), TIMES)
+    count = min(max(int(1e6 * ROW / waited), fewest), MOST)
     return 1e6 * peer.ask_row(line, count, reply)
 
 
@@ -209,31 +273,64 @@ def best(measures):
     return least
 
 
-def ask_all(program, folder, finds, database):
-    """For each class the times of program, FTS5 and Xapian, waited for and in a row, and the
-    numbers that were found."""
-    peers = [
-        (Peer(program, "run", f"{folder}/store"), lambda find: f"find {find[1]}\n"),
-        (Peer(f"{folder}/fts5", "ask", f"{folder}/base"), lambda find: f"{find[2]}\n"),
+def open_sides(program, folder):
+    """The program and its peers, open, with what they are asked."""
+    sides = [
+        Side("program", Peer(program, "run", f"{folder}/store"), lambda find: f"find {find[1]}"),
+        Side("FTS5", Peer(f"{folder}/fts5", "ask", f"{folder}/base"), lambda find: find[2]),
     ]
-    if os.path.exists(f"{folder}/xapian"):
-        asking = Peer(f"{folder}/xapian", "ask", f"{folder}/{database}")
-        peers.append((asking, lambda find: f"{find[3]}\n"))
+    return sides + open_others(folder)
+
+
+def open_others(folder):
+    """Xapian and Lucene, where they are there."""
+    return [
+        Side(name.title(), Peer(f"{folder}/{name}", "ask", path), lambda find: find[3])
+        for name, path in others(folder).items()
+    ]
+
+
+def warm_up(sides, finds):
+    """Asks each find of the side that is compiled as it runs, until it is."""
+    compiled = [side for side in sides if side.name == "Lucene"]
+    for side, find in WARM_TIMES * list(itertools.product(compiled, finds)):
+        line = f"{side.line(find)}\n".encode()
+        begin, reply = time.perf_counter(), side.peer.ask(line)
+        while time.perf_counter() < begin + WARM_UP:
+            side.peer.ask_row(line, WARM_ROW, reply)
+
+
+def answered(sides, find):
+    """The sides that take a find with their lines, and the reply, in which all must agree."""
+    asked = {side.name: (side.peer, side.line(find)) for side in sides if side.line(find)}
+    asked = {name: (peer, f"{line}\n".encode()) for name, (peer, line) in asked.items()}
+    replies = {name: peer.ask(line) for name, (peer, line) in asked.items()}
+    unlike = [name for name, reply in replies.items() if reply != replies["program"]]
+    if unlike:
+        raise SystemExit(f"measure: {find[1]!r} is answered otherwise by {', '.join(unlike)}")
+    return asked, replies["program"]
+
+
+def ask_all(sides, finds, folder):
+    """For each find its rows, waited for and in a row: the times of each side that takes it, and of
+    the bytes of its reply alone."""
+    warm_up(sides, finds)
     waited, in_a_row = [], []
     for find in finds:
-        asked = [(peer, line(find).encode()) for peer, line in peers]
-        answers = [peer.ask(line) for peer, line in asked]
-        if len(set(answers)) != 1:
-            raise SystemExit(f"measure: {find[1]!r} is answered otherwise by a peer")
-        numbers = answers[0].split(b":")[1].split()
-        spent = best([functools.partial(timed, *ask) for ask in asked])
-        waited.append((find[0], spent, numbers))
+        asked, reply = answered(sides, find)
+        pathlib.Path(f"{folder}/reply").write_bytes(reply)
+        asked[ALONE] = Peer(f"{folder}/write", f"{folder}/reply"), b"\n"
+        found = len(reply.split(b":")[1].split())
+        spent = best([functools.partial(timed, *ask) for ask in asked.values()])
+        waited.append(Row(find[0], dict(zip(asked, spent)), found))
         row = [
-            functools.partial(timed_row, *ask, each, answers[0]) for ask, each in zip(asked, spent)
+            functools.partial(timed_row, *ask, each, reply)
+            for ask, each in zip(asked.values(), spent)
         ]
-        in_a_row.append((find[0], best(row), numbers))
-    for peer, _ in peers:
-        peer.close()
+        in_a_row.append(Row(find[0], dict(zip(asked, best(row))), found))
+        asked[ALONE][0].close()
+    for side in sides:
+        side.peer.close()
     return waited, in_a_row
 
 
@@ -263,21 +360,23 @@ def digits(spent):
 
 
 def show(title, rows, least, folder):
-    print(f"\n{title}\n")
-    print("| find | found | program, µs | FTS5, µs | Xapian, µs | to the better | loops in C, µs | to the loops |")
-    print("|---|---|---|---|---|---|---|---|")
+    """Prints a table of finds, and leaves it for the picture."""
+    names = [name for name in rows[0].spent if name != ALONE]
+    heads = ["find", "found", *(f"{name}, µs" for name in names), "to the best peer"]
+    heads += [f"{ALONE}, µs", "to these", "loops in C, µs", "to the loops"]
+    print(f"\n{title}\n\n| {' | '.join(heads)} |\n|{len(heads) * '---|'}")
     with open(f"{folder}/table", "w", encoding="utf-8") as table:
-        for name, spent, numbers in rows:
-            loops, found = least[name]
-            if found != len(numbers):
-                raise SystemExit(f"measure: the loops find {found} of {name!r}, not {len(numbers)}")
-            xapian = digits(spent[2]) if len(spent) > 2 else "-"
-            better = spent[0] / min(spent[1:])
-            print(
-                f"| {name} | {len(numbers):,} | {digits(spent[0])} | {digits(spent[1])} | {xapian} "
-                f"| {better:.2f} | {digits(loops)} | {spent[0] / loops:,.1f} |"
-            )
-            table.write("\t".join([name, *(f"{it:.1f}" for it in (spent + [0])[:3]), f"{loops:.1f}"]) + "\n")
+        for row in rows:
+            loops, found = least[row.name]
+            if found != row.found:
+                raise SystemExit(f"measure: the loops find {found} of {row.name!r}, not {row.found}")
+            ours, *theirs = (row.spent[name] for name in names)
+            cells = [row.name, f"{row.found:,}", *(digits(row.spent[name]) for name in names)]
+            cells += [f"{ours / min(theirs):.2f}", digits(row.spent[ALONE])]
+            cells += [f"{ours / row.spent[ALONE]:.2f}", digits(loops), f"{ours / loops:,.1f}"]
+            print(f"| {' | '.join(cells)} |", flush=True)
+            drawn = [row.spent.get(name, 0) for name in DRAWN] + [loops]
+            table.write("\t".join([row.name, *(f"{it:.1f}" for it in drawn)]) + "\n")
 
 
 def show_both(stored, asked, least, folder):
@@ -311,10 +410,10 @@ def main():
     least = limits([cut(text)[0] for text in texts], finds, folder)
     show_sizes(folder)
     stored = f"As they were filled, by {-(-len(texts) // BATCH)} commits"
-    show_both(stored, ask_all(program, folder, finds, "database"), least, folder)
+    show_both(stored, ask_all(open_sides(program, folder), finds, folder), least, folder)
     merge(program, folder)
     show_sizes(folder)
-    show_both("Merged into one", ask_all(program, folder, finds, "compact"), least, folder)
+    show_both("Merged into one", ask_all(open_sides(program, folder), finds, folder), least, folder)
     show_way(folder, finds[0][1])
 
 

@@ -38,7 +38,7 @@ def main():
         spent, asked = [], []
         for program in programs:
             peer = Peer(program, "run", f"{folder}/store")
-            spent.append(timed(peer, line)[0])
+            spent.append(timed(peer, line))
             peer.close()
             before, after = reads(program, folder, b""), reads(program, folder, 100 * line)
             asked.append("-" if after is None else f"{after - before:,}")

@@ -1,5 +1,5 @@
 # Draws the times of finds in a row, in one segment, of the table that measure.py leaves: class,
-# program, FTS5, Xapian and limit, in microseconds.
+# program, FTS5, Xapian, Lucene, the reply's bytes alone and loops in C, in microseconds.
 set terminal svg size 1080,420 font "sans,13" background "white"
 set output picture
 set title "A find among many in a row over a pipe, 100,000 documents in one segment, warm: microseconds"
@@ -16,4 +16,6 @@ set datafile separator "\t"
 plot table using 2:xtic(1) title "program" lc rgb "#1b6ca8", \
      "" using 3 title "FTS5" lc rgb "#d98e04", \
      "" using 4 title "Xapian" lc rgb "#7a9e3f", \
-     "" using 5 title "loops in C, no pipe" lc rgb "#999999"
+     "" using 5 title "Lucene" lc rgb "#a8324a", \
+     "" using 6 title "the reply's bytes alone" lc rgb "#555555", \
+     "" using 7 title "loops in C, no pipe" lc rgb "#bbbbbb"

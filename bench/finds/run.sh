@@ -1,6 +1,6 @@
 #!/bin/sh
 # Measures finds in committed documents, in 25 segments and merged into one, beside SQLite FTS5,
-# Xapian and plain loops in C over the same lists.
+# Xapian, Lucene and plain loops in C over the same lists.
 #   bench/finds/run.sh crates/pk_find/out/pk_find [LINES [PICTURE]]
 # The text, the stores and the peers lie in bench/finds/data. Without a picture's path none is drawn.
 program=${1:?name the program}

@@ -1,11 +1,13 @@
 // Xapian as a peer over a pipe.
-//   xapian fill PATH       makes a database of the lines of its input, committed each 4,096
+//   xapian fill PATH [positions]  makes a database of the lines of its input, committed each 4,096;
+//                                 with positions of words, which phrases want
 //   xapian delete PATH     deletes the documents of the numbers in its input, and commits
 //   xapian merge TO PATH.. at each line copies all of these, one behind the other, to one database of
 //                          compact tables, synced, and answers `merged`
 //   xapian ask PATH        answers a line each, as the program does
 // A line to ask has words and AND, OR, NOT behind what they join: `a b AND`; NOT takes the second
-// from the first, and `*` is every document.
+// from the first. `a+b` is a phrase, `a*` the words that begin so, and `*` is every document.
+#include <algorithm>
 #include <cctype>
 #include <iostream>
 #include <set>
@@ -14,29 +16,41 @@
 #include <vector>
 #include <xapian.h>
 
-static std::set<std::string> words_of(const std::string &text)
+static std::vector<std::string> words_of(const std::string &text)
 {
-    std::set<std::string> words;
+    std::vector<std::string> words;
     std::string word;
     for (unsigned char byte : text + " ")
         if (std::isalnum(byte) || byte >= 128)
             word += std::tolower(byte);
         else if (!word.empty()) {
-            words.insert(word.substr(0, 200));
+            words.push_back(word.substr(0, 200));
             word.clear();
         }
     return words;
 }
 
-static void fill(const char *path)
+static void add_words(Xapian::Document &document, const std::string &text, bool positions)
+{
+    const std::vector<std::string> words = words_of(text);
+    if (positions) {
+        Xapian::termpos place = 0;
+        for (const std::string &word : words)
+            document.add_posting(word, ++place);
+        return;
+    }
+    for (const std::string &word : std::set<std::string>(words.begin(), words.end()))
+        document.add_boolean_term(word);
+}
+
+static void fill(const char *path, bool positions)
 {
     Xapian::WritableDatabase base(path, Xapian::DB_CREATE_OR_OVERWRITE);
     std::string text;
     for (int count = 1; std::getline(std::cin, text); count++) {
         Xapian::Document document;
         document.set_data(text);
-        for (const std::string &word : words_of(text))
-            document.add_boolean_term(word);
+        add_words(document, text, positions);
         base.add_document(document);
         if (count % 4096 == 0)
             base.commit();
@@ -65,6 +79,21 @@ static void merge(const char *to, char **paths, int count)
     }
 }
 
+static Xapian::Query leaf_of(std::string token)
+{
+    if (token == "*")
+        return Xapian::Query::MatchAll;
+    if (token.back() == '*') {
+        token.pop_back();
+        return Xapian::Query(Xapian::Query::OP_WILDCARD, token);
+    }
+    if (token.find('+') == std::string::npos)
+        return Xapian::Query(token);
+    std::replace(token.begin(), token.end(), '+', ' ');
+    const std::vector<std::string> words = words_of(token);
+    return Xapian::Query(Xapian::Query::OP_PHRASE, words.begin(), words.end(), words.size());
+}
+
 static Xapian::Query query_of(const std::string &line)
 {
     std::vector<Xapian::Query> stack;
@@ -72,7 +101,7 @@ static Xapian::Query query_of(const std::string &line)
     std::string token;
     while (tokens >> token) {
         if (token != "AND" && token != "OR" && token != "NOT") {
-            stack.push_back(token == "*" ? Xapian::Query::MatchAll : Xapian::Query(token));
+            stack.push_back(leaf_of(token));
             continue;
         }
         const Xapian::Query second = stack.back();
@@ -109,7 +138,7 @@ int main(int argc, char **argv)
     const std::string task = argc > 2 ? argv[1] : "";
     std::ios::sync_with_stdio(false);
     if (task == "fill")
-        fill(argv[2]);
+        fill(argv[2], argc > 3);
     else if (task == "delete")
         erase(argv[2]);
     else if (task == "merge" && argc > 3)

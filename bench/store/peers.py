@@ -184,21 +184,29 @@ class Table(Fts5):
     table = "CREATE TABLE documents(text TEXT)"
 
 
+class Fts5Positions(Fts5):
+    """The same with positions of words, which phrases want."""
+
+    table = "CREATE VIRTUAL TABLE documents USING fts5(text)"
+
+
 class Xapian:
-    """A database of Xapian, by the program of bench/finds/xapian.cc."""
+    """A database of Xapian, by the program of bench/finds/xapian.cc; an index of Lucene, by that of
+    bench/finds/Lucene.java, which takes the same."""
 
     def __init__(self, program, path):
         self.program, self.path = program, path
 
-    def run(self, task, lines):
+    def run(self, task, lines, *more):
         """What the program prints to the lines."""
         text = "".join(f"{line}\n" for line in lines)
-        command = [self.program, task, self.path]
+        command = [self.program, task, self.path, *more]
         ran = subprocess.run(command, input=text, text=True, check=True, stdout=subprocess.PIPE)
         return ran.stdout
 
-    def fill(self, texts):
-        self.run("fill", texts)
+    def fill(self, texts, positions=False):
+        """Makes it of the texts; with positions of words where these are wanted."""
+        self.run("fill", texts, *["positions"] * positions)
 
     def delete(self, numbers):
         self.run("delete", numbers)
