@@ -1,13 +1,17 @@
 # Each target is one command, and can be typed by hand in its place.
-# demo and try run a session of the program; test is the merge gate, and rows, memory and client are
-# parts of it; check proves what has changed; mutants tries wrong bodies where a contract has
-# changed; soak kills what an archive over machines runs; install puts the program, its client and
-# their manuals in place; deb and dist make packages.
+# demo and try run a session of the program; taste proves one small crate; test is the merge gate,
+# and rows, memory and client are parts of it; check proves what has changed; mutants tries wrong
+# bodies where a contract has changed; soak kills what an archive over machines runs; install puts
+# the program, its client and their manuals in place; deb and dist make packages.
 
 SESSION = examples/mail.lines
 PROGRAM = crates/pk_find/out/pk_find
 STORE = $(CURDIR)/demo.store
 UNITS = 4096
+
+# What the program is made of: where one has changed, what stands on it is proved again.
+SOURCES = crates.txt $(wildcard crates/*/src/*.rt crates/*/specs/*.antt crates/*/proofs/*.antt \
+    crates/*/proofs/*/*.antt)
 
 # A Python that has distributed, with the client, its tests and the program.
 SHARDS = PYTHONPATH=$(CURDIR)/clients/python:$(CURDIR)/clients/python/tests \
@@ -27,20 +31,26 @@ PYTHON = $(shell python3 -c 'import sys; print(sys.base_prefix + "/bin/python3")
 VERSION = $(shell sed -n 's/^VERSION = "\(.*\)"/\1/p' clients/python/rubewola/commands.py)
 PACKAGES = $(CURDIR)/dist
 
-.PHONY: demo try test seals mutants client soak rows memory check fmt bench install uninstall deb dist
+.PHONY: demo try taste test seals mutants client soak rows memory check fmt bench install \
+    uninstall deb dist
 
-# Proves and builds the program, makes a store in a file, and answers a session over a small mail
-# archive.
-demo:
+# Makes a store in a file, and answers a session over a small mail archive; the program is proved and
+# built first, where it isn't there or its sources have changed.
+demo: $(PROGRAM)
 	rm -f $(STORE)
-	cd crates/pk_find && rt run -- create $(STORE) --units $(UNITS)
-	cd crates/pk_find && rt run -- run $(STORE) < ../../$(SESSION)
+	$(PROGRAM) create $(STORE) --units $(UNITS)
+	$(PROGRAM) run $(STORE) < $(SESSION)
 
 # Answers the same session before anything is proved.
 try:
 	rm -f $(STORE)
 	cd crates/pk_find && rt try -- create $(STORE) --units $(UNITS)
 	cd crates/pk_find && rt try -- run $(STORE) < ../../$(SESSION)
+
+# One small crate is proved, and a wrong body of it refused.
+taste:
+	cd crates/pk_vbyte && rt check
+	rt must-fail pk_vbyte
 
 # The seals of the mutants; the gate: every proof from nothing, each must-fail edit, each test, each
 # program twice; then tests of the built program, sessions that are killed, the engine's rows, each
@@ -87,13 +97,16 @@ fmt:
 	for crate in crates/*/; do (cd "$$crate" && rt fmt) || exit 1; done
 
 # Adding and finding 30 MB of English, beside SQLite FTS5; builds the program first.
-bench:
-	cd crates/pk_find && rt run -- --help
+bench: $(PROGRAM)
 	bench/words/run.sh $(PROGRAM)
 
-# Proves and builds the program, where it is not there.
-$(PROGRAM):
+# Proves and builds the program and all that it stands on; what is proved stays, if this is broken off.
+# A program that PROGRAM= names is taken as it is.
+crates/pk_find/out/pk_find: $(SOURCES)
+	@echo "The crates of the program are proved, the lowest first; at first this takes half an hour and"
+	@echo "more on four processors. Ctrl-C keeps what is proved. make try answers before any proof."
 	cd crates/pk_find && rt run -- --version
+	touch $@
 
 # make install PREFIX=~/.local: the program, the client as `rubewola` and `rubewola-shards`, the Python
 # packages below lib/rubewola, compiled, the manuals, completions for bash and zsh, and a timer for
