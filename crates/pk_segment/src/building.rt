@@ -63,8 +63,8 @@ pub fn size_of(alloc: Global, documents: &[Document], kind: u32) -> Result<u32, 
     Ok(plan.size())
 }
 
-/// The bytes of the segment of that kind of the documents, in memory that is taken once. For kind
-/// 2 the texts are cut into words first.
+/// The bytes of the segment of that kind of the documents. Its memory is taken once. For kind 2 the
+/// texts are cut into words first, and the index and its parts stand beside it.
 pub fn build(alloc: Global, documents: &[Document], kind: u32) -> Result<Vec<u8>, BuildFault>
     requires kind { IsKind kind }
     requires some { 0 < length documents.now }
@@ -79,8 +79,8 @@ pub fn build(alloc: Global, documents: &[Document], kind: u32) -> Result<Vec<u8>
     build_indexed(alloc, documents, &index)
 }
 
-/// The bytes of the segment of kind 2 of the documents, whose index is at hand, in memory that is
-/// taken once.
+/// The bytes of the segment of kind 2 of the documents, whose index is at hand. Its memory is taken
+/// once; beside it stand the posting lists and the dictionary, until they are put into it.
 pub fn build_indexed(
     alloc: Global,
     documents: &[Document],

@@ -58,31 +58,29 @@ fn numbers_in(alloc: Global, documents: &[Document]) -> Result<Vec<u32>, AllocEr
     Ok(numbers)
 }
 
-/// What a segment of kind 2 is going to have, before a byte of it is written.
+/// What a segment of kind 2 is going to have, before it is put together.
 #[derive(Drop)]
-pub(crate) struct IndexPlan<'a> {
-    // The numbers of the documents.
-    live: Vec<u32>,
-    // Their words, rising, each with its list.
-    rows: Vec<Row<'a>>,
-    // The dictionary.
+pub(crate) struct IndexPlan {
+    // How many words its documents have,
+    terms: usize,
+    // their dictionary,
     writer: DictWriter,
+    // and their posting lists, end to end.
+    lists: Vec<u8>,
     // How many bytes the header, the directory and the texts have,
     plain: u32,
-    // how many the posting lists,
-    postings: u32,
     // and how many the segment.
     size: u32,
 }
 
-// The dictionary of the words of documents, and how many bytes their posting lists have.
+// The dictionary of the words of documents, and their posting lists, end to end.
 fn plan_lists(
     alloc: Global,
     documents: &[Document],
     live: &[u32],
     rows: &[Row],
     list: &mut [u32],
-) -> Result<(DictWriter, u32), BuildFault>
+) -> Result<(DictWriter, Vec<u8>), BuildFault>
     requires are { AreDocuments (docs_of documents.now) }
     requires fits { segment_length (docs_of documents.now) 1 ≤ longest }
     requires live { live.now ≡ numbers_of (docs_of documents.now) }
@@ -92,9 +90,10 @@ fn plan_lists(
     ensures room { length list.new ≡ length list.old }
 {
     let mut writer = DictWriter::new(alloc);
-    let mut at: u32 = 0;
+    let mut lists = Vec::new(alloc);
     for row in rows {
         let count = both_into(live, row.list, list);
+        let at = lists.len() as u32;
         let bytes = length_of(&list[..count]);
         let place = ListPlace { at, bytes };
         if bytes > MAX_SEGMENT_BYTES - at {
@@ -104,51 +103,30 @@ fn plan_lists(
             return Err(BuildFault::TooLarge);
         }
         writer.add(row.word.as_bytes(), count as u32, place)?;
-        at += bytes;
+        put_list(&mut lists, &list[..count], bytes)?;
     }
-    Ok((writer, at))
+    Ok((writer, lists))
 }
 
-/// Puts the posting lists of the words of documents behind the bytes.
-fn put_lists(
-    out: &mut Vec<u8>,
-    documents: &[Document],
-    live: &[u32],
-    rows: &[Row],
-    list: &mut [u32],
-) -> Result<(), AllocError>
-    requires are { AreDocuments (docs_of documents.now) }
-    requires fits { segment_length (docs_of documents.now) 1 ≤ longest }
-    requires live { live.now ≡ numbers_of (docs_of documents.now) }
-    requires rows { AreRows rows.now (docs_of documents.now) }
-    requires room { length live.now ≤ length list.old }
-    ensures { OnOk result (out.new.items ≡ out.old.items ++ postings (docs_of documents.now)) }
-{
-    for row in rows {
-        let count = both_into(live, row.list, list);
-        put_list(out, &list[..count])?;
-    }
-    Ok(())
-}
-
-// Puts a posting list behind the bytes.
-fn put_list(out: &mut Vec<u8>, list: &[u32]) -> Result<(), AllocError>
-    requires { IsPosting list.now }
+// Puts a posting list of so many bytes behind the bytes.
+fn put_list(out: &mut Vec<u8>, list: &[u32], bytes: u32) -> Result<(), AllocError>
+    requires posting { IsPosting list.now }
+    requires bytes { bytes ≡ length (list_spelling list.now) }
     ensures { OnOk result (out.new.items ≡ out.old.items ++ list_spelling list.now) }
 {
     let at = out.len();
-    out.resize(at + length_of(list) as usize, 0)?;
+    out.resize(at + bytes as usize, 0)?;
     encode_into(list, &mut out[at..]);
     Ok(())
 }
 
-impl<'a> IndexPlan<'a> {
+impl IndexPlan {
     /// The plan for documents, of their index.
     pub(crate) fn of(
         alloc: Global,
         documents: &[Document],
-        index: &'a Index,
-    ) -> Result<IndexPlan<'a>, BuildFault>
+        index: &Index,
+    ) -> Result<IndexPlan, BuildFault>
         requires some { 0 < length documents.now }
         requires rising { IsStrictlyIncreasing (numbers_of (docs_of documents.now)) }
         requires least { All (λ d. 1 ≤ d.number.0) documents.now }
@@ -159,17 +137,16 @@ impl<'a> IndexPlan<'a> {
         let live = numbers_in(alloc, documents)?;
         let rows = index.rows(alloc, &live)?;
         let mut list = vec![in alloc; 0u32; live.len()]?;
-        let (writer, postings) = plan_lists(alloc, documents, &live, &rows, &mut list)?;
-        let size = u64::from(plain) + u64::from(postings) + writer.size() as u64;
+        let (writer, lists) = plan_lists(alloc, documents, &live, &rows, &mut list)?;
+        let size = u64::from(plain) + lists.len() as u64 + writer.size() as u64;
         if size > u64::from(MAX_SEGMENT_BYTES) {
             return Err(BuildFault::TooLarge);
         }
         Ok(IndexPlan {
-            live,
-            rows,
+            terms: rows.len(),
             writer,
+            lists,
             plain,
-            postings,
             size: size as u32,
         })
     }
@@ -188,26 +165,25 @@ impl<'a> IndexPlan<'a> {
         ensures { IfOk result (λ v. SegmentSpells v.items (docs_of documents.now) 2) }
     {
         let IndexPlan {
-            live,
-            rows,
+            terms,
             writer,
+            lists,
             plain,
-            postings,
             size,
         } = self;
         let count = documents.len() as u32;
+        let postings = lists.len() as u32;
         let header = Header {
             kind: 2,
             count,
             texts: plain - 24 - 12 * count,
             postings,
             dictionary: size - plain - postings,
-            terms: rows.len() as u32,
+            terms: terms as u32,
         };
-        let mut list = vec![in alloc; 0u32; live.len()]?;
         let mut out = Vec::with_capacity(alloc, size as usize)?;
         put_front(&mut out, header, documents)?;
-        put_lists(&mut out, documents, &live, &rows, &mut list)?;
+        out.extend_from_slice(&lists)?;
         let dictionary = writer.finish(alloc)?;
         out.extend_from_slice(&dictionary)?;
         Ok(out)

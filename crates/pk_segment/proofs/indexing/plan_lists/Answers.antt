@@ -1,5 +1,5 @@
 -- Word by word, by the list of each.
-use Rattle.std.proofs.Common.{◌∙◌, ◌+◌, ◌++◌, ◌∷◌, [], ℕ, List, length, take, drop, sym, ap, subst, arith}
+use Rattle.std.proofs.Common.{◌≡◌, ◌∙◌, ◌+◌, ◌++◌, ◌∷◌, [], ℕ, List, length, take, drop, sym, ap, subst, arith}
 use Rattle.std.proofs.lemmas.List.{length-append}
 use Rattle.std.proofs.lemmas.List.{take_all}
 use Rattle.pk_model.proofs.TermLemmas.{one_terms}
@@ -26,7 +26,7 @@ returns-then-bytes-at-clause-planned c =
     let i = c.loop-row.row-index in
     let list = list_found docs c.args.rows.now c.loop-row.row-index c.args.live.now _ c.loop-row-test.true c.requires.rows c.requires.live c.both_into-count.ensures.found in
     lists_too_long docs (words_in (take i rows)) (word_at rows i) (words_in (drop (i + 1) rows)) (sym (one_terms _ docs c.requires.rows.terms) ∙ split rows i c.loop-row-test.true)
-    (omega (arith, c.if-bytes-at.true, c.length_of-bytes.ensures, ap (λ (l : List ℕ). length (list_spelling l)) list, c.loop-row.invariant.at, c.loop-row.invariant.small))
+    (omega (arith, c.if-bytes-at.true, c.length_of-bytes.ensures, ap (λ (l : List ℕ). length (list_spelling l)) list, c.len-at.ensures, ap length c.loop-row.invariant.lists, c.loop-row.invariant.small))
 
 pub overflow_cast-count : goal.overflow_cast-count
 overflow_cast-count c =
@@ -42,8 +42,9 @@ returns-then-not-may_add-clause-planned c =
     let xs = words_in (take i rows) in
     let w = word_at rows i in
     let list = list_found docs c.args.rows.now c.loop-row.row-index c.args.live.now _ c.loop-row-test.true c.requires.rows c.requires.live c.both_into-count.ensures.found in
-    let same = item_is c.as_bytes.result.now w _ _ c.loop-row.at _ _ c.as_bytes.ensures.value (front_long _ _ _ c.both_into-count.ensures.within list) (c.length_of-bytes.ensures ∙ ap (λ (l : List ℕ). length (list_spelling l)) list) in
-    words_too_long docs xs w (words_in (drop (i + 1) rows)) c.loop-row.at (sym (one_terms _ docs c.requires.rows.terms) ∙ split rows i c.loop-row-test.true) c.loop-row.invariant.at
+    let at : c.len-at.result ≡ length (lists_of xs docs) = omega (arith, c.len-at.ensures, ap length c.loop-row.invariant.lists) in
+    let same = item_is c.as_bytes.result.now w _ _ c.len-at.result _ _ c.as_bytes.ensures.value (front_long _ _ _ c.both_into-count.ensures.within list) (c.length_of-bytes.ensures ∙ ap (λ (l : List ℕ). length (list_spelling l)) list) in
+    words_too_long docs xs w (words_in (drop (i + 1) rows)) c.len-at.result (sym (one_terms _ docs c.requires.rows.terms) ∙ split rows i c.loop-row-test.true) at
     (λ may. let yes = (c.may_add.ensures.exactly (items_at 0 xs docs) c.loop-row.invariant.added).1 (subst (MayFollow (items_at 0 xs docs)) (sym same) may) in cc (yes, c.if-not-may_add.true))
 
 pub overflow_cast-count-in-loop-row : goal.overflow_cast-count-in-loop-row
@@ -62,15 +63,17 @@ loop-row-preserved c =
     let lt = c.loop-row-test.true in
     let list = list_found docs c.args.rows.now c.loop-row.row-index c.args.live.now _ c.loop-row-test.true c.requires.rows c.requires.live c.both_into-count.ensures.found in
     let bytes = c.length_of-bytes.ensures ∙ ap (λ (l : List ℕ). length (list_spelling l)) list in
-    let same = item_is c.as_bytes-in-loop-row.result.now w _ _ c.loop-row.at _ _ c.as_bytes-in-loop-row.ensures.value (front_long _ _ _ c.both_into-count.ensures.within list) bytes in
-    let now = items_next xs w docs c.loop-row.at c.loop-row.invariant.at in
+    let at : c.len-at.result ≡ length (lists_of xs docs) = omega (arith, c.len-at.ensures, ap length c.loop-row.invariant.lists) in
+    let same = item_is c.as_bytes-in-loop-row.result.now w _ _ c.len-at.result _ _ c.as_bytes-in-loop-row.ensures.value (front_long _ _ _ c.both_into-count.ensures.within list) bytes in
+    let now = items_next xs w docs c.len-at.result at in
     let all = ap (λ (ws : List (List ℕ)). lists_of ws docs) (front_next rows i lt) ∙ lists_next xs w docs in
+    let put = c.in_ok-put_list.ensures ∙ ap (λ (l : List ℕ). c.loop-row.lists.items ++ list_spelling l) list ∙ ap (λ (l : List ℕ). l ++ list_spelling (list_with w docs)) c.loop-row.invariant.lists in
     record {
       added = subst (λ (es : List Item). HasAdded c.add.new.self es)
           (ap (λ (it : Item). items_at 0 xs docs ++ it ∷ []) same ∙ sym now ∙ ap (λ (ws : List (List ℕ)). items_at 0 ws docs) (sym (front_next rows i lt)))
           (c.in_ok-add.ensures.ok (items_at 0 xs docs) c.loop-row.invariant.added);
-      at = omega (arith, bytes, ap length all, length-append (lists_of xs docs) (list_spelling (list_with w docs)), c.loop-row.invariant.at);
-      small = omega (arith, c.if-bytes-at.false, c.loop-row.invariant.small);
+      lists = put ∙ sym all;
+      small = omega (arith, ap length put, length-append (lists_of xs docs) (list_spelling (list_with w docs)), bytes, at, c.if-bytes-at.false, c.loop-row.invariant.small);
       room = omega (arith, c.both_into-count.auto.out, c.loop-row.invariant.room);
     }
 
@@ -79,4 +82,10 @@ returns-clause-planned c =
     let docs = docs_of c.args.documents.now in
     let rows = c.args.rows.now in
     let all = ap words_in (take_all c.loop-row.row-index rows (omega (arith, c.loop-row-test.false))) ∙ one_terms _ docs c.requires.rows.terms in
-    of_all docs c.loop-row.writer c.loop-row.at (words_in (take c.loop-row.row-index rows)) all c.loop-row.invariant.added c.loop-row.invariant.at c.loop-row.invariant.small
+    of_all docs c.loop-row.writer c.loop-row.lists.items (words_in (take c.loop-row.row-index rows)) all c.loop-row.invariant.added c.loop-row.invariant.lists c.loop-row.invariant.small
+
+pub put_list-requires-clause-posting : goal.put_list-requires-clause-posting
+put_list-requires-clause-posting c =
+    let docs = docs_of c.args.documents.now in
+    let list = list_found docs c.args.rows.now c.loop-row.row-index c.args.live.now _ c.loop-row-test.true c.requires.rows c.requires.live c.both_into-count.ensures.found in
+    subst IsPosting (sym list) (list_posting (word_at c.args.rows.now c.loop-row.row-index) docs c.requires.are (few docs c.requires.fits))

@@ -8,7 +8,7 @@ use Rattle.pk_segment.proofs.indexing.plan_lists.Given as goal
 abbrev pub invariant-loop-row : goal.invariant-loop-row
 invariant-loop-row l = record {
   added : HasAdded l.writer (items_at 0 (map (λ row. row.word.now) (take l.row-index l.rows)) (docs_of l.documents));
-  at : l.at ≡ length (lists_of (map (λ row. row.word.now) (take l.row-index l.rows)) (docs_of l.documents));
-  small : l.at ≤ longest;
+  lists : l.lists.items ≡ lists_of (map (λ row. row.word.now) (take l.row-index l.rows)) (docs_of l.documents);
+  small : length l.lists.items ≤ longest;
   room : length l.list ≡ length l.fn.list;
 }

@@ -1,6 +1,8 @@
 -- The parts of the plan, and how long they make the segment.
-use Rattle.std.proofs.Common.{◌∙◌, List, Result, refl, sym, subst, arith}
+use Rattle.std.proofs.Common.{◌∙◌, List, Result, length, refl, sym, ap, subst, arith}
+use Rattle.std.proofs.lemmas.List.{length-map}
 use Rattle.std.proofs.lemmas.Result.{err_from_is_err_and}
+use Rattle.pk_model.proofs.TermLemmas.{one_terms}
 use Rattle.pk_index.specs.Terms.{AreRows}
 use Rattle.pk_index.specs.declared.terms.Row.{Row}
 use Rattle.pk_segment.specs.declared.building.BuildFault.{BuildFault}
@@ -33,21 +35,20 @@ pub returns-then-size-from : goal.returns-then-size-from
 returns-then-size-from c =
     let docs = docs_of c.args.documents.now in
     let planned = c.in_ok-writer.ensures.planned in
-    omega (arith, c.if-size-from.true, c.from.ensures, c.from-2.ensures, size_sum docs c.in_ok-plain.plain c.in_ok-writer.postings c.size.result c.in_ok-plain.ensures.0 planned.1 (c.size.ensures (items_of docs) planned.0))
+    omega (arith, c.if-size-from.true, c.from.ensures, c.len-2.ensures, size_sum docs c.in_ok-plain.plain _ c.size.result c.in_ok-plain.ensures.0 (ap length planned.1) (c.size.ensures (items_of docs) planned.0))
 
 pub returns : goal.returns
 returns c =
     let docs = docs_of c.args.documents.now in
     let planned = c.in_ok-writer.ensures.planned in
     let live = c.deref.ensures.value ∙ c.in_ok-live.ensures.numbers in
-    let whole = size_sum docs c.in_ok-plain.plain c.in_ok-writer.postings c.size.result c.in_ok-plain.ensures.0 planned.1 (c.size.ensures (items_of docs) planned.0) in
+    let whole = size_sum docs c.in_ok-plain.plain _ c.size.result c.in_ok-plain.ensures.0 (ap length planned.1) (c.size.ensures (items_of docs) planned.0) in
     record {
       are = are_documents c.args.documents.now c.requires.some c.requires.rising c.requires.least (c.in_ok-live.ensures.small refl);
-      live = c.in_ok-live.ensures.numbers;
-      rows = c.in_ok-rows.ensures docs c.requires.index live;
+      terms_are = omega (arith, c.len-3.ensures, length-map c.in_ok-rows.rows.items (λ (row : Row). row.word.now), ap length (one_terms _ docs (c.in_ok-rows.ensures docs c.requires.index live).terms));
       added = planned.0;
+      lists_are = planned.1;
       plain = c.in_ok-plain.ensures.0;
-      postings_are = planned.1;
-      size_is = omega (arith, c.from.ensures, c.from-2.ensures, whole);
-      fits = omega (arith, c.if-size-from.false, c.from.ensures, c.from-2.ensures, whole);
+      size_is = omega (arith, c.from.ensures, c.len-2.ensures, whole);
+      fits = omega (arith, c.if-size-from.false, c.from.ensures, c.len-2.ensures, whole);
     }
