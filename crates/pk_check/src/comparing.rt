@@ -7,11 +7,8 @@ ghost use Rattle.pk_posting.specs.Source.{IsLeft};
 ghost use Rattle.pk_posting.specs.Spelling.{spelling};
 ghost use Rattle.pk_segment.specs.Reading.{CountsReads, IsNoDamage};
 
-use pk_posting::{ByteSource, SourceFault, encode_into, length_of};
+use pk_posting::{ByteSource, MOST_LENT, SourceFault, encode_into, length_of};
 use pk_segment::ReadFault;
-
-/// The most bytes that a source lends in one call.
-const MOST_LENT: usize = 4096;
 
 // Whether the bytes are the same.
 fn is_same(a: &[u8], b: &[u8]) -> bool

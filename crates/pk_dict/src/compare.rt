@@ -9,7 +9,7 @@ ghost use Rattle.pk_posting.specs.Source.{IsRead};
 ghost use Rattle.pk_dict.specs.Source.{stretches_of};
 
 use crate::entry::DictPlace;
-use pk_posting::{ByteSource, SourceFault};
+use pk_posting::{ByteSource, MOST_LENT, SourceFault};
 
 // How many bytes two slices share at their fronts.
 pub(crate) fn shared_front(a: &[u8], b: &[u8]) -> usize
@@ -76,7 +76,7 @@ pub(crate) fn shared_with<S: ByteSource>(
     let most = (n as usize).min(term.len());
     let mut done: usize = 0;
     while done < most {
-        let size = (most - done).min(4096);
+        let size = (most - done).min(MOST_LENT);
         let more = shared_stretch(source, place, at + done as u32, size as u32, &term[done..])?;
         done += more;
         if more < size {

@@ -53,7 +53,7 @@ use crate::fields::{number, offset};
 use crate::head::Standing;
 use crate::look_up::{groups_of, narrow};
 use crate::steps::head;
-use pk_posting::{ByteSource, SourceFault};
+use pk_posting::{ByteSource, MOST_LENT, SourceFault};
 use std::alloc::{AllocError, Global};
 use std::vec::Vec;
 
@@ -208,7 +208,7 @@ fn append<S: ByteSource>(
 {
     let mut done: u32 = 0;
     while done < n {
-        let size = (n - done).min(4096);
+        let size = (n - done).min(MOST_LENT as u32);
         append_stretch(source, place, at + done, size, out)?;
         done += size;
     }

@@ -16,10 +16,8 @@ ghost use Rattle.std.specs.Prelude.{
   min,
   IfOk,
   IfErr,
-  IfSome,
   IsOk,
   IsErrOf,
-  IsSome,
   OnOk,
 };
 ghost use Rattle.std.proofs.Common.{◌∙◌, refl};
@@ -38,7 +36,7 @@ ghost use Rattle.pk_dict.specs.Windows.{
 
 use crate::entry::DictPlace;
 use crate::look_up::groups_of;
-use pk_posting::{ByteSource, SourceFault};
+use pk_posting::{ByteSource, MOST_LENT, SourceFault};
 
 /// How many bytes a window reads at once.
 pub(crate) const WINDOW: usize = 128;
@@ -71,8 +69,8 @@ pub struct Windows<'a, S: ByteSource> {
     split: u32,
     offsets: Window,
     groups: Window,
-    // A stretch that is longer than a window, while it is lent.
-    long: Option<[u8; 4096]>,
+    // Where a stretch that is longer than a window stands while it is lent.
+    long: &'a mut [u8; MOST_LENT],
     // How often the windows were asked.
     asked: u64,
     ghost offsets_are: { IsPartOf S.honest (S.content source.now) offsets },
@@ -89,9 +87,10 @@ impl<'a, S: ByteSource> Windows<'a, S> {
     ghost use Rattle.pk_dict.specs.contracts.windows.Windows.{the_row};
 
     /// Windows over the source in which a dictionary lies. They hold nothing yet, and were not
-    /// asked yet.
+    /// asked yet. Stretches that are longer than a window go through `long`, whatever it holds: one
+    /// array does for all the dictionaries of a find, and is not cleared for each.
     #[tactic(auto, using(crate::proofs::Holding::empty_part))]
-    pub fn on(source: &'a mut S, place: DictPlace) -> Windows<'a, S>
+    pub fn on(source: &'a mut S, place: DictPlace, long: &'a mut [u8; MOST_LENT]) -> Windows<'a, S>
         ensures source { result.source.now ≡ source.old }
         ensures same_reference { result.source.ghost_name ≡ source.entry.ghost_name }
         ensures split { result.split ≡ min (place.at + 4 * group_count place.terms) (2 ^ 32 - 1) }
@@ -102,7 +101,7 @@ impl<'a, S: ByteSource> Windows<'a, S> {
             split: place.at.saturating_add(4 * groups_of(place.terms)),
             offsets: EMPTY,
             groups: EMPTY,
-            long: None,
+            long,
             asked: 0,
         }
     }
@@ -135,10 +134,7 @@ impl<'a, S: ByteSource> Windows<'a, S> {
         if n as usize > WINDOW {
             self.read_long(at, n)?;
             let windows = &*self;
-            let Some(long) = &windows.long else {
-                unreachable!()
-            };
-            return Ok(&long[..n as usize]);
+            return Ok(&windows.long[..n as usize]);
         }
         let start = self.hold(at, n)?;
         let windows = &*self;
@@ -212,9 +208,8 @@ impl<'a, S: ByteSource> Windows<'a, S> {
             (S.asked self.old.source.now) self.old.offsets self.old.groups result
             self.new.offsets self.new.groups (S.asked self.new.source.now) }
 
-        ensures there { IsOk result → IsSome self.new.long }
-        ensures value { S.honest → OnOk result (IfSome self.new.long (λ long.
-            take n long ≡ take n (drop at (S.content self.old.source.now)))) }
+        ensures value { S.honest → OnOk result
+            (take n self.new.long.now ≡ take n (drop at (S.content self.old.source.now))) }
         ensures inside { IsOk result → at + n ≤ length (S.content self.old.source.now) }
         ensures damaged { IsErrOf result SourceFault.Damaged
             ↔ (length (S.content self.old.source.now) < at + n) }
@@ -223,13 +218,12 @@ impl<'a, S: ByteSource> Windows<'a, S> {
         if u64::from(self.source.len()) < u64::from(at) + u64::from(n) {
             return Err(SourceFault::Damaged);
         }
-        let mut buffer = [0u8; 4096];
-        if let Err(fault) = read_front(self.source, at, n, &mut buffer) {
+        let long = &mut *self.long;
+        if let Err(fault) = read_front(self.source, at, n, long) {
             self.offsets.held = 0;
             self.groups.held = 0;
             return Err(fault);
         }
-        self.long = Some(buffer);
         Ok(())
     }
 }

@@ -5,7 +5,7 @@ use Rattle.std.proofs.lemmas.List.{length-map, length-replicate}
 use Rattle.pk_disk.specs.Disk.{in_range}
 use Rattle.std.specs.Prelude.{All}
 use Rattle.std.specs.List.{AllByRecursion, flat_map, list_all, list_any}
-use Rattle.std.proofs.lemmas.Bool.{and_from, and_parts, le-ltb, lt-ltb, or_from, or_left}
+use Rattle.std.proofs.lemmas.Bool.{and_from, and_parts, le-ltb, or_from}
 use Rattle.std.proofs.lemmas.Grind.{flat_map-append}
 use Rattle.std.proofs.lemmas.List.Concat.{flat_map-cons}
 use Rattle.std.proofs.lemmas.List.Elements.{All-cons, All-nil, All-same}
@@ -15,9 +15,6 @@ use Rattle.pk_manifest.specs.declared.manifest.Part.{Part as Entry}
 use Rattle.pk_manifest.specs.Sound.{IsBody, SaysSound, extents_of, is_part, named, same_segment}
 use Rattle.pk_manifest.specs.Spelling.{Body}
 use Rattle.pk_manifest.proofs.Sound.{few_in, says_sound}
-use Rattle.pk_merge.specs.declared.fault.MergeFault.{MergeFault}
-use Rattle.pk_merge.specs.declared.fault.MergeFault.TheVariants as merging
-use Rattle.pk_merge.specs.Merging.{MergeFails}
 use Rattle.pk_model.specs.declared.commands.Refusal.{Refusal}
 use Rattle.pk_model.specs.declared.commands.Refusal.TheVariants.{Reopen, TextTooLong, BufferFull, NumbersUsedUp, NoSuchDocument, TooManySegments, SegmentTooLarge, Memory, Full, Damaged, Disk}
 use Rattle.pk_model.specs.Collection.{Doc, IsCollection}
@@ -25,8 +22,8 @@ use Rattle.pk_model.specs.Limits.{end_of_ids}
 use Rattle.pk_posting.specs.Posting.{IsPosting}
 use Rattle.pk_replace.specs.Claims.{AreApart, Claim, Each, IsAmong, IsBehind, IsInside, IsUntouched, places}
 use Rattle.pk_replace.proofs.ClaimLemmas.{each_weaker, of_among}
-use Rattle.pk_search.specs.declared.opened.OpenSegment.{OpenSegment}
-use Rattle.pk_search.specs.Opened.{AreOpenOf, IsOpenOf, present}
+use Rattle.pk_open.specs.declared.opened.OpenSegment.{OpenSegment}
+use Rattle.pk_open.specs.Opened.{AreOpenOf, IsOpenOf, present}
 use Rattle.pk_segment.specs.declared.segment.Segment.{Segment}
 use Rattle.pk_segment.specs.Opened.{IsSegmentOf}
 use Rattle.pk_segment.specs.Spelling.{longest, segment_length, segment_spelling}
@@ -37,7 +34,7 @@ use Rattle.pk_state.specs.Kept.{AreEntries, all_claims, claims_of, table_claims}
 use Rattle.pk_state.proofs.HoldsLemmas.{units_room}
 use Rattle.pk_state.proofs.MergeLemmas.{front_placed}
 use Rattle.pk_state.specs.Writing.{after_merge, is_too_large, new_entry, new_stored, replaced, segment_writes, table_writes, with_table, written_kind}
-use Rattle.pk_state.proofs.KindLemmas.{header_alone, written_is_kind}
+use Rattle.pk_state.proofs.KindLemmas.{written_is_kind}
 use Rattle.pk_state.proofs.MemberLemmas.{Above}
 use Rattle.pk_state.proofs.WholeLemmas.{collection_above}
 use Rattle.pk_layout.specs.declared.merging.MergePlan.{MergePlan}
@@ -47,7 +44,6 @@ use Rattle.pk_layout.specs.Merging.{AreMerged, IsMergedOpen, IsNewOf, IsSegmentT
 use Rattle.pk_layout.specs.Placed.{AreLaid}
 use Rattle.pk_layout.specs.declared.planning.Plan.{Plan}
 use Rattle.pk_layout.specs.Plan.{GoesTo, GoesOn, IsPlan, IsPlanOf, PromisesTable, entry_in, ids_in, laid_in, new_segments, table_bytes, tabled}
-use Rattle.pk_layout.specs.Refusing.{merge_refusal}
 use Rattle.pk_layout.specs.Plan.{IsGrown}
 use Rattle.pk_layout.proofs.ApartLemmas.{apart_back, apart_in, apart_out, in_by, laid_all, laid_apart, without_by}
 use Rattle.pk_layout.proofs.RelistLemmas.{among_front, apart_front, both_missed, either_weaker, front_missed}
@@ -68,11 +64,6 @@ new_fits (d ∷ docs) (Some new) is = (
   ap (λ n. n ∷ []) is.long,
   or_from (nat_lt longest (segment_length (d ∷ docs) written_kind)) false (le-ltb longest (segment_length (d ∷ docs) written_kind) (omega (arith, is.long, is.fits))) refl,
 )
-
--- and documents that don't
-pub passes_limit : (docs : List Doc) → longest < segment_length docs written_kind → is_too_large docs ≡ true
-passes_limit [] long = absurd (omega (arith, long, header_alone written_kind))
-passes_limit (d ∷ docs) long = or_left (nat_lt longest (segment_length (d ∷ docs) written_kind)) false (lt-ltb longest (segment_length (d ∷ docs) written_kind) long)
 
 -- each length is at least 1
 some_lengths : (new : Option NewSegment) → IsSized new → AllByRecursion (λ (n : ℕ). 1 ≤ n) (lengths_in new)
@@ -502,14 +493,6 @@ module _ (size : ℕ) (b : Body) (is : IsBody (units_in size) b) (generation : b
   merge_answers new (Err NumbersUsedUp) new_is plans = absurd plans
   merge_answers new (Err NoSuchDocument) new_is plans = absurd plans
   merge_answers new (Err TooManySegments) new_is plans = absurd plans
-
--- nor where nothing was prepared
-pub fault_answers : (b : Body) (opened : List OpenSegment) (stored : List Stored) (from n : ℕ) (fault : MergeFault) → MergeFails (live_in (run_of from n stored)) written_kind fault → PlansMergeAs b opened stored from n (Err (merge_refusal fault))
-fault_answers b opened stored from n merging.TooLarge h = passes_limit (live_in (run_of from n stored)) h
-fault_answers b opened stored from n merging.Damaged h = absurd h
-fault_answers b opened stored from n merging.Disk h = tt
-fault_answers b opened stored from n merging.Memory h = tt
-fault_answers b opened stored from n merging.NotWritten h = absurd h
 
 -- WHATEVER THE SEGMENTS ARE
 module _ (size : ℕ) (b : Body) (is : IsBody (units_in size) b) (generation : b.generation < end_of_ids) (ids : b.next_segment < end_of_ids) (from n : ℕ) (some : 1 ≤ n) (within : from + n ≤ length b.entries)

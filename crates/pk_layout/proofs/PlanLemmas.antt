@@ -1,5 +1,5 @@
 -- What planning a commit rests on, and which plan it makes.
-use Rattle.std.proofs.Common.{◌≡◌, ◌⊎◌, inl, inr, ℕ, suc, ◌+◌, ◌*◌, ◌==◌, ◌<◌, ◌≤◌, ◌++◌, true, false, nat_lt, List, [], ◌∷◌, length, length-append, get_or, map, refl, sym, ◌∙◌, ap, subst, arith, append-nil, append_assoc, drop, take, None, Ok, Err, Result}
+use Rattle.std.proofs.Common.{◌≡◌, ◌⊎◌, inl, inr, ℕ, suc, ◌+◌, ◌*◌, ◌==◌, ◌<◌, ◌≤◌, ◌++◌, true, false, nat_lt, List, [], ◌∷◌, length, length-append, map, refl, sym, ◌∙◌, ap, subst, arith, append-nil, append_assoc, drop, take, None, Ok, Err, Result}
 use Rattle.std.specs.Prelude.{All, if◌then◌else◌}
 use Rattle.std.specs.List.{AllByRecursion, flat_map, list_all}
 use Rattle.std.proofs.lemmas.Bool.{and_from, and_parts, le-ltb, lt-ltb, or_from, or_left}
@@ -21,7 +21,7 @@ use Rattle.pk_model.specs.declared.commands.Refusal.{Refusal}
 use Rattle.pk_model.specs.declared.commands.Refusal.TheVariants.{Reopen, TextTooLong, BufferFull, NumbersUsedUp, NoSuchDocument, TooManySegments, SegmentTooLarge, Memory, Full, Damaged, Disk as Device}
 use Rattle.pk_posting.specs.Posting.{IsPosting}
 use Rattle.pk_replace.specs.Claims.{Claim}
-use Rattle.pk_search.specs.Opened.{IsOpenOf}
+use Rattle.pk_open.specs.Opened.{IsOpenOf}
 use Rattle.pk_segment.specs.declared.segment.Segment.{Segment}
 use Rattle.pk_segment.specs.Opened.{IsSegmentOf}
 use Rattle.pk_segment.specs.Spelling.{SegmentSpells, longest, segment_length}
@@ -35,7 +35,7 @@ use Rattle.pk_manifest.specs.Sound.{is_part}
 use Rattle.pk_model.specs.Limits.{end_of_ids, end_of_numbers}
 use Rattle.pk_replace.specs.Claims.{AreApart, Each, IsAmong, IsBehind, IsInside, places}
 use Rattle.pk_replace.proofs.ClaimLemmas.{each_weaker, of_among}
-use Rattle.pk_search.specs.Opened.{AreOpenOf, present}
+use Rattle.pk_open.specs.Opened.{AreOpenOf, present}
 use Rattle.pk_state.specs.Committed.{Stored}
 use Rattle.pk_state.specs.Kept.{AreEntries, all_claims, claims_of, table_claims}
 use Rattle.pk_state.proofs.MergeLemmas.{front_placed}
@@ -48,7 +48,7 @@ use Rattle.pk_layout.proofs.ExtentLemmas.{laid_inside, laid_missed, next_untouch
 use Rattle.pk_disk.specs.declared.units.Extent.{Extent}
 use Rattle.pk_manifest.specs.declared.manifest.Part.{Part as Entry}
 use Rattle.pk_manifest.specs.Spelling.{Body, table_size}
-use Rattle.pk_search.specs.declared.opened.OpenSegment.{OpenSegment}
+use Rattle.pk_open.specs.declared.opened.OpenSegment.{OpenSegment}
 use Rattle.pk_state.specs.Writing.{next_body, table_writes, with_table}
 use Rattle.pk_layout.proofs.ApartLemmas.{any_out, apart_back, apart_in, apart_out, laid_all, laid_apart, placed_all, placed_long}
 use Rattle.pk_manifest.proofs.Sound.{few_in, says_sound}

@@ -17,8 +17,8 @@ use Rattle.pk_manifest.specs.Sound.{dead_extents, extents_of, is_dead, is_extent
 use Rattle.pk_posting.specs.Spelling.{spelling}
 use Rattle.pk_posting.proofs.SpellingLemmas.{length_spelling}
 use Rattle.pk_replace.specs.Claims.{Claim, Each, IsAmong}
-use Rattle.pk_search.specs.declared.opened.OpenSegment.{OpenSegment}
-use Rattle.pk_search.specs.Opened.{AreOpenOf, IsOpenOf, pends, present, with_deleted}
+use Rattle.pk_open.specs.declared.opened.OpenSegment.{OpenSegment}
+use Rattle.pk_open.specs.Opened.{AreOpenOf, IsOpenOf, pends, present, with_deleted}
 use Rattle.pk_space.specs.Places.{PlacedAs}
 use Rattle.pk_state.specs.Committed.{Stored, lists}
 use Rattle.pk_state.specs.Kept.{AreEntries, IsEntry, IsList, IsSegment, claims_in, claims_of}

@@ -10,8 +10,8 @@ use Rattle.pk_posting.specs.Posting.{IsPosting}
 use Rattle.pk_posting.specs.Spelling.{spelling}
 use Rattle.pk_replace.specs.Claims.{claim_of}
 use Rattle.pk_replace.specs.declared.pieces.Piece.{Piece}
-use Rattle.pk_search.specs.declared.opened.OpenSegment.{OpenSegment}
-use Rattle.pk_search.specs.Opened.{pends}
+use Rattle.pk_open.specs.declared.opened.OpenSegment.{OpenSegment}
+use Rattle.pk_open.specs.Opened.{pends}
 use Rattle.pk_layout.specs.Plan.{CanBeWritten, laid_in, new_lists}
 use Rattle.pk_layout.specs.Plan.{IsGrown}
 use Rattle.pk_layout.proofs.SizeLemmas.{least_list, most_list}

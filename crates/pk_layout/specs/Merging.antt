@@ -6,12 +6,8 @@ use Rattle.std.specs.List.{list_any}
 use Rattle.pk_disk.specs.Disk.{also, in_range}
 use Rattle.pk_disk.specs.Units.{start_of}
 use Rattle.pk_disk.specs.declared.units.Extent.{Extent}
-use Rattle.pk_join.specs.declared.input.MergeInput.{MergeInput}
-use Rattle.pk_manifest.specs.declared.manifest.Part.{Part as Entry}
 use Rattle.pk_manifest.specs.Sound.{named}
 use Rattle.pk_manifest.specs.Spelling.{Body, view}
-use Rattle.pk_merge.specs.declared.prepared.Prepared.{Prepared}
-use Rattle.pk_merge.specs.Prepared.{IsPrepared}
 use Rattle.pk_model.specs.declared.commands.Refusal.{Refusal}
 use Rattle.pk_model.specs.declared.commands.Refusal.TheVariants.{SegmentTooLarge, Full, Memory}
 use Rattle.pk_model.specs.declared.commands.Refusal.TheVariants.{Damaged, Disk}
@@ -19,8 +15,8 @@ use Rattle.pk_model.specs.Collection.{Doc}
 use Rattle.pk_posting.specs.Posting.{IsPosting}
 use Rattle.pk_replace.specs.Claims.{AreApart, Claim, Each, IsAmong, IsInside, IsUntouched}
 use Rattle.pk_replace.specs.Claims.{claim_of, places}
-use Rattle.pk_search.specs.declared.opened.OpenSegment.{OpenSegment}
-use Rattle.pk_search.specs.Opened.{present}
+use Rattle.pk_open.specs.declared.opened.OpenSegment.{OpenSegment}
+use Rattle.pk_open.specs.Opened.{present}
 use Rattle.pk_segment.specs.Opened.{IsSegmentOf}
 use Rattle.pk_segment.specs.Spelling.{AreDocuments, longest, segment_length}
 use Rattle.pk_space.specs.Places.{FullAs, PlacedAs}
@@ -32,15 +28,6 @@ use Rattle.pk_layout.specs.declared.merging.MergePlan.{MergePlan}
 use Rattle.pk_layout.specs.declared.merging.NewSegment.{NewSegment}
 use Rattle.pk_layout.specs.Plan.{GoesOn, GoesTo, IsPlan, IsPlanOf, PromisesTable, entry_in, ids_in, laid_in}
 use Rattle.pk_layout.specs.Plan.{new_segments, table_bytes, tabled}
-
--- the entry's extent has no position of a stretch
-abbrev pub EntryApart : ℕ → ℕ → Entry → Type 0
-EntryApart start end e =
-    (start_of e.extent + e.extent.bytes ≤ start) ⊎ (end ≤ start_of e.extent)
-
--- the entry's extent begins at a place at the earliest
-abbrev pub BeginsFrom : ℕ → Entry → Type 0
-BeginsFrom least e = least ≤ start_of e.extent
 
 -- the number is deleted in the segment, and no commit has taken its deletion
 abbrev pub is_pending_of : ℕ → OpenSegment → Bool
@@ -229,16 +216,3 @@ PlansMergeRightly size b opened n new (Ok m) = PlansRightly size b opened n new 
 PlansMergeRightly size b opened n new (Err (Full need largest)) =
     FullAs b.units (named b) (lengths_merged b n new) need largest
 PlansMergeRightly size b opened n new (Err why) = Unit {0}
-
--- what is prepared opens as what is going to be written, where it is a merge of some documents
-abbrev pub OpensRun : Option Prepared → Result (Option NewSegment) Refusal → Type 0
-OpensRun None (Ok None) = Unit {0}
-OpensRun None (Ok (Some new)) = ⊥
-OpensRun (Some p) (Ok None) = ⊥
-OpensRun (Some p) (Ok (Some new)) = (new.bytes ≡ p.size) × IsSized (Some new)
-    × ((bytes : List ℕ) (inputs : List MergeInput) (stored : List Stored)
-    → IsPrepared bytes inputs stored p → IsSegmentTo (live_in stored) new)
-OpensRun None (Err why) = ⊥
-OpensRun (Some p) (Err Damaged) = (bytes : List ℕ) (inputs : List MergeInput)
-    (stored : List Stored) → IsPrepared bytes inputs stored p → ⊥
-OpensRun (Some p) (Err why) = ⊥

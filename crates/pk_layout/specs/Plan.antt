@@ -23,9 +23,9 @@ use Rattle.pk_replace.specs.Held.{IsNext}
 use Rattle.pk_segment.specs.declared.segment.Segment.{Segment}
 use Rattle.pk_segment.specs.Opened.{IsSegmentOf}
 use Rattle.pk_posting.specs.Spelling.{spelling as list_spelling}
-use Rattle.pk_search.specs.declared.opened.OpenSegment.{OpenSegment}
-use Rattle.pk_search.specs.Opened.{AreOpenOf, pends, present}
-pub use Rattle.pk_search.specs.Opening.{IsGrown}
+use Rattle.pk_open.specs.declared.opened.OpenSegment.{OpenSegment}
+use Rattle.pk_open.specs.Opened.{AreOpenOf, pends, present}
+pub use Rattle.pk_open.specs.Opening.{IsGrown}
 use Rattle.pk_segment.specs.Spelling.{SegmentSpells, longest}
 use Rattle.pk_segment.specs.Spelling.{segment_length, segment_spelling}
 use Rattle.pk_space.specs.declared.runs.Full.{Full as NoRoom}

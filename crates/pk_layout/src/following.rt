@@ -11,7 +11,7 @@ use crate::planning::{table_in, written_kind};
 use pk_dead::Dead;
 use pk_disk::Extent;
 use pk_manifest::{Manifest, Part};
-use pk_search::OpenSegment;
+use pk_open::OpenSegment;
 use pk_segment::Segment;
 use std::alloc::{AllocError, Global};
 
@@ -64,33 +64,6 @@ pub(crate) fn put_settled(
         })?;
     }
     Ok(())
-}
-
-/// Puts the open segments behind the others, as they are.
-pub(crate) fn put_copies(
-    alloc: Global,
-    out: &mut Vec<OpenSegment>,
-    opened: &[OpenSegment],
-) -> Result<(), AllocError>
-    ensures { OnOk result (out.new.items ≡ out.old.items ++ opened.now) }
-{
-    for segment in opened {
-        out.push(OpenSegment {
-            segment: segment.segment,
-            dead: segment.dead.copy(alloc)?,
-            deleted: segment.deleted.copy(alloc)?,
-        })?;
-    }
-    Ok(())
-}
-
-/// Copies of the open segments.
-pub fn copy_of(alloc: Global, opened: &[OpenSegment]) -> Result<Vec<OpenSegment>, AllocError>
-    ensures { IfOk result (λ v. v.items ≡ opened.now) }
-{
-    let mut copies = Vec::with_capacity(alloc, opened.len())?;
-    put_copies(alloc, &mut copies, opened)?;
-    Ok(copies)
 }
 
 /// The open segments with all their deletions in their lists, and a new one.

@@ -3,36 +3,25 @@
 //!
 //! What is uncommitted stays so: deletions that no commit has taken are pending ones of the new
 //! segment.
-ghost use Rattle.std.specs.Prelude.{◌≡◌, ◌≤◌, ◌<◌, ◌+◌, List, ℕ, All, Some, None, Ok, length};
+ghost use Rattle.std.specs.Prelude.{◌≡◌, ◌≤◌, ◌<◌, ◌+◌, Some, None, Ok, length};
 ghost use Rattle.std.specs.Prelude.{IfOk};
-ghost use Rattle.pk_layout.specs.Merging.{BeginsFrom, EntryApart};
-ghost use Rattle.pk_layout.specs.Merging.{IsSized, OpensRun, PlansMerged, PutsPending, TakesPending};
+ghost use Rattle.pk_layout.specs.Merging.{IsSized, PlansMerged, PutsPending, TakesPending};
 ghost use Rattle.pk_layout.specs.Merging.{body_merged, opened_in};
 ghost use Rattle.pk_layout.specs.Plan.{tabled};
-ghost use Rattle.pk_layout.specs.Refusing.{merge_refusal};
 ghost use Rattle.pk_manifest.specs.Sound.{IsBody};
 ghost use Rattle.pk_manifest.specs.Spelling.{view};
-ghost use Rattle.pk_manifest.specs.Bodies.{bodies_end};
-ghost use Rattle.pk_join.specs.Inputs.{HasKind, LiesInside, SpellsInputs};
-ghost use Rattle.pk_merge.specs.Output.{LiesApart};
-ghost use Rattle.pk_merge.specs.Streaming.{LiesBehind};
 ghost use Rattle.pk_model.specs.Limits.{end_of_ids};
-ghost use Rattle.pk_search.specs.Opened.{AreOpenOf};
-ghost use Rattle.pk_state.specs.Committed.{Stored};
-ghost use Rattle.pk_state.specs.Holds.{SpellsEntries};
-ghost use Rattle.pk_state.specs.Kept.{HaveKinds, LieInside};
 ghost use Rattle.pk_state.specs.Writing.{replaced};
 
-use crate::following::{next_manifest, put_copies};
+use crate::following::next_manifest;
 use crate::placing::place_behind;
 use crate::planning::{Plan, pieces_with, plan_for};
 use pk_dead::Dead;
 use pk_disk::Extent;
-use pk_manifest::{Manifest, Part};
-use pk_merge::{MergeFault, MergeInput, Prepared};
+use pk_manifest::Manifest;
 use pk_model::Refusal;
+use pk_open::{OpenSegment, put_copies};
 use pk_replace::Piece;
-use pk_search::OpenSegment;
 use pk_segment::Segment;
 use std::alloc::{AllocError, Global};
 
@@ -58,46 +47,6 @@ pub struct MergePlan {
 
 /// The most numbers of a deletion list.
 pub const MAX_DELETED: u32 = 134_217_728;
-
-/// What a fault of a merge refuses a command as.
-pub fn refusal_of(fault: MergeFault) -> Refusal
-    ensures { result ≡ merge_refusal fault }
-{
-    match fault {
-        MergeFault::TooLarge => Refusal::SegmentTooLarge,
-        MergeFault::Damaged => Refusal::Damaged,
-        MergeFault::Disk | MergeFault::NotWritten => Refusal::Disk,
-        MergeFault::Memory => Refusal::Memory,
-    }
-}
-
-/// The segments as inputs of a merge, with the deletions that are committed.
-pub fn inputs_of<'a>(
-    alloc: Global,
-    entries: &[Part],
-    opened: &'a [OpenSegment],
-) -> Result<Vec<MergeInput<'a>>, AllocError>
-    ensures spelled { IfOk result (λ v. (bytes : List ℕ) (stored : List Stored)
-        → SpellsEntries bytes entries.now stored → AreOpenOf opened.now stored
-        → SpellsInputs bytes v.items stored) }
-    ensures inside { IfOk result (λ v. (size : ℕ) → LieInside size entries.now
-        → All (LiesInside size) v.items) }
-    ensures kinds { IfOk result (λ v. HaveKinds entries.now → All HasKind v.items) }
-    ensures apart { IfOk result (λ v. (start end : ℕ) → All (EntryApart start end) entries.now
-        → All (LiesApart start end) v.items) }
-    ensures behind { IfOk result (λ v. All (BeginsFrom bodies_end) entries.now
-        → All LiesBehind v.items) }
-{
-    let mut inputs = Vec::with_capacity(alloc, entries.len())?;
-    for (entry, segment) in entries.iter().zip(opened) {
-        inputs.push(MergeInput {
-            extent: entry.extent,
-            kind: entry.kind,
-            dead: &segment.dead,
-        })?;
-    }
-    Ok(inputs)
-}
 
 // Puts the numbers whose deletion in the segment is not committed among the others.
 fn put_pending(segment: &OpenSegment, pending: &mut Dead) -> Result<(), Refusal>
@@ -262,22 +211,4 @@ pub fn plan_merged(
         Some(new) => plan_one(alloc, manifest, opened, from, count, new),
         None => plan_none(alloc, manifest, opened, from, count),
     }
-}
-
-/// The segment of what is prepared: what a merge is going to write, if that is anything.
-///
-/// Refused as damaged where what is prepared opens as no segment, which is that of no merge.
-pub fn new_segment(prepared: &Option<Prepared>) -> Result<Option<NewSegment>, Refusal>
-    ensures { OpensRun prepared.now result }
-{
-    let Some(prepared) = prepared else {
-        return Ok(None);
-    };
-    let Some(segment) = prepared.segment() else {
-        return Err(Refusal::Damaged);
-    };
-    Ok(Some(NewSegment {
-        bytes: prepared.size(),
-        segment,
-    }))
 }

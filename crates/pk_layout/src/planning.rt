@@ -14,9 +14,9 @@ ghost use Rattle.pk_state.specs.Writing.{table_writes, written_kind};
 
 use pk_disk::Extent;
 use pk_manifest::{Manifest, NO_TABLE};
+use pk_open::OpenSegment;
 use pk_posting::SliceSource;
 use pk_replace::Piece;
-use pk_search::OpenSegment;
 use pk_segment::Segment;
 use std::alloc::{AllocError, Global};
 

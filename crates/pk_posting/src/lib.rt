@@ -58,4 +58,4 @@ pub use decoding::{DecodeFault, decode};
 pub use encoding::{encode, encode_into, length_of};
 pub use fields::{ListPlace, Shape, Skip, skip_of};
 pub use parts::{block_in, last_in, tail_in};
-pub use source::{ByteSource, SliceSource, SourceFault};
+pub use source::{ByteSource, MOST_LENT, SliceSource, SourceFault};

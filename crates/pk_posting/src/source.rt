@@ -7,6 +7,9 @@ ghost use Rattle.std.specs.Borrow.{sem};
 ghost use Rattle.std.specs.Io.BufRead.{Rests};
 ghost use Rattle.pk_posting.specs.Source.{IsAskedOnce};
 
+/// How many bytes a source lends at once, at most.
+pub const MOST_LENT: usize = 4096;
+
 /// Why a source lends no bytes.
 #[derive(Clone, Copy, Debug, PartialEq, Eq, Drop)]
 pub enum SourceFault {

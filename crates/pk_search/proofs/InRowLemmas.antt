@@ -1,5 +1,5 @@
 -- Words in a row, in the text of the document of a number.
-use Rattle.std.proofs.Common.{◌≡◌, ◌∙◌, ◌&&◌, ◌||◌, ◌<◌, ◌==◌, ℕ, zero, suc, Bool, true, false, true≢false, cond, nat_eq, List, [], ◌∷◌, length, Option, Some, None, All, Result, Err, String, Global, string_bytes, eq-eqb, refl, sym, ap, subst, arith}
+use Rattle.std.proofs.Common.{◌≡◌, ◌∙◌, ◌&&◌, ◌||◌, ℕ, zero, suc, Bool, true, false, true≢false, cond, nat_eq, List, [], ◌∷◌, Option, Some, None, All, Result, Err, String, Global, string_bytes, eq-eqb, refl, sym, ap, subst, arith}
 use Rattle.std.specs.Prelude.{IsErrAnd, MatchResult, find}
 use Rattle.std.specs.List.Sorted.{IsStrictlyIncreasing}
 use Rattle.std.specs.Option.{option_map}
@@ -11,7 +11,6 @@ use Rattle.pk_model.specs.Words.{words_of}
 use Rattle.pk_plan.proofs.FoundLemmas.{found_same, hit_here, hit_later}
 use Rattle.pk_plan.specs.Plans.{Both, Everything, Operation, found}
 use Rattle.pk_segment.specs.declared.fault.ReadFault.{ReadFault}
-use Rattle.pk_segment.specs.declared.fault.ReadFault.TheVariants.{Memory}
 use Rattle.pk_segment.specs.Reading.{IsNoDamage, text_of}
 use Rattle.pk_sets.proofs.CallerLemmas.{has_intersection}
 use Rattle.pk_sets.proofs.IntersectionLemmas.{Rising, eq_true}

@@ -1,7 +1,6 @@
 //! The posting lists of all words of a segment that begin alike, united.
-ghost use Rattle.std.specs.Prelude.{◌≡◌, ℕ, List, All, length, OnOk};
+ghost use Rattle.std.specs.Prelude.{◌≡◌, ℕ, List, length, IfOk, MatchResult, OnOk};
 ghost use Rattle.std.specs.List.Sorted.{IsStrictlyIncreasing};
-ghost use Rattle.pk_match.specs.Uniting.{items_of, union_of};
 ghost use Rattle.pk_model.specs.Collection.{Doc, answer};
 ghost use Rattle.pk_model.specs.Tree.{Prefix};
 ghost use Rattle.pk_search.specs.Left.{IsLeftByRead};
@@ -9,8 +8,8 @@ ghost use Rattle.pk_search.specs.Matching.{ListLies, PutsAs};
 ghost use Rattle.pk_segment.specs.Indexed.{list_with};
 ghost use Rattle.pk_segment.specs.Listing.{LeadsTo};
 ghost use Rattle.pk_segment.specs.Opened.{IsSegmentOf};
+ghost use Rattle.pk_segment.specs.Reading.{IsNoDamage};
 ghost use Rattle.pk_segment.specs.Spelling.{IndexSpells};
-ghost use Rattle.pk_sets.specs.Sets.{union};
 
 use crate::lists::{copy_out, place_of};
 use pk_dict::Entry;
@@ -40,35 +39,31 @@ pub(crate) fn put_begun<S: ByteSource>(
     let mut lists = Vec::new(alloc);
     let mut spare = Vec::new(alloc);
     for i in 0..terms.len() {
-        stack_entry(alloc, source, segment, terms[i].1, &mut lists, &mut spare)?;
+        let list = list_of_entry(alloc, source, segment, terms[i].1)?;
+        stack_list(&mut lists, list, &mut spare)?;
     }
     unite_stacked(&mut lists, out, &mut spare)?;
     Ok(())
 }
 
-// Puts the list that an entry leads to on the stack.
-fn stack_entry<S: ByteSource>(
+// The list that an entry leads to.
+fn list_of_entry<S: ByteSource>(
     alloc: Global,
     source: &mut S,
     segment: &Segment,
     entry: Entry,
-    lists: &mut Vec<Vec<u32>>,
-    spare: &mut Vec<u32>,
-) -> Result<(), ReadFault>
-    requires { All IsStrictlyIncreasing (items_of lists.old.items) }
+) -> Result<Vec<u32>, ReadFault>
     ensures numbers { S.honest → (docs : List Doc) → IndexSpells (S.content source.old) docs
         → IsSegmentOf segment.now docs → (word : List ℕ) → LeadsTo docs word entry
-        → PutsAs (union (union_of (items_of lists.old.items)) (list_with word docs))
-        (union_of (items_of lists.new.items)) result }
-    ensures rising { OnOk result (All IsStrictlyIncreasing (items_of lists.new.items)) }
+        → MatchResult result (λ list. list.items ≡ list_with word docs) IsNoDamage }
+    ensures rising { IfOk result (λ list. IsStrictlyIncreasing list.items) }
     ensures left { IsLeftByRead S.honest S.content S.failures S.keeps
         result source.old source.new }
 {
     let lies = place_of(segment, entry)?;
     let mut list = Vec::new(alloc);
     copy_rising(source, lies, entry.frequency, &mut list)?;
-    stack_list(lists, list, spare)?;
-    Ok(())
+    Ok(list)
 }
 
 // Puts the list of so many numbers that lies at a place into `out`. `Damaged` where the numbers

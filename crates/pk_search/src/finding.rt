@@ -14,8 +14,7 @@ ghost use Rattle.pk_plan.specs.Plans.{IsPlanFor};
 ghost use Rattle.pk_plan.specs.Texts.{has_phrase, reads_texts};
 ghost use Rattle.pk_plan.specs.Words.{texts};
 ghost use Rattle.pk_search.specs.Matching.{AreEntriesOf, AreKept, EntriesAs};
-ghost use Rattle.pk_search.specs.Opened.{AreOpenOf, present, with_deleted};
-ghost use Rattle.pk_search.specs.Repeats.{AreFirsts};
+ghost use Rattle.pk_open.specs.Opened.{AreOpenOf, present, with_deleted};
 ghost use Rattle.pk_segment.specs.Opened.{IsSegmentOf};
 ghost use Rattle.pk_segment.specs.Spelling.{IndexSpells, SegmentSpells};
 ghost use Rattle.pk_segment.specs.Reading.{CountsReads, IsNoDamage};
@@ -24,19 +23,19 @@ ghost use Rattle.pk_state.specs.Holds.{IndexesEntries, IndexesEntry};
 ghost use Rattle.pk_state.specs.Kept.{LieInside};
 
 use crate::hits::put_hit;
-use crate::listed::{WordLists, frequencies_of, look_up};
-use crate::opened::OpenSegment;
+use crate::listed::{LookUp, frequencies_of, look_up};
 use crate::pivots::PivotTables;
-use crate::planned::find_planned;
-use crate::repeats::first_places;
+use crate::planned::{PlannedFind, PlannedSegment, Segments, find_planned};
+use crate::repeats::{QueryWords, first_places};
 use pk_cache::BlockCache;
 use pk_dict::Entry;
 use pk_disk::{Disk, Extent};
 use pk_index::Index;
 use pk_manifest::Part;
 use pk_model::{DocNo, Query};
+use pk_open::OpenSegment;
 use pk_plan::{Planned, plan, words_of};
-use pk_posting::ByteSource;
+use pk_posting::{ByteSource, MOST_LENT};
 use pk_segment::{ExtentSource, ReadFault};
 use std::alloc::Global;
 
@@ -71,42 +70,33 @@ fn find_from<S: ByteSource>(
     Ok(())
 }
 
-// What the dictionary of the segment of the entry at a place says of each word; of kind 1 nothing.
+// What the dictionary of a segment says of each word; of kind 1 nothing.
 fn look_up_in<D: Disk>(
     alloc: Global,
     source: &mut ExtentSource<D>,
     pivots: &mut PivotTables,
-    place: usize,
-    entry: &Part,
-    opened: &OpenSegment,
-    words: &[&str],
-    firsts: &[usize],
+    long: &mut [u8; MOST_LENT],
+    sought: &LookUp,
 ) -> Result<Vec<Option<Entry>>, ReadFault>
-    requires inside { start_of entry.now.extent + entry.now.extent.bytes
+    requires { start_of sought.now.entry.now.extent + sought.now.entry.now.extent.bytes
         ≤ length (D.content source.old.disk.now) }
-    requires firsts { AreFirsts (texts words.now) firsts.now }
-    ensures entries { D.honest → entry.now.kind ≡ 2 → (docs : List Doc)
-        → IndexSpells (extent_bytes (D.content source.old.disk.now) entry.now.extent) docs
-        → IsSegmentOf opened.now.segment docs → EntriesAs (texts words.now) docs result }
+    ensures entries { D.honest → sought.now.entry.now.kind ≡ 2 → (docs : List Doc)
+        → IndexSpells (extent_bytes (D.content source.old.disk.now) sought.now.entry.now.extent) docs
+        → IsSegmentOf sought.now.opened.now.segment docs
+        → EntriesAs (texts sought.now.words.words.now) docs result }
     ensures fault { D.honest → (s : Stored)
-        → IndexesEntry (D.content source.old.disk.now) entry.now s
-        → IsSegmentOf opened.now.segment s.documents → IfErr result IsNoDamage }
+        → IndexesEntry (D.content source.old.disk.now) sought.now.entry.now s
+        → IsSegmentOf sought.now.opened.now.segment s.documents → IfErr result IsNoDamage }
     ensures same_reference { source.new.disk.ghost_name ≡ source.old.disk.ghost_name }
     ensures keeps { KeepsDisk D.Disk source.old.disk.now source.new.disk.now }
     ensures reads { CountsReads (D.failed_reads source.old.disk.now)
         (D.failed_reads source.new.disk.now) result }
 {
-    if entry.kind != INDEXED {
+    if sought.entry.kind != INDEXED {
         return Ok(Vec::new(alloc));
     }
-    source.turn_to(entry.extent);
-    let _ = pivots.prepare(alloc, place, entry);
-    if let Some(tables) = &mut pivots.tables {
-        if let Some(table) = tables.get_mut(&entry.segment) {
-            return look_up(alloc, source, &opened.segment, table, words, firsts);
-        }
-    }
-    look_up(alloc, source, &opened.segment, &mut [], words, firsts)
+    source.turn_to(sought.entry.extent);
+    look_up(alloc, source, pivots, long, sought)
 }
 
 // What the dictionaries of all segments of kind 2 say of each word. Each is asked once for a word
@@ -115,36 +105,38 @@ fn look_up_all<D: Disk>(
     alloc: Global,
     source: &mut ExtentSource<D>,
     pivots: &mut PivotTables,
-    entries: &[Part],
-    opened: &[OpenSegment],
+    segments: &Segments,
     words: &[&str],
 ) -> Result<Vec<Vec<Option<Entry>>>, ReadFault>
-    requires { LieInside (length (D.content source.old.disk.now)) entries.now }
+    requires { LieInside (length (D.content source.old.disk.now)) segments.now.entries.now }
     ensures kept { D.honest → IfOk result (λ kept. AreKept (D.content source.old.disk.now)
-        (texts words.now) entries.now opened.now kept.items) }
+        (texts words.now) segments.now.entries.now segments.now.opened.now kept.items) }
     ensures fault { D.honest → (stored : List Stored)
-        → IndexesEntries (D.content source.old.disk.now) entries.now stored
-        → AreOpenOf opened.now stored → IfErr result IsNoDamage }
+        → IndexesEntries (D.content source.old.disk.now) segments.now.entries.now stored
+        → AreOpenOf segments.now.opened.now stored → IfErr result IsNoDamage }
     ensures count { IfOk result (λ kept. length kept.items
-        ≡ min (length entries.now) (length opened.now)) }
+        ≡ min (length segments.now.entries.now) (length segments.now.opened.now)) }
     ensures same_reference { source.new.disk.ghost_name ≡ source.old.disk.ghost_name }
     ensures keeps { KeepsDisk D.Disk source.old.disk.now source.new.disk.now }
     ensures reads { CountsReads (D.failed_reads source.old.disk.now)
         (D.failed_reads source.new.disk.now) result }
 {
+    let Segments { entries, opened } = *segments;
     let firsts = first_places(alloc, words)?;
+    let asked = QueryWords {
+        words,
+        firsts: &firsts,
+    };
+    let mut long = [0; MOST_LENT];
     let mut kept = Vec::new(alloc);
     for i in 0..entries.len().min(opened.len()) {
-        let known = look_up_in(
-            alloc,
-            source,
-            pivots,
-            i,
-            &entries[i],
-            &opened[i],
-            words,
-            &firsts,
-        )?;
+        let sought = LookUp {
+            words: asked,
+            place: i,
+            entry: &entries[i],
+            opened: &opened[i],
+        };
+        let known = look_up_in(alloc, source, pivots, &mut long, &sought)?;
         let Ok(()) = kept.push(known) else {
             return Err(ReadFault::Memory);
         };
@@ -152,51 +144,44 @@ fn look_up_all<D: Disk>(
     Ok(kept)
 }
 
-// Puts the numbers of the documents of an entry's segment that are not deleted and satisfy the
-// query behind those that were found: of kind 2 by its posting lists, else document by document.
+// Puts the numbers of the documents of a segment that are not deleted and satisfy the query behind
+// those that were found: of kind 2 by its posting lists, else document by document.
 fn find_in<D: Disk>(
     alloc: Global,
     source: &mut ExtentSource<D>,
     cache: &mut Option<BlockCache>,
-    entry: &Part,
-    opened: &OpenSegment,
-    kept: &[Option<Entry>],
-    planned: &Planned,
+    at: &PlannedSegment,
     found: &mut Vec<DocNo>,
 ) -> Result<(), ReadFault>
-    requires { start_of entry.now.extent + entry.now.extent.bytes ≤ length (D.content source.old.disk.now) }
+    requires { start_of at.now.entry.now.extent + at.now.entry.now.extent.bytes
+        ≤ length (D.content source.old.disk.now) }
     ensures found { D.honest → (s : Stored)
-        → AnswersEntry (reads_texts planned.now.plan) (D.content source.old.disk.now) entry.now s
-        → IsSegmentOf opened.now.segment s.documents
-        → (entry.now.kind ≡ 2
-        → AreEntriesOf kept.now (texts planned.now.words.items) s.documents)
-        → (query : Tree) → IsPlanFor planned.now query
-        → AgreesAt (D.content source.old.disk.now) cache.old entry.now opened.now
-        → FoundAs query (live_of (with_deleted opened.now s))
+        → AnswersEntry (reads_texts at.now.planned.now.plan) (D.content source.old.disk.now)
+        at.now.entry.now s
+        → IsSegmentOf at.now.opened.now.segment s.documents
+        → (at.now.entry.now.kind ≡ 2
+        → AreEntriesOf at.now.kept.now (texts at.now.planned.now.words.items) s.documents)
+        → (query : Tree) → IsPlanFor at.now.planned.now query
+        → AgreesAt (D.content source.old.disk.now) cache.old at.now.entry.now at.now.opened.now
+        → FoundAs query (live_of (with_deleted at.now.opened.now s))
         found.old.items found.new.items result }
-    ensures agrees { D.honest → (entry.now.kind ≡ 2 → (docs : List Doc)
-        → IndexSpells (extent_bytes (D.content source.old.disk.now) entry.now.extent) docs
-        → IsSegmentOf opened.now.segment docs
-        → AreEntriesOf kept.now (texts planned.now.words.items) docs)
-        → AgreesAt (D.content source.old.disk.now) cache.old entry.now opened.now
-        → AgreesAt (D.content source.old.disk.now) cache.new entry.now opened.now }
-    ensures adds { AddsOnlyOf entry.now.segment cache.old cache.new }
+    ensures agrees { D.honest → (at.now.entry.now.kind ≡ 2 → (docs : List Doc)
+        → IndexSpells (extent_bytes (D.content source.old.disk.now) at.now.entry.now.extent) docs
+        → IsSegmentOf at.now.opened.now.segment docs
+        → AreEntriesOf at.now.kept.now (texts at.now.planned.now.words.items) docs)
+        → AgreesAt (D.content source.old.disk.now) cache.old at.now.entry.now at.now.opened.now
+        → AgreesAt (D.content source.old.disk.now) cache.new at.now.entry.now at.now.opened.now }
+    ensures adds { AddsOnlyOf at.now.entry.now.segment cache.old cache.new }
     ensures same_reference { source.new.disk.ghost_name ≡ source.old.disk.ghost_name }
     ensures keeps { KeepsDisk D.Disk source.old.disk.now source.new.disk.now }
     ensures reads { CountsReads (D.failed_reads source.old.disk.now)
         (D.failed_reads source.new.disk.now) result }
 {
-    source.turn_to(entry.extent);
-    if entry.kind == INDEXED {
-        let lists = WordLists {
-            id: entry.segment,
-            segment: &opened.segment,
-            words: planned.words.as_slice(),
-            entries: kept,
-        };
-        return find_planned(alloc, source, cache, &lists, opened, planned, found);
+    source.turn_to(at.entry.extent);
+    if at.entry.kind == INDEXED {
+        return find_planned(alloc, source, cache, at, found);
     }
-    find_from(alloc, source, opened, planned, found)
+    find_from(alloc, source, at.opened, at.planned, found)
 }
 
 // The same of all segments.
@@ -204,46 +189,50 @@ fn find_all<D: Disk>(
     alloc: Global,
     source: &mut ExtentSource<D>,
     cache: &mut Option<BlockCache>,
-    entries: &[Part],
-    opened: &[OpenSegment],
-    kept: &[Vec<Option<Entry>>],
-    planned: &Planned,
+    find: &PlannedFind,
     found: &mut Vec<DocNo>,
 ) -> Result<(), ReadFault>
-    requires inside { LieInside (length (D.content source.old.disk.now)) entries.now }
-    requires ids { apart same_segment entries.now ≡ true }
-    requires count { length kept.now ≡ min (length entries.now) (length opened.now) }
+    requires inside { LieInside (length (D.content source.old.disk.now))
+        find.now.segments.entries.now }
+    requires ids { apart same_segment find.now.segments.entries.now ≡ true }
+    requires count { length find.now.kept.now
+        ≡ min (length find.now.segments.entries.now) (length find.now.segments.opened.now) }
     ensures found { D.honest → (stored : List Stored)
-        → AnswersEntries (reads_texts planned.now.plan) (D.content source.old.disk.now) entries.now stored
-        → AreOpenOf opened.now stored
-        → AreKept (D.content source.old.disk.now) (texts planned.now.words.items) entries.now opened.now kept.now
-        → (query : Tree) → IsPlanFor planned.now query
-        → CacheAgrees (D.content source.old.disk.now) cache.old entries.now opened.now
-        → FoundAs query (live_in (present opened.now stored))
+        → AnswersEntries (reads_texts find.now.planned.now.plan) (D.content source.old.disk.now)
+        find.now.segments.entries.now stored
+        → AreOpenOf find.now.segments.opened.now stored
+        → AreKept (D.content source.old.disk.now) (texts find.now.planned.now.words.items)
+        find.now.segments.entries.now find.now.segments.opened.now find.now.kept.now
+        → (query : Tree) → IsPlanFor find.now.planned.now query
+        → CacheAgrees (D.content source.old.disk.now) cache.old
+        find.now.segments.entries.now find.now.segments.opened.now
+        → FoundAs query (live_in (present find.now.segments.opened.now stored))
         found.old.items found.new.items result }
     ensures agrees { D.honest
-        → AreKept (D.content source.old.disk.now) (texts planned.now.words.items)
-        entries.now opened.now kept.now
-        → CacheAgrees (D.content source.old.disk.now) cache.old entries.now opened.now
-        → CacheAgrees (D.content source.old.disk.now) cache.new entries.now opened.now }
-    ensures below { (next : ℕ) → All (λ (e : Part). e.segment < next) entries.now
+        → AreKept (D.content source.old.disk.now) (texts find.now.planned.now.words.items)
+        find.now.segments.entries.now find.now.segments.opened.now find.now.kept.now
+        → CacheAgrees (D.content source.old.disk.now) cache.old
+        find.now.segments.entries.now find.now.segments.opened.now
+        → CacheAgrees (D.content source.old.disk.now) cache.new
+        find.now.segments.entries.now find.now.segments.opened.now }
+    ensures below { (next : ℕ)
+        → All (λ (e : Part). e.segment < next) find.now.segments.entries.now
         → KeepsBelow next cache.old → KeepsBelow next cache.new }
     ensures same_reference { source.new.disk.ghost_name ≡ source.old.disk.ghost_name }
     ensures keeps { KeepsDisk D.Disk source.old.disk.now source.new.disk.now }
     ensures reads { CountsReads (D.failed_reads source.old.disk.now)
         (D.failed_reads source.new.disk.now) result }
 {
+    let Segments { entries, opened } = find.segments;
+    let kept = find.kept;
     for i in 0..kept.len() {
-        find_in(
-            alloc,
-            source,
-            cache,
-            &entries[i],
-            &opened[i],
-            &kept[i],
-            planned,
-            found,
-        )?;
+        let at = PlannedSegment {
+            entry: &entries[i],
+            opened: &opened[i],
+            kept: &kept[i],
+            planned: find.planned,
+        };
+        find_in(alloc, source, cache, &at, found)?;
     }
     Ok(())
 }
@@ -291,25 +280,15 @@ pub fn find_stored<'a, D: Disk>(
 {
     let words = words_of(alloc, query)?;
     let mut source = ExtentSource::on(disk, Extent::of_bytes(0, 0));
-    let kept = look_up_all(
-        alloc,
-        &mut source,
-        pivots,
-        entries,
-        opened,
-        words.as_slice(),
-    )?;
+    let segments = Segments { entries, opened };
+    let kept = look_up_all(alloc, &mut source, pivots, &segments, words.as_slice())?;
     let frequencies = frequencies_of(alloc, words.len(), &kept)?;
     let planned = plan(alloc, query, frequencies.as_slice())?;
-    find_all(
-        alloc,
-        &mut source,
-        cache,
-        entries,
-        opened,
-        &kept,
-        &planned,
-        found,
-    )?;
+    let find = PlannedFind {
+        segments,
+        kept: &kept,
+        planned: &planned,
+    };
+    find_all(alloc, &mut source, cache, &find, found)?;
     Ok(planned)
 }

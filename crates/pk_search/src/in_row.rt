@@ -18,6 +18,15 @@ use pk_sets::is_rising;
 use pk_words::{has_row, row_table};
 use std::alloc::Global;
 
+// Words that are sought in a row in the texts of a segment, with the table by which they are.
+#[derive(Clone, Copy)]
+struct SoughtRow<'a> {
+    segment: &'a Segment,
+    words: &'a [&'a str],
+    table: &'a [usize],
+    ghost is_table: { IsTable (texts words.now) table.now },
+}
+
 /// Keeps of the numbers those of documents in whose texts the words stand in a row. The texts are
 /// read one at a time. `Damaged` where what is kept doesn't rise.
 pub(crate) fn keep_in_row<S: ByteSource>(
@@ -59,11 +68,16 @@ fn those_in_row<S: ByteSource>(
         result source.old source.new }
 {
     let table = row_table(alloc, row)?;
+    let sought = SoughtRow {
+        segment,
+        words: row,
+        table: &table,
+    };
     let mut piece = String::new(alloc);
     let mut kept = Vec::new(alloc);
     for i in 0..numbers.len() {
         let number = numbers[i];
-        let is = is_in_row(alloc, source, segment, row, &table, &mut piece, number)?;
+        let is = is_in_row(alloc, source, &sought, &mut piece, number)?;
         if is {
             kept.extend_from_slice(&[number])?;
         }
@@ -76,24 +90,21 @@ fn those_in_row<S: ByteSource>(
 fn is_in_row<S: ByteSource>(
     alloc: Global,
     source: &mut S,
-    segment: &Segment,
-    row: &[&str],
-    table: &[usize],
+    sought: &SoughtRow,
     piece: &mut String,
     number: u32,
 ) -> Result<bool, ReadFault>
-    requires { IsTable (texts row.now) table.now }
     ensures is { S.honest → (docs : List Doc) → SegmentSpells (S.content source.old) docs 2
-        → IsSegmentOf segment.now docs → has (numbers_of docs) number ≡ true
-        → MatchResult result (λ is. is ≡ has (answer (Phrase (texts row.now)) docs) number)
-        IsNoDamage }
+        → IsSegmentOf sought.now.segment.now docs → has (numbers_of docs) number ≡ true
+        → MatchResult result (λ is. is ≡ has (answer (Phrase (texts sought.now.words.now)) docs)
+        number) IsNoDamage }
     ensures left { IsLeftByRead S.honest S.content S.failures S.keeps
         result source.old source.new }
 {
-    let found = segment.text_of(alloc, source, number)?;
+    let found = sought.segment.text_of(alloc, source, number)?;
     let Some(text) = found else {
         return Err(ReadFault::Damaged);
     };
-    let is = has_row(row, table, piece, text.as_str())?;
+    let is = has_row(sought.words, sought.table, piece, text.as_str())?;
     Ok(is)
 }

@@ -1,20 +1,11 @@
-//! Search over stored segments: the numbers that a query finds, the text of one document, and how
-//! many documents there are.
+//! Search over stored segments: the numbers that a query finds.
 //!
-//! A caller hands the disk, the entries of the body in force and their open segments, each at the
-//! place of its entry. An `OpenSegment` has the numbers of its deleted documents, those of its
-//! deletion list and all. What the entries stand for is said by pk_state: by `SpellsEntries`, and
-//! for a find without a phrase by `IndexesEntries`, in which the texts of kind 2 may be any bytes
-//! (`AnswersEntries`). What is left of it once each deletion counts is `present`; the clauses hold
-//! for whatever that is.
-//!
-//! | call | answers | reads |
-//! |---|---|---|
-//! | `open_segments` | the segments of a body, with what is deleted of each | headers, ends of directories, deletion lists |
-//! | `find_stored` | the numbers of the live documents that satisfy a query | posting lists, texts for phrases, or each document |
-//! | `text_stored` | the text of the live document of a number, or none | one text, by halving |
-//! | `place_stored` | the place of the segment that has it, or none | one directory, by halving |
-//! | `count_stored` | how many documents there are | nothing |
+//! A caller hands the disk, the entries of the body in force and their open segments (pk_open), each
+//! at the place of its entry. What the entries stand for is said by pk_state: by `SpellsEntries`,
+//! and for a find without a phrase by `IndexesEntries`, in which the texts of kind 2 may be any
+//! bytes (`AnswersEntries`). The clauses hold for whatever is `present` of it. `find_stored` answers
+//! the numbers of the live documents that satisfy a query. It reads posting lists, texts for
+//! phrases, and of kind 1 each document.
 //!
 //! A find looks each word up once in each segment of kind 2, however often it comes (`repeats`),
 //! and reads the segment's header once for it. What the dictionaries say is kept by the word's
@@ -51,16 +42,10 @@ mod in_row;
 mod kept;
 mod listed;
 mod lists;
-mod opened;
-mod opening;
 mod pivots;
 mod planned;
 mod repeats;
-mod showing;
 mod stored;
 
 pub use finding::find_stored;
-pub use opened::OpenSegment;
-pub use opening::open_segments;
 pub use pivots::PivotTables;
-pub use showing::{count_stored, place_stored, text_stored};

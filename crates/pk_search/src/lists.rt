@@ -13,12 +13,11 @@ ghost use Rattle.pk_segment.specs.Reading.{CountsReads, IsNoDamage};
 ghost use Rattle.pk_segment.specs.Spelling.{IndexSpells};
 ghost use Rattle.pk_sets.specs.Sets.{intersection};
 
-use crate::kept::copy_kept;
+use crate::kept::{ListKey, copy_kept};
 use crate::listed::{WordLists, entry_at};
 use pk_cache::BlockCache;
 use pk_cursor::Cursor;
 use pk_dict::Entry;
-use pk_match::keep_both;
 use pk_posting::{ByteSource, ListPlace};
 use pk_segment::{ReadFault, Segment};
 use pk_sets::is_rising;
@@ -68,30 +67,29 @@ pub(crate) fn copy_out<S: ByteSource>(
     Ok(())
 }
 
-// The same, where there is a cache through it. The list is one of the segment of this id.
-// `Damaged` where the numbers don't rise.
-fn take_out<S: ByteSource>(
+/// Puts a list of so many numbers into `out`: through the cache, where there is one. `Damaged` where
+/// the numbers don't rise.
+pub(crate) fn take_out<S: ByteSource>(
     source: &mut S,
     cache: &mut Option<BlockCache>,
-    id: u64,
-    place: ListPlace,
+    list: ListKey,
     count: u32,
     out: &mut Vec<u32>,
 ) -> Result<(), ReadFault>
-    ensures numbers { S.honest → (xs : List ℕ) → ListLies (S.content source.old) place xs
-        → count ≡ length xs → KeepsBlocksOf id (S.content source.old) cache.old
+    ensures numbers { S.honest → (xs : List ℕ) → ListLies (S.content source.old) list.place xs
+        → count ≡ length xs → KeepsBlocksOf list.segment (S.content source.old) cache.old
         → PutsAs xs out.new.items result }
-    ensures cached { S.honest → (xs : List ℕ) → ListLies (S.content source.old) place xs
-        → KeepsBlocksOf id (S.content source.old) cache.old
-        → KeepsBlocksOf id (S.content source.old) cache.new }
-    ensures adds { AddsOnlyOf id cache.old cache.new }
+    ensures cached { S.honest → (xs : List ℕ) → ListLies (S.content source.old) list.place xs
+        → KeepsBlocksOf list.segment (S.content source.old) cache.old
+        → KeepsBlocksOf list.segment (S.content source.old) cache.new }
+    ensures adds { AddsOnlyOf list.segment cache.old cache.new }
     ensures rising { OnOk result (IsStrictlyIncreasing out.new.items) }
     ensures left { IsLeftByRead S.honest S.content S.failures S.keeps
         result source.old source.new }
 {
     match cache {
-        None => copy_out(source, place, count, out)?,
-        Some(cache) => copy_kept(source, cache, id, place, out)?,
+        None => copy_out(source, list.place, count, out)?,
+        Some(cache) => copy_kept(source, cache, list, out)?,
     }
     if !is_rising(out) {
         return Err(ReadFault::Damaged);
@@ -129,8 +127,9 @@ fn seek_each<S: ByteSource>(
     Ok(())
 }
 
-// The same. `Damaged` where what is kept doesn't rise.
-fn cut_in<S: ByteSource>(
+/// Keeps of the numbers those that a seek finds in the list at a place. `Damaged` where what is kept
+/// doesn't rise.
+pub(crate) fn cut_in<S: ByteSource>(
     source: &mut S,
     place: ListPlace,
     numbers: &mut Vec<u32>,
@@ -171,51 +170,16 @@ pub(crate) fn put_word<S: ByteSource>(
         return Ok(());
     };
     let lies = place_of(lists.segment, entry)?;
-    take_out(source, cache, lists.id, lies, entry.frequency, out)
+    let key = ListKey {
+        segment: lists.id,
+        place: lies,
+    };
+    take_out(source, cache, key, entry.frequency, out)
 }
 
-// Whether a list is more than 50 times as long as the numbers that are sought in it.
-fn is_far(numbers: usize, frequency: u32) -> bool
+/// Whether a list is more than 50 times as long as the numbers that are sought in it.
+pub(crate) fn is_far(numbers: usize, frequency: u32) -> bool
     ensures { IsTrue result ↔ (numbers * 50 < frequency) }
 {
     numbers.saturating_mul(50) < frequency as usize
-}
-
-/// Keeps of the numbers those of documents that have the word at a place: by a seek for each of
-/// them where the word's list is far longer, else by the list, which goes into `list`. What `spare`
-/// holds is open. Where there is no number, nothing is read.
-pub(crate) fn cut_word<S: ByteSource>(
-    source: &mut S,
-    cache: &mut Option<BlockCache>,
-    lists: &WordLists,
-    place: usize,
-    numbers: &mut Vec<u32>,
-    list: &mut Vec<u32>,
-    spare: &mut Vec<u32>,
-) -> Result<(), ReadFault>
-    requires { IsStrictlyIncreasing numbers.old.items }
-    ensures numbers { S.honest → (words : List (List ℕ)) (docs : List Doc)
-        → AreServed (S.content source.old) lists.now words docs cache.old
-        → PutsAs (intersection numbers.old.items (found (word_at words place) docs))
-        numbers.new.items result }
-    ensures rising { OnOk result (IsStrictlyIncreasing numbers.new.items) }
-    ensures served { Serves S.honest lists.now (S.content source.old) cache.old
-        (S.content source.new) cache.new }
-    ensures left { IsLeftByRead S.honest S.content S.failures S.keeps
-        result source.old source.new }
-{
-    if numbers.is_empty() {
-        return Ok(());
-    }
-    let Some(entry) = entry_at(lists.entries, place) else {
-        numbers.clear();
-        return Ok(());
-    };
-    let lies = place_of(lists.segment, entry)?;
-    if is_far(numbers.len(), entry.frequency) {
-        return cut_in(source, lies, numbers);
-    }
-    take_out(source, cache, lists.id, lies, entry.frequency, list)?;
-    keep_both(numbers, list, spare)?;
-    Ok(())
 }

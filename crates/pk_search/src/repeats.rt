@@ -6,6 +6,14 @@ ghost use Rattle.pk_search.specs.Repeats.{AreFirsts, IsFirst, IsKnown};
 use std::alloc::{AllocError, Global};
 use std::collections::HashMap;
 
+/// The words of a query, and for each place of a word the first place of the same word.
+#[derive(Clone, Copy)]
+pub(crate) struct QueryWords<'a> {
+    pub(crate) words: &'a [&'a str],
+    pub(crate) firsts: &'a [usize],
+    ghost are_firsts: { AreFirsts (texts words.now) firsts.now },
+}
+
 /// For each place of a word the first place of the same word, so that it is looked up there alone.
 pub(crate) fn first_places(alloc: Global, words: &[&str]) -> Result<Vec<usize>, AllocError>
     ensures { IfOk result (λ firsts. AreFirsts (texts words.now) firsts.items) }

@@ -18,10 +18,11 @@ ghost use Rattle.pk_segment.specs.Spelling.{DirectorySpells};
 
 use crate::begun::put_begun;
 use crate::in_row::keep_in_row;
-use crate::listed::WordLists;
-use crate::lists::{cut_word, put_word};
+use crate::kept::ListKey;
+use crate::listed::{WordLists, entry_at};
+use crate::lists::{cut_in, is_far, place_of, put_word, take_out};
 use pk_cache::BlockCache;
-use pk_match::{Lists, asked_beginning, asked_row};
+use pk_match::{Lists, asked_beginning, asked_row, keep_both};
 use pk_posting::ByteSource;
 use pk_segment::{ReadFault, Segment};
 use pk_sets::is_rising;
@@ -56,6 +57,8 @@ impl<'a, S: ByteSource> Lists for StoredLists<'a, S> {
         put_word(self.source, self.cache, &self.lists, place, out)
     }
 
+    // By a seek for each of the numbers where the word's list is far longer, else by the list, which
+    // is taken out for it. Where there is no number, nothing is read.
     #[inline(never)]
     fn cut(
         &mut self,
@@ -63,15 +66,24 @@ impl<'a, S: ByteSource> Lists for StoredLists<'a, S> {
         numbers: &mut Vec<u32>,
         spare: &mut Vec<u32>,
     ) -> Result<(), ReadFault> {
-        cut_word(
-            self.source,
-            self.cache,
-            &self.lists,
-            place,
-            numbers,
-            self.list,
-            spare,
-        )
+        if numbers.is_empty() {
+            return Ok(());
+        }
+        let Some(entry) = entry_at(self.lists.entries, place) else {
+            numbers.clear();
+            return Ok(());
+        };
+        let lies = place_of(self.lists.segment, entry)?;
+        if is_far(numbers.len(), entry.frequency) {
+            return cut_in(self.source, lies, numbers);
+        }
+        let key = ListKey {
+            segment: self.lists.id,
+            place: lies,
+        };
+        take_out(self.source, self.cache, key, entry.frequency, self.list)?;
+        keep_both(numbers, self.list, spare)?;
+        Ok(())
     }
 
     #[inline(never)]

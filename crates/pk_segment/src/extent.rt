@@ -23,10 +23,7 @@ ghost use Rattle.pk_disk.specs.Units.{extent_bytes, start_of};
 ghost use Rattle.pk_posting.specs.Source.{CountsFaults, full_count};
 
 use pk_disk::{Disk, DiskFault, Extent, UNIT};
-use pk_posting::{ByteSource, SourceFault};
-
-/// The most bytes that are lent at once.
-const MOST_LENT: usize = 4096;
+use pk_posting::{ByteSource, MOST_LENT, SourceFault};
 
 /// An extent of a disk as a source. It holds the bytes that it lends.
 ///

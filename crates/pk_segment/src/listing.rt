@@ -13,7 +13,7 @@ use crate::fault::ReadFault;
 use crate::header::header_of;
 use crate::segment::Segment;
 use pk_dict::{DictPlace, Entry, Windows, entries_in, look_up_near};
-use pk_posting::{ByteSource, SourceFault};
+use pk_posting::{ByteSource, MOST_LENT, SourceFault};
 use std::alloc::Global;
 
 impl Segment {
@@ -58,7 +58,8 @@ impl Segment {
         ensures faults { CountsReads (S.failures source.old) (S.failures source.new) result }
     {
         let place = self.dictionary(source)?;
-        let mut windows = Windows::on(source, place);
+        let mut long = [0; MOST_LENT];
+        let mut windows = Windows::on(source, place, &mut long);
         let entry = look_up_near(&mut windows, place, &mut [], word)?;
         Ok(entry)
     }
@@ -97,7 +98,8 @@ impl Segment {
         ensures faults { CountsReads (S.failures source.old) (S.failures source.new) result }
     {
         let place = self.dictionary(source)?;
-        let mut windows = Windows::on(source, place);
+        let mut long = [0; MOST_LENT];
+        let mut windows = Windows::on(source, place, &mut long);
         let entries = entries_in(alloc, &mut windows, place, prefix)?;
         Ok(entries)
     }

@@ -15,11 +15,8 @@ ghost use Rattle.std.specs.Prelude.{
 ghost use Rattle.pk_segment.specs.Reading.{CountsReads, asks_for};
 
 use crate::fault::ReadFault;
-use pk_posting::ByteSource;
+use pk_posting::{ByteSource, MOST_LENT};
 use std::alloc::Global;
-
-/// The most bytes that a source lends at once.
-const MOST_LENT: u32 = 4096;
 
 // The `len` bytes from an offset on, in memory that is taken once.
 pub fn stretch<S: ByteSource>(
@@ -43,7 +40,7 @@ pub fn stretch<S: ByteSource>(
     let mut out = Vec::with_capacity(alloc, len as usize)?;
     let mut done = 0;
     while done < len {
-        let n = (len - done).min(MOST_LENT);
+        let n = (len - done).min(MOST_LENT as u32);
         let part = source.bytes(at + done, n)?;
         out.extend_from_slice(part)?;
         done += n;

@@ -11,8 +11,9 @@ ghost use Rattle.pk_model.specs.Tree.{tree_of};
 ghost use Rattle.pk_plan.specs.Plans.{IsPlanFor};
 ghost use Rattle.pk_plan.specs.Texts.{has_phrase};
 ghost use Rattle.pk_search.specs.Answering.{AnswersEntries};
-ghost use Rattle.pk_search.specs.Finding.{FoundAs, LooksUpAs};
-ghost use Rattle.pk_search.specs.Opened.{AreOpenOf, pends, present};
+ghost use Rattle.pk_search.specs.Finding.{FoundAs};
+ghost use Rattle.pk_open.specs.Showing.{LooksUpAs};
+ghost use Rattle.pk_open.specs.Opened.{AreOpenOf, pends, present};
 ghost use Rattle.pk_segment.specs.Spelling.{docs_of};
 ghost use Rattle.pk_segment.specs.Reading.{CountsReads};
 ghost use Rattle.pk_state.specs.Committed.{Stored, live_in, whole_of};
@@ -30,19 +31,18 @@ use pk_cache::BlockCache;
 use pk_check::{Checked, check_body};
 use pk_disk::Disk;
 use pk_index::Index;
-use pk_layout::{
-    CommitPlan, MAX_DELETED, MergePlan, Plan, copy_of, inputs_of, new_segment, plan_commit,
-    plan_merged, refusal_of, written_kind,
-};
+use pk_layout::{CommitPlan, MAX_DELETED, MergePlan, Plan, plan_commit, plan_merged, written_kind};
 use pk_manifest::{Half, Manifest};
 use pk_merge::{MergeInput, MergeWriter, Prepared, choose, prepare};
 use pk_model::limits::{END_OF_IDS, MAX_SEGMENTS};
 use pk_model::{DocNo, Document, Query, Refusal};
+use pk_open::{OpenSegment, copy_of, count_stored, place_stored, text_stored};
 use pk_plan::Planned;
 use pk_posting::SourceFault;
 use pk_replace::{Followed, Pieces, StreamFault, WritesExtent, replace_with};
-use pk_search::{OpenSegment, PivotTables, count_stored, find_stored, place_stored, text_stored};
+use pk_search::{PivotTables, find_stored};
 use pk_segment::ReadFault;
+use pk_tidy::{inputs_of, new_segment, refusal_of};
 use std::alloc::Global;
 use std::marker::Model;
 

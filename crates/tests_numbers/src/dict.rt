@@ -11,7 +11,7 @@ use pk_dict::{
     Dict, DictFault, DictPlace, DictWriter, EntriesFault, Entry, Windows, entries_in, look_up_in,
     look_up_near,
 };
-use pk_posting::{ByteSource, ListPlace, SliceSource, SourceFault};
+use pk_posting::{ByteSource, ListPlace, MOST_LENT, SliceSource, SourceFault};
 use std::alloc::Global;
 use std::process::Abort;
 use std::test::Fail;
@@ -162,7 +162,8 @@ fn windows_find(rt: &impl Abort, bytes: &[u8], place: DictPlace, term: &[u8], wa
 {
     let asks = asks_in(rt, bytes, place, term, wanted);
     let mut below = SliceSource::new(bytes);
-    let mut windows = Windows::on(&mut below, place);
+    let mut long = [0; MOST_LENT];
+    let mut windows = Windows::on(&mut below, place, &mut long);
     equal(rt, look_up_in(&mut windows, place, term), Ok(wanted));
     equal(rt, windows.asked(), asks);
     assert!(rt; below.asked() <= asks);
@@ -394,7 +395,8 @@ fn is_read_anyhow(rt: &impl Abort, alloc: Global, bytes: &[u8], place: DictPlace
     let mut source = SliceSource::new(bytes);
     looks_up_in_anyhow(rt, &mut source, place);
     lists_in_anyhow(rt, alloc, &mut source, place);
-    let mut windows = Windows::on(&mut source, place);
+    let mut long = [0; MOST_LENT];
+    let mut windows = Windows::on(&mut source, place, &mut long);
     looks_up_in_anyhow(rt, &mut windows, place);
     lists_in_anyhow(rt, alloc, &mut windows, place);
 }
@@ -472,7 +474,8 @@ fn are_asked_once(rt: &impl Abort, bytes: &[u8])
 {
     let place = whole(bytes, 17);
     let mut source = SliceSource::new(bytes);
-    let mut windows = Windows::on(&mut source, place);
+    let mut long = [0; MOST_LENT];
+    let mut windows = Windows::on(&mut source, place, &mut long);
     equal(rt, windows.len() as usize, bytes.len());
     let found = look_up_in(&mut windows, place, b"aaadc");
     equal(rt, found, Ok(Some(entry_at(16))));
@@ -537,7 +540,8 @@ fn lends(
 // That a stretch is lent after so many others.
 fn is_lent_after(rt: &impl Abort, bytes: &[u8; 1_000], count: usize, stretch: (u32, u32, u64)) {
     let mut source = SliceSource::new(bytes);
-    let mut windows = Windows::on(&mut source, OF_32);
+    let mut long = [0; MOST_LENT];
+    let mut windows = Windows::on(&mut source, OF_32, &mut long);
     for (at, n, _) in STRETCHES.iter().take(count) {
         lends(rt, &mut windows, bytes, *at, *n);
     }
@@ -558,7 +562,8 @@ fn each_window_keeps_its_bytes(rt: HostRuntime) {
 fn no_window_goes_past_the_end(rt: HostRuntime) {
     let bytes = a_thousand_bytes();
     let mut source = SliceSource::new(&bytes);
-    let mut windows = Windows::on(&mut source, OF_32);
+    let mut long = [0; MOST_LENT];
+    let mut windows = Windows::on(&mut source, OF_32, &mut long);
     equal(&rt, windows.lend(999, 2).err(), Some(SourceFault::Damaged));
     equal(
         &rt,
@@ -697,7 +702,8 @@ fn fails_once_in_windows(rt: &impl Abort, bytes: &[u8])
 {
     let place = whole(bytes, 33);
     let mut below = Failing::after(bytes, 0);
-    let mut windows = Windows::on(&mut below, place);
+    let mut long = [0; MOST_LENT];
+    let mut windows = Windows::on(&mut below, place, &mut long);
     let failed = look_up_in(&mut windows, place, SOUGHT);
     equal(rt, failed, Err(SourceFault::Disk));
     equal(rt, look_up_in(&mut windows, place, SOUGHT), Ok(FOUND));

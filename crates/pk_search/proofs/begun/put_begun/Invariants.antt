@@ -6,7 +6,6 @@ use Rattle.pk_match.specs.Uniting.{items_of, union_of}
 use Rattle.pk_model.specs.Collection.{Doc}
 use Rattle.pk_search.specs.Left.{IsLeftByRead}
 use Rattle.pk_search.proofs.BegunLemmas.{gives}
-use Rattle.pk_segment.specs.Listing.{BegunAs}
 use Rattle.pk_segment.specs.Opened.{IsSegmentOf}
 use Rattle.pk_segment.specs.Spelling.{IndexSpells}
 use Rattle.pk_sets.specs.Sets.{has}

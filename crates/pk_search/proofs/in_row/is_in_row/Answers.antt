@@ -20,7 +20,7 @@ returns-in_err-is-clause-is g c = λ honest docs is of live. fault_passed _ _ _ 
 
 pub returns-clause-is : goal.returns-clause-is
 returns-clause-is g c = λ honest docs is of live.
-    let row = texts c.args.row.now in
+    let row = texts c.args.sought.now.words.now in
     c.in_ok-is.ensures ∙ ap (λ (t : List ℕ). stand_in row (words_of t)) c.as_str.ensures.value
     ∙ stands_by row docs c.args.number c.in_ok-found.found c.in-Some.text (rising_all _ is.are.rising) (c.in_ok-found.ensures.spelled honest docs 2 is of) c.in-Some.is
 

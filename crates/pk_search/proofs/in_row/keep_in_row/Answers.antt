@@ -1,9 +1,9 @@
 -- What is kept is of documents that hold what was found before.
-use Rattle.std.proofs.Common.{◌≡◌, ◌∙◌, ◌∷◌, ap, sym, subst, List, ℕ}
+use Rattle.std.proofs.Common.{◌∙◌, ap, sym, subst, List, ℕ}
 use Rattle.std.proofs.lemmas.Result.{err_from_is_err_and}
 use Rattle.std.specs.List.Sorted.{IsStrictlyIncreasing}
 use Rattle.pk_match.proofs.JoinLemmas.{both_rise}
-use Rattle.pk_model.specs.Collection.{answer, numbers_of}
+use Rattle.pk_model.specs.Collection.{answer}
 use Rattle.pk_model.specs.Tree.{Phrase}
 use Rattle.pk_plan.specs.Plans.{found}
 use Rattle.pk_plan.proofs.FoundLemmas.{found_rises}

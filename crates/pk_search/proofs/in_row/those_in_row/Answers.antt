@@ -5,7 +5,7 @@ use Rattle.std.specs.Global.{Vec}
 use Rattle.pk_model.specs.Collection.{answer}
 use Rattle.pk_model.specs.Tree.{Phrase}
 use Rattle.pk_segment.specs.Spelling.{SegmentSpells}
-use Rattle.pk_sets.specs.Sets.{has, intersection}
+use Rattle.pk_sets.specs.Sets.{intersection}
 use Rattle.pk_words.specs.Rows.{texts}
 use Rattle.pk_search.proofs.InRowLemmas.{fault_passed}
 use Rattle.pk_search.proofs.ListLemmas.{kept_more}

@@ -1,5 +1,5 @@
 -- Those of the numbers so far in whose texts the words stand are kept.
-use Rattle.std.proofs.Common.{◌≡◌, ℕ, List, All, take, true, Ok}
+use Rattle.std.proofs.Common.{◌≡◌, List, All, take, true, Ok}
 use Rattle.pk_model.specs.Collection.{Doc, answer, numbers_of}
 use Rattle.pk_model.specs.Tree.{Phrase}
 use Rattle.pk_search.specs.Left.{IsLeftByRead}
@@ -15,5 +15,5 @@ invariant-loop-i g l =
     record {
       left : IsLeftByRead g.S.ByteSource.honest content g.S.ByteSource.failures g.S.ByteSource.keeps (Ok (tt {0})) l.fn.source l.source;
       kept : g.S.ByteSource.honest → (docs : List Doc) → SegmentSpells (content l.fn.source) docs 2 → IsSegmentOf l.segment docs → All (λ n. has (numbers_of docs) n ≡ true) l.numbers
-          → l.kept.items ≡ intersection (take l.i l.numbers) (answer (Phrase (texts l.row)) docs);
+          → l.kept.items ≡ intersection (take l.i l.numbers) (answer (Phrase (texts l.fn.row)) docs);
     }

@@ -14,6 +14,6 @@ invariant-loop-place g l =
       same : g.S.ByteSource.honest → content l.source ≡ content l.fn.source;
       kept : g.S.ByteSource.keeps l.fn.source l.source;
       failures : g.S.ByteSource.failures l.source ≡ g.S.ByteSource.failures l.fn.source;
-      long : length l.entries.items ≡ l.place;
-      entries : g.S.ByteSource.honest → (docs : List Doc) → IndexSpells (content l.fn.source) docs → l.lies ≡ dictionary_place docs → AreEntriesOf l.entries.items (take l.place (texts l.words)) docs;
+      long : length l.entries.items ≡ l._place;
+      entries : g.S.ByteSource.honest → (docs : List Doc) → IndexSpells (content l.fn.source) docs → l.lies ≡ dictionary_place docs → AreEntriesOf l.entries.items (take l._place (texts l.asked.words.now)) docs;
     }

@@ -1,0 +1,41 @@
+-- The segment whose numbers reach over the number answers for all; where there is none, none has it.
+use Rattle.std.proofs.Common.{◌<◌, ◌∙◌, ℕ, Ok, Option, length, arith, subst, sym}
+use Rattle.std.proofs.lemmas.Result.{err_from_is_err_and}
+use Rattle.pk_open.proofs.PlaceLemmas.{entry_at, opened_at}
+use Rattle.pk_open.proofs.LookUpLemmas.{dropped, get_same, lives_fault, located, no_span, none_zero, placed}
+use Rattle.pk_open.specs.Showing.{LivesAt}
+use Rattle.pk_open.specs.Opened.{documents_at}
+use Rattle.pk_open.proofs.showing.place_stored.Goals as goal
+
+pub returns-then-number-eq0-clause-place : goal.returns-then-number-eq0-clause-place
+returns-then-number-eq0-clause-place g c = λ h committed spells are whole.
+    none_zero c.args.opened.now committed are whole c.args.number.0 (cc)
+
+pub returns-in_default-clause-place : goal.returns-in_default-clause-place
+returns-in_default-clause-place g c = λ h committed spells are whole.
+    no_span c.args.opened.now committed are whole c.args.number.0 c.in_default.ensures
+
+pub returns-then-contains-clause-place : goal.returns-then-contains-clause-place
+returns-then-contains-clause-place g c = λ h committed spells are whole.
+    let at = located c.args.opened.now c.in-Some.place c.args.number.0 c.index-opened-place.result c.in-Some.ensures c.index-opened-place.is in
+    dropped c.args.opened.now committed are whole c.args.number.0 _ c.args.entries.now spells c.in-Some.place c.index-opened-place.result at.0 c.index-opened-place.is at.1 (sym c.if-contains.ensures)
+
+pub returns-in_err-has-clause-place : goal.returns-in_err-has-clause-place
+returns-in_err-has-clause-place g c = λ h committed spells are whole.
+    let i = c.in-Some.place in
+    let at = located c.args.opened.now i c.args.number.0 c.index-opened-place.result c.in-Some.ensures c.index-opened-place.is in
+    let within : i < length c.args.entries.now = omega (arith, at.0, c.requires.same) in
+    let err = err_from_is_err_and c.from_residual.result c.from_residual.ensures.1 in
+    lives_fault c.args.opened.now committed.stored c.args.number.0 c.from_residual.result err.0 c.in_err-has.field-0.0 err.1 err.2
+    (c.in_err-has.ensures.has h (documents_at committed.stored i) _ (entry_at _ c.args.entries.now committed.stored i _ spells within (get_same c.args.entries.now i _ _ within)).segment
+    (opened_at c.args.opened.now committed.stored i c.index-opened-place.result are at.0 c.index-opened-place.is).segment)
+
+pub returns-clause-place : goal.returns-clause-place
+returns-clause-place g c = λ h committed spells are whole.
+    let i = c.in-Some.place in
+    let at = located c.args.opened.now i c.args.number.0 c.index-opened-place.result c.in-Some.ensures c.index-opened-place.is in
+    let within : i < length c.args.entries.now = omega (arith, at.0, c.requires.same) in
+    subst (λ (found : Option ℕ). LivesAt c.args.opened.now committed.stored c.args.number.0 (Ok found)) (sym c.then_some.ensures)
+    (placed c.args.opened.now committed are whole c.args.number.0 _ c.args.entries.now spells i c.index-opened-place.result at.0 c.index-opened-place.is at.1 (sym c.contains.ensures ∙ c.if-contains.false) c.in_ok-has.has
+    (c.in_ok-has.ensures.has h (documents_at committed.stored i) _ (entry_at _ c.args.entries.now committed.stored i _ spells within (get_same c.args.entries.now i _ _ within)).segment
+    (opened_at c.args.opened.now committed.stored i c.index-opened-place.result are at.0 c.index-opened-place.is).segment))

@@ -1,0 +1,24 @@
+-- The segment whose numbers reach over the number answers for all; where there is none, none has it.
+use Rattle.std.proofs.Common.{◌<◌, ◌∙◌, length, arith, sym}
+use Rattle.pk_open.proofs.PlaceLemmas.{entry_at, opened_at}
+use Rattle.pk_open.proofs.LookUpLemmas.{dropped, get_same, located, looked_up, no_span}
+use Rattle.pk_open.specs.Opened.{documents_at}
+use Rattle.pk_open.proofs.showing.text_stored.Goals as goal
+
+pub returns-in_default-clause-text : goal.returns-in_default-clause-text
+returns-in_default-clause-text g c = λ h committed spells are whole.
+    no_span c.args.opened.now committed are whole c.args.number.0 c.in_default.ensures
+
+pub returns-then-contains-clause-text : goal.returns-then-contains-clause-text
+returns-then-contains-clause-text g c = λ h committed spells are whole.
+    let at = located c.args.opened.now c.in-Some.place c.args.number.0 c.index-opened-place.result c.in-Some.ensures c.index-opened-place.is in
+    dropped c.args.opened.now committed are whole c.args.number.0 _ c.args.entries.now spells c.in-Some.place c.index-opened-place.result at.0 c.index-opened-place.is at.1 (sym c.if-contains.ensures)
+
+pub returns-clause-text : goal.returns-clause-text
+returns-clause-text g c = λ h committed spells are whole.
+    let i = c.in-Some.place in
+    let at = located c.args.opened.now i c.args.number.0 c.index-opened-place.result c.in-Some.ensures c.index-opened-place.is in
+    let within : i < length c.args.entries.now = omega (arith, at.0, c.requires.same) in
+    looked_up c.args.opened.now committed are whole c.args.number.0 _ c.args.entries.now spells i c.index-opened-place.result at.0 c.index-opened-place.is at.1 (sym c.contains.ensures ∙ c.if-contains.false) c.text_in.result
+    (c.text_in.ensures.text h (documents_at committed.stored i) _ (entry_at _ c.args.entries.now committed.stored i _ spells within (get_same c.args.entries.now i _ _ within)).segment
+    (opened_at c.args.opened.now committed.stored i c.index-opened-place.result are at.0 c.index-opened-place.is).segment)

@@ -1,0 +1,4 @@
+-- The definitions that the contracts cite.
+pub mod Opened
+pub mod Opening
+pub mod Showing

@@ -1,0 +1,35 @@
+//! Open segments: the segments that a body names, with what is deleted of each, and their documents
+//! by number.
+//!
+//! An `OpenSegment` is what a session keeps of a segment: what opening read of it, the numbers of
+//! its deletion list, and all that are deleted: those, and the pending ones, whose deletion no
+//! commit has taken.
+//!
+//! A caller hands the disk, the entries of the body in force and their open segments, each at the
+//! place of its entry. What the entries stand for is said by pk_state (`SpellsEntries`). What is
+//! left of it once each deletion counts is `present`; the clauses hold for whatever that is.
+//!
+//! | call | answers | reads |
+//! |---|---|---|
+//! | `open_segments` | the segments of a body, with what is deleted of each | headers, ends of directories, deletion lists |
+//! | `text_stored` | the text of the live document of a number, or none | one text, by halving |
+//! | `place_stored` | the place of the segment that has it, or none | one directory, by halving |
+//! | `count_stored` | how many documents there are | nothing |
+//! | `copy_of`, `put_copies` | copies of open segments | nothing |
+//!
+//! A call is refused as damaged where a segment is none, as disk where a read failed, or as memory.
+//! None of them writes.
+//!
+//! In specs/: `Opened` says of what a segment is the open one, and what is present, `Opening` what
+//! the entries of a body open as, `Showing` what a look-up answers.
+#![tactic(auto)]
+
+mod copying;
+mod opened;
+mod opening;
+mod showing;
+
+pub use copying::{copy_of, put_copies};
+pub use opened::OpenSegment;
+pub use opening::open_segments;
+pub use showing::{count_stored, place_stored, text_stored};

@@ -1,0 +1,153 @@
+//! A document looked up in stored segments, and how many there are.
+ghost use Rattle.std.specs.Prelude.{◌≡◌, ◌≤◌, ◌<◌, ◌+◌, ◌^◌, ℕ, List, length};
+ghost use Rattle.std.specs.Prelude.{All, IfOk, IfSome, MatchOption, slice_index_or};
+ghost use Rattle.pk_disk.specs.Frames.{KeepsDisk};
+ghost use Rattle.pk_disk.specs.Units.{extent_bytes, start_of};
+ghost use Rattle.pk_model.specs.Collection.{Doc, IsCollection};
+ghost use Rattle.pk_model.specs.Limits.{max_segments};
+ghost use Rattle.pk_open.specs.Showing.{LivesAt, LooksUpAs, Spans};
+ghost use Rattle.pk_open.specs.Opened.{AreOpenOf, present};
+ghost use Rattle.pk_segment.specs.Opened.{IsSegmentOf};
+ghost use Rattle.pk_segment.specs.Spelling.{SegmentSpells};
+ghost use Rattle.pk_segment.specs.Reading.{ContainsAs, CountsReads, TextAs};
+ghost use Rattle.pk_posting.specs.Source.{CountsFaults};
+ghost use Rattle.pk_state.specs.Committed.{Committed, live_in, whole_of};
+ghost use Rattle.pk_state.specs.Holds.{SpellsEntries};
+ghost use Rattle.pk_state.specs.Kept.{LieInside};
+
+use crate::opened::OpenSegment;
+use pk_disk::{Disk, Extent};
+use pk_manifest::Part;
+use pk_model::DocNo;
+use pk_posting::SourceFault;
+use pk_segment::{ExtentSource, ReadFault, Segment};
+use std::alloc::Global;
+
+// The place of the segment whose span the number lies in.
+fn place_of(opened: &[OpenSegment], number: DocNo) -> Option<usize>
+    ensures { MatchOption result
+        (All (λ (o : OpenSegment). Spans o number.0 → ⊥) opened.now)
+        (λ place. (place < length opened.now)
+        × ((d : OpenSegment) → Spans (slice_index_or opened.now place d) number.0)) }
+{
+    opened.iter().position(|o| o.segment.first() <= number.0 && number.0 <= o.segment.last())
+}
+
+// The text of the segment's document of this number, if it has one.
+fn text_in<D: Disk>(
+    alloc: Global,
+    disk: &mut D,
+    extent: Extent,
+    segment: &Segment,
+    number: DocNo,
+) -> Result<Option<String>, ReadFault>
+    requires { start_of extent + extent.bytes ≤ length (D.content disk.old) }
+    ensures text { D.honest → (docs : List Doc) (kind : ℕ)
+        → SegmentSpells (extent_bytes (D.content disk.old) extent) docs kind
+        → IsSegmentOf segment.now docs → TextAs docs number.0 result }
+    ensures keeps { KeepsDisk D.Disk disk.old disk.new }
+    ensures reads { CountsReads (D.failed_reads disk.old) (D.failed_reads disk.new) result }
+{
+    let mut source = ExtentSource::on(disk, extent);
+    segment.text_of(alloc, &mut source, number.0)
+}
+
+// Whether the segment has a document of this number.
+fn has_in<D: Disk>(
+    disk: &mut D,
+    extent: Extent,
+    segment: &Segment,
+    number: DocNo,
+) -> Result<bool, SourceFault>
+    requires { start_of extent + extent.bytes ≤ length (D.content disk.old) }
+    ensures has { D.honest → (docs : List Doc) (kind : ℕ)
+        → SegmentSpells (extent_bytes (D.content disk.old) extent) docs kind
+        → IsSegmentOf segment.now docs → ContainsAs docs number.0 result }
+    ensures keeps { KeepsDisk D.Disk disk.old disk.new }
+    ensures reads { CountsFaults (D.failed_reads disk.old) (D.failed_reads disk.new) result }
+{
+    let mut source = ExtentSource::on(disk, extent);
+    segment.contains(&mut source, number.0)
+}
+
+/// The text of the live document of this number, if one of the segments has it. Each open segment
+/// stands at the place of its entry; of the one whose numbers reach over this one the directory is
+/// read by halving, and the text.
+///
+/// Answers `Damaged` where that segment is none, `Disk` where a read failed, or `Memory`.
+pub fn text_stored<D: Disk>(
+    alloc: Global,
+    disk: &mut D,
+    entries: &[Part],
+    opened: &[OpenSegment],
+    number: DocNo,
+) -> Result<Option<String>, ReadFault>
+    requires inside { LieInside (length (D.content disk.old)) entries.now }
+    requires same { length opened.now ≡ length entries.now }
+    ensures text { D.honest → (c : Committed)
+        → SpellsEntries (D.content disk.old) entries.now c.stored → AreOpenOf opened.now c.stored
+        → IsCollection (whole_of c)
+        → LooksUpAs (live_in (present opened.now c.stored)) number.0 result }
+    ensures keeps { KeepsDisk D.Disk disk.old disk.new }
+    ensures reads { CountsReads (D.failed_reads disk.old) (D.failed_reads disk.new) result }
+{
+    let Some(place) = place_of(opened, number) else {
+        return Ok(None);
+    };
+    let entry = &entries[place];
+    let here = &opened[place];
+    if here.deleted.contains(number.0) {
+        return Ok(None);
+    }
+    text_in(alloc, disk, entry.extent, &here.segment, number)
+}
+
+/// The place of the open segment that has the live document of this number, if one of them does.
+/// Each stands at the place of its entry; of the one whose numbers reach over this one the directory
+/// is read by halving. It takes no memory.
+///
+/// Answers `Damaged` where that segment is none, or `Disk` where a read failed.
+pub fn place_stored<D: Disk>(
+    disk: &mut D,
+    entries: &[Part],
+    opened: &[OpenSegment],
+    number: DocNo,
+) -> Result<Option<usize>, SourceFault>
+    requires inside { LieInside (length (D.content disk.old)) entries.now }
+    requires same { length opened.now ≡ length entries.now }
+    ensures place { D.honest → (c : Committed)
+        → SpellsEntries (D.content disk.old) entries.now c.stored → AreOpenOf opened.now c.stored
+        → IsCollection (whole_of c) → LivesAt opened.now c.stored number.0 result }
+    ensures within { IfOk result (λ place. IfSome place (λ i. (1 ≤ number.0)
+        × (i < length opened.now))) }
+    ensures keeps { KeepsDisk D.Disk disk.old disk.new }
+    ensures reads { CountsFaults (D.failed_reads disk.old) (D.failed_reads disk.new) result }
+{
+    if number.0 == 0 {
+        return Ok(None);
+    }
+    let Some(place) = place_of(opened, number) else {
+        return Ok(None);
+    };
+    let entry = &entries[place];
+    let here = &opened[place];
+    if here.deleted.contains(number.0) {
+        return Ok(None);
+    }
+    let has = has_in(disk, entry.extent, &here.segment, number)?;
+    Ok(has.then_some(place))
+}
+
+/// How many live documents there are.
+pub fn count_stored(opened: &[OpenSegment]) -> u64
+    requires { length opened.now ≤ max_segments }
+    ensures is { (c : Committed) → AreOpenOf opened.now c.stored → IsCollection (whole_of c)
+        → result ≡ length (live_in (present opened.now c.stored)) }
+    ensures few { result < 2 ^ 44 }
+{
+    let mut documents = 0;
+    for segment in opened {
+        documents += segment.left();
+    }
+    documents
+}

@@ -1,0 +1,2 @@
+-- The lemma page.
+mod InputLemmas

@@ -1,0 +1,4 @@
+-- The definitions that the contracts cite.
+pub mod Inputs
+pub mod Prepared
+pub mod Refusing
