@@ -1,11 +1,14 @@
 -- Inputs by their places, and after one of them went on.
-use Rattle.std.proofs.Common.{◌≡◌, ◌∙◌, inl, inr, ℕ, zero, suc, ◌+◌, ◌<◌, ◌≤◌, Bool, true, false, Option, None, List, [], ◌∷◌, length, map, set, Some, get_or, slice_index, refl, sym, ap, subst, arith}
-use Rattle.std.specs.Prelude.{All, slice_get}
+use Rattle.std.proofs.Common.{◌≡◌, ◌∙◌, inl, inr, ℕ, zero, suc, ◌+◌, ◌-◌, ◌<◌, ◌≤◌, Bool, true, false, Greater, Ordering, Option, None, List, [], ◌∷◌, ◌++◌, length, map, set, take, Some, get_or, slice_index, refl, sym, ap, subst, arith}
+use Rattle.std.specs.Prelude.{All, MatchOption, slice_get}
+use Rattle.std.specs.Option.{option_map}
+use Rattle.std.specs.Ordering.{match_ordering}
 use Rattle.std.proofs.Math.ListN.{get_or-map}
 use Rattle.std.proofs.Math.Seq.{map-set_same}
 use Rattle.std.proofs.lemmas.Bool.{cases_lt}
 use Rattle.std.proofs.lemmas.List.{length-map, map-set}
 use Rattle.pk_disk.specs.declared.units.Extent.{Extent}
+use Rattle.pk_join.specs.declared.joined.Joined.{Joined}
 use Rattle.pk_join.specs.declared.lists.InputLists.{InputLists}
 use Rattle.pk_join.specs.declared.walk_input.Input.{Input}
 use Rattle.pk_disk.specs.Units.{extent_bytes}
@@ -13,14 +16,20 @@ use Rattle.pk_segment.specs.Spelling.{SegmentSpells}
 use Rattle.pk_join.specs.declared.input.MergeInput.{MergeInput}
 use Rattle.pk_join.specs.Inputs.{SpellsInputs}
 use Rattle.pk_join.specs.Listed.{AreListsOf, words_in}
-use Rattle.pk_join.specs.Noted.{AreNoted}
-use Rattle.pk_join.specs.WalkInput.{HaveExtentsOf, extents_of, heads_of, lists_of}
-use Rattle.pk_join.specs.Walking.{AreListed, IsAtHeads, IsPassed, head_at, is_word, least_of, next_head, stored_at, words_at}
+use Rattle.pk_join.specs.Keys.{HasKey}
+use Rattle.pk_join.specs.Noted.{AreNoted, next_noted, noted_of, order_of}
+use Rattle.pk_join.specs.declared.keys.Sought.{Sought}
+use Rattle.pk_join.proofs.KeyLemmas.{greater_key}
+use Rattle.pk_join.specs.WalkInput.{HaveExtentsOf, Holds, StandAs, StandsAs, extents_of, heads_of, keys_of, lists_of}
+use Rattle.pk_join.specs.Joining.{MayJoin, joined_in}
+use Rattle.pk_join.specs.Walking.{AreListed, CanHold, IsAtHeads, IsPassed, head_at, is_word, least_of, lesser_of, next_head, stored_at, words_at}
 use Rattle.pk_segment.specs.Indexed.{list_with}
-use Rattle.pk_state.specs.Committed.{Stored, live_of}
+use Rattle.pk_state.specs.Committed.{Stored, live_in, live_of}
 use Rattle.std.proofs.lemmas.Slice.Eq.{bytes_eq-Decides}
+use Rattle.pk_join.proofs.JoinLemmas.{may_next}
 use Rattle.pk_join.proofs.JoinNoted.{IsGap}
 use Rattle.pk_join.proofs.NoteLemmas.{noted_have}
+use Rattle.pk_join.proofs.WalkLemmas.{found_within}
 use Rattle.pk_join.proofs.WordLemmas.{same_word}
 
 found_word : (w : List ℕ) (o : Option (List ℕ)) → is_word w o ≡ true → o ≡ Some w
@@ -29,61 +38,169 @@ found_word w (Some v) is = ap (λ (u : List ℕ). Some u) ((bytes_eq-Decides v w
 
 -- ---- one input by its place
 
-pub head_here : (is : List Input) (i : ℕ) (x : Input) → i < length is → x ≡ get_or is i x → x.head ≡ slice_index (heads_of is) i
+pub head_here : (is : List Input) (i : ℕ) (x : Input) → i < length is → x ≡ get_or is i x
+    → x.head ≡ slice_index (heads_of is) i
 head_here [] i x lt at = absurd (omega arith)
 head_here (y ∷ is) zero x lt at = ap (λ (z : Input). z.head) at
 head_here (y ∷ is) (suc i) x lt at = head_here is i x (omega arith) at
 
-pub words_here : (is : List Input) (i : ℕ) (x : Input) → i < length is → x ≡ get_or is i x → words_in x.lists ≡ words_at (lists_of is) i
+pub words_here : (is : List Input) (i : ℕ) (x : Input) → i < length is → x ≡ get_or is i x
+    → words_in x.lists ≡ words_at (lists_of is) i
 words_here [] i x lt at = absurd (omega arith)
 words_here (y ∷ is) zero x lt at = ap (λ (z : Input). words_in z.lists) at
 words_here (y ∷ is) (suc i) x lt at = words_here is i x (omega arith) at
 
-pub lists_here : (is : List Input) (i : ℕ) (x : Input) → x ≡ get_or is i x → x.lists ≡ get_or (lists_of is) i x.lists
+pub lists_here : (is : List Input) (i : ℕ) (x : Input) → x ≡ get_or is i x
+    → x.lists ≡ get_or (lists_of is) i x.lists
 lists_here is i x at = ap (λ (z : Input). z.lists) at ∙ sym (get_or-map (λ (z : Input). z.lists) is i x)
 
-pub head_is : (is : List Input) (i : ℕ) (x : Input) → i < length is → x ≡ get_or is i x → slice_get (words_in x.lists) x.head ≡ head_at (lists_of is) (heads_of is) i
+pub head_is : (is : List Input) (i : ℕ) (x : Input) → i < length is → x ≡ get_or is i x
+    → slice_get (words_in x.lists) x.head ≡ head_at (lists_of is) (heads_of is) i
 head_is is i x lt at = rw (head_here is i x lt at, words_here is i x lt at) refl
+
+pub key_here : (is : List Input) (i : ℕ) (x : Input) → i < length is → x ≡ get_or is i x
+    → slice_index (keys_of is) i ≡ x.key
+key_here [] i x lt at = absurd (omega arith)
+key_here (y ∷ is) zero x lt at = ap (λ (z : Input). z.key) (sym at)
+key_here (y ∷ is) (suc i) x lt at = key_here is i x (omega arith) at
+
+-- its key is the word's
+key_at_head : (is : List Input) (i : ℕ) → i < length is
+    → HasKey (slice_index (keys_of is) i) (head_at (lists_of is) (heads_of is) i)
+key_at_head [] i lt = absurd (omega arith)
+key_at_head (y ∷ is) zero lt = y.has
+key_at_head (y ∷ is) (suc i) lt = key_at_head is i (omega arith)
+
+-- ---- heads of greater keys are passed over
+
+stay_least : (v : List ℕ) (b : Option (List ℕ)) → Greater ≡ order_of v b → lesser_of (Some v) b ≡ Some v
+stay_least v None g = refl
+stay_least v (Some w) g = ap (λ (o : Ordering). match_ordering o (Some w) (Some v) (Some v)) (sym g)
+
+stay_noted : (v : List ℕ) (b : Option (List ℕ)) (ns : List ℕ) (i : ℕ) → Greater ≡ order_of v b
+    → next_noted (Some v) b ns i ≡ ns
+stay_noted v b ns i g = ap (λ (o : Ordering). match_ordering o (i ∷ []) (ns ++ i ∷ []) ns) (sym g)
+
+pass_greater : (is : List Input) (s : Sought) (from d : ℕ) → from + d ≤ length is
+    → least_of (lists_of is) (heads_of is) from ≡ Some s.word.now
+    → ((k : ℕ) → from ≤ k → k < from + d → s.key < slice_index (keys_of is) k)
+    → (least_of (lists_of is) (heads_of is) (from + d) ≡ Some s.word.now)
+    × (noted_of (lists_of is) (heads_of is) (from + d) ≡ noted_of (lists_of is) (heads_of is) from)
+pass_greater is s from zero fits least far =
+    let e : from + zero ≡ from = omega arith in
+    (ap (least_of (lists_of is) (heads_of is)) e ∙ least, ap (noted_of (lists_of is) (heads_of is)) e)
+pass_greater is s from (suc d) fits least far =
+    let ls = lists_of is in
+    let heads = heads_of is in
+    let m : ℕ = from + d in
+    let e : from + suc d ≡ suc m = omega arith in
+    let rec = pass_greater is s from d (omega (arith, fits)) least (λ k a b. far k a (omega (arith, b))) in
+    let g = greater_key s.word.now s.key (slice_index (keys_of is) m) (head_at ls heads m) s.has
+    (key_at_head is m (omega (arith, fits))) (far m (omega arith) (omega arith)) in (
+      ap (least_of ls heads) e ∙ ap (λ (o : Option (List ℕ)). lesser_of o (head_at ls heads m)) rec.0
+          ∙ stay_least s.word.now (head_at ls heads m) g,
+      ap (noted_of ls heads) e
+          ∙ ap (λ (o : Option (List ℕ)). next_noted o (head_at ls heads m) (noted_of ls heads m) m) rec.0
+          ∙ stay_noted s.word.now (head_at ls heads m) (noted_of ls heads m) m g ∙ rec.1,
+    )
+
+-- what is noted up to a place is so up to the next one whose key is not greater
+pub passed_on : (is : List Input) (keys : List ℕ) (least : Option Sought) (from j : ℕ) → keys ≡ keys_of is
+    → from ≤ j → j ≤ length is
+    → option_map (λ (s : Sought). s.word.now) least ≡ least_of (lists_of is) (heads_of is) from
+    → MatchOption least (j ≡ from) (λ s. (k : ℕ) → from ≤ k → k < j → s.key < slice_index keys k)
+    → (least_of (lists_of is) (heads_of is) from ≡ least_of (lists_of is) (heads_of is) j)
+    × (noted_of (lists_of is) (heads_of is) from ≡ noted_of (lists_of is) (heads_of is) j)
+passed_on is keys None from j same le within has far =
+    (ap (least_of (lists_of is) (heads_of is)) (sym far), ap (noted_of (lists_of is) (heads_of is)) (sym far))
+passed_on is keys (Some s) from j same le within has far =
+    let e : from + (j - from) ≡ j = omega (arith, le) in
+    let r = pass_greater is s from (j - from) (omega (arith, le, within)) (sym has)
+    (λ k a b. subst (λ (l : List ℕ). s.key < slice_index l k) same (far k a (omega (arith, b, le)))) in (
+      sym has ∙ sym r.0 ∙ ap (least_of (lists_of is) (heads_of is)) e,
+      sym r.1 ∙ ap (noted_of (lists_of is) (heads_of is)) e,
+    )
 
 -- ---- what is said of each by a part that stays
 
-pub all_stay : {Y : Type 0} (f : Input → Y) (Q : Y → Type 0) (is js : List Input) → map f js ≡ map f is → All (λ (i : Input). Q (f i)) is → All (λ (i : Input). Q (f i)) js
+pub all_stay : {Y : Type 0} (f : Input → Y) (Q : Y → Type 0) (is js : List Input) → map f js ≡ map f is
+    → All (λ (i : Input). Q (f i)) is → All (λ (i : Input). Q (f i)) js
 all_stay {Y} f Q is js same all k d lt =
     let long : length js ≡ length is = sym (length-map js f) ∙ ap length same ∙ length-map is f in
-    let e : f (get_or is k d) ≡ f (get_or js k d) = sym (get_or-map f is k d) ∙ ap (λ (l : List Y). get_or l k (f d)) (sym same) ∙ get_or-map f js k d in
+    let e : f (get_or is k d) ≡ f (get_or js k d) = sym (get_or-map f is k d)
+    ∙ ap (λ (l : List Y). get_or l k (f d)) (sym same) ∙ get_or-map f js k d in
     subst Q e (all k d (omega (arith, lt, long)))
 
 -- ---- one input is another one
 
-pub part_same : {Y : Type 0} (f : Input → Y) (is : List Input) (i : ℕ) (x y : Input) → x ≡ get_or is i x → f y ≡ f x → map f (set is i y) ≡ map f is
+pub part_same : {Y : Type 0} (f : Input → Y) (is : List Input) (i : ℕ) (x y : Input) → x ≡ get_or is i x
+    → f y ≡ f x → map f (set is i y) ≡ map f is
 part_same {Y} f is i x y at same = map-set_same f is i y x (same ∙ ap f at)
 
 pub heads_set : (is : List Input) (i : ℕ) (y : Input) → heads_of (set is i y) ≡ set (heads_of is) i y.head
 heads_set is i y = map-set (λ (z : Input). z.head) is i y
 
+pub keys_set : (is : List Input) (keys : List ℕ) (i : ℕ) (y : Input) → keys ≡ keys_of is
+    → set keys i y.key ≡ keys_of (set is i y)
+keys_set is keys i y same = ap (λ (ks : List ℕ). set ks i y.key) same
+    ∙ sym (map-set (λ (z : Input). z.key) is i y)
+
+-- ---- all is the same but for what is read ahead
+
+pub stand_none : (is : List Input) → StandAs is is
+stand_none is = record { extents = refl; lists = refl; heads = refl; keys = refl }
+
+pub stand_set : (is js : List Input) (i : ℕ) (x y : Input) → x ≡ get_or js i x → StandsAs x y → StandAs is js
+    → StandAs is (set js i y)
+stand_set is js i x y at one all = record {
+  extents = part_same (λ (z : Input). z.extent) js i x y at one.extent ∙ all.extents;
+  lists = part_same (λ (z : Input). z.lists) js i x y at one.lists ∙ all.lists;
+  heads = part_same (λ (z : Input). z.head) js i x y at one.head ∙ all.heads;
+  keys = part_same (λ (z : Input). z.key) js i x y at one.key ∙ all.keys;
+}
+
 -- ---- the inputs that are noted
 
-pub noted_within : (is : List Input) (ns : List ℕ) (k : ℕ) → AreNoted (lists_of is) (heads_of is) ns → k < length ns → slice_index ns k < length is
+pub noted_within : (is : List Input) (ns : List ℕ) (k : ℕ) → AreNoted (lists_of is) (heads_of is) ns
+    → k < length ns → slice_index ns k < length is
 noted_within is ns k noted lt =
     let ls = lists_of is in
     let have = noted_have ls (heads_of is) (length ls) noted.word noted.least in
     let here = have.each k (omega (arith, lt, ap length noted.noted)) in
-    omega (arith, here.0, ap (λ (l : List ℕ). slice_index l k) noted.noted, length-map is (λ (z : Input). z.lists))
+    omega (
+      arith,
+      here.0,
+      ap (λ (l : List ℕ). slice_index l k) noted.noted,
+      length-map is (λ (z : Input). z.lists),
+    )
 
-pub noted_there : (is : List Input) (ns : List ℕ) (k : ℕ) → (noted : AreNoted (lists_of is) (heads_of is) ns) → k < length ns → head_at (lists_of is) (heads_of is) (slice_index ns k) ≡ Some noted.word
+-- also once some of them went on
+pub noted_in : (is js : List Input) (ns : List ℕ) (k : ℕ) → AreNoted (lists_of is) (heads_of is) ns
+    → k < length ns → length js ≡ length is → slice_index ns k < length js
+noted_in is js ns k noted lt long = omega (arith, noted_within is ns k noted lt, long)
+
+pub noted_there : (is : List Input) (ns : List ℕ) (k : ℕ) → (noted : AreNoted (lists_of is) (heads_of is) ns)
+    → k < length ns → head_at (lists_of is) (heads_of is) (slice_index ns k) ≡ Some noted.word
 noted_there is ns k noted lt =
     let ls = lists_of is in
     let have = noted_have ls (heads_of is) (length ls) noted.word noted.least in
     let here = have.each k (omega (arith, lt, ap length noted.noted)) in
     ap (λ (l : List ℕ). head_at ls (heads_of is) (slice_index l k)) noted.noted ∙ here.1
 
-pub noted_rise : (is : List Input) (ns : List ℕ) (j k : ℕ) → AreNoted (lists_of is) (heads_of is) ns → j < k → k < length ns → slice_index ns j < slice_index ns k
+pub noted_rise : (is : List Input) (ns : List ℕ) (j k : ℕ) → AreNoted (lists_of is) (heads_of is) ns → j < k
+    → k < length ns → slice_index ns j < slice_index ns k
 noted_rise is ns j k noted lt lt' =
     let ls = lists_of is in
     let have = noted_have ls (heads_of is) (length ls) noted.word noted.least in
-    omega (arith, have.rising j k lt (omega (arith, lt', ap length noted.noted)), ap (λ (l : List ℕ). slice_index l k) noted.noted, ap (λ (l : List ℕ). slice_index l j) noted.noted)
+    omega (
+      arith,
+      have.rising j k lt (omega (arith, lt', ap length noted.noted)),
+      ap (λ (l : List ℕ). slice_index l k) noted.noted,
+      ap (λ (l : List ℕ). slice_index l j) noted.noted,
+    )
 
-pub noted_all : (is : List Input) (ns : List ℕ) (i : ℕ) → (noted : AreNoted (lists_of is) (heads_of is) ns) → i < length (lists_of is) → head_at (lists_of is) (heads_of is) i ≡ Some noted.word
+pub noted_all : (is : List Input) (ns : List ℕ) (i : ℕ) → (noted : AreNoted (lists_of is) (heads_of is) ns)
+    → i < length (lists_of is) → head_at (lists_of is) (heads_of is) i ≡ Some noted.word
     → (k : ℕ) × (k < length ns) × (slice_index ns k ≡ i)
 noted_all is ns i noted lt got =
     let ls = lists_of is in
@@ -92,20 +209,36 @@ noted_all is ns i noted lt got =
     (f.0, omega (arith, f.1, ap length noted.noted), ap (λ (l : List ℕ). slice_index l f.0) noted.noted ∙ f.2)
 
 -- an input that is noted, while those before it may have gone on
-pub noted_here : (is js : List Input) (ns : List ℕ) (k : ℕ) (x : Input) → (noted : AreNoted (lists_of is) (heads_of is) ns) → k < length ns → lists_of js ≡ lists_of is
-    → slice_index (heads_of js) (slice_index ns k) ≡ slice_index (heads_of is) (slice_index ns k) → x ≡ get_or js (slice_index ns k) x → slice_get (words_in x.lists) x.head ≡ Some noted.word
+pub noted_here : (is js : List Input) (ns : List ℕ) (k : ℕ) (x : Input)
+    → (noted : AreNoted (lists_of is) (heads_of is) ns) → k < length ns → lists_of js ≡ lists_of is
+    → slice_index (heads_of js) (slice_index ns k) ≡ slice_index (heads_of is) (slice_index ns k)
+    → x ≡ get_or js (slice_index ns k) x → slice_get (words_in x.lists) x.head ≡ Some noted.word
 noted_here is js ns k x noted lt same stay at =
     let i = slice_index ns k in
-    let long : length js ≡ length is = sym (length-map js (λ (z : Input). z.lists)) ∙ ap length same ∙ length-map is (λ (z : Input). z.lists) in
+    let long : length js ≡ length is = sym (length-map js (λ (z : Input). z.lists)) ∙ ap length same
+    ∙ length-map is (λ (z : Input). z.lists) in
     let inside : i < length js = omega (arith, long, noted_within is ns k noted lt) in
-    head_is js i x inside at ∙ ap (λ (ls : List InputLists). slice_get (words_at ls i) (slice_index (heads_of js) i)) same
+    head_is js i x inside at
+    ∙ ap (λ (ls : List InputLists). slice_get (words_at ls i) (slice_index (heads_of js) i)) same
     ∙ ap (λ (h : ℕ). slice_get (words_at (lists_of is) i) h) stay ∙ noted_there is ns k noted lt
+
+-- it has not come to its end
+pub noted_inside : (is js : List Input) (ns : List ℕ) (k : ℕ) (x : Input)
+    → (noted : AreNoted (lists_of is) (heads_of is) ns) → k < length ns → lists_of js ≡ lists_of is
+    → slice_index (heads_of js) (slice_index ns k) ≡ slice_index (heads_of is) (slice_index ns k)
+    → x ≡ get_or js (slice_index ns k) x → x.head < length (words_in x.lists)
+noted_inside is js ns k x noted lt same stay at =
+    found_within (words_in x.lists) x.head noted.word (noted_here is js ns k x noted lt same stay at)
 
 -- ---- the inputs that are noted go on
 
-pub passed_all : (is js : List Input) (ns : List ℕ) (w : List ℕ) → AreNoted (lists_of is) (heads_of is) ns → least_of (lists_of is) (heads_of is) (length (lists_of is)) ≡ Some w
-    → ((j : ℕ) → j < length ns → slice_index (heads_of js) (slice_index ns j) ≡ slice_index (heads_of is) (slice_index ns j) + 1)
-    → ((i : ℕ) → ((j : ℕ) → j < length ns → slice_index ns j ≡ i → ⊥) → slice_index (heads_of js) i ≡ slice_index (heads_of is) i) → IsPassed (lists_of is) w (heads_of is) (heads_of js)
+pub passed_all : (is js : List Input) (ns : List ℕ) (w : List ℕ) → AreNoted (lists_of is) (heads_of is) ns
+    → least_of (lists_of is) (heads_of is) (length (lists_of is)) ≡ Some w
+    → ((j : ℕ) → j < length ns → slice_index (heads_of js) (slice_index ns j) ≡ slice_index (heads_of is)
+    (slice_index ns j) + 1)
+    → ((i : ℕ) → ((j : ℕ) → j < length ns → slice_index ns j ≡ i → ⊥)
+    → slice_index (heads_of js) i ≡ slice_index (heads_of is) i)
+    → IsPassed (lists_of is) w (heads_of is) (heads_of js)
 passed_all is js ns w noted least on others i lt = by (is_word w (head_at ls heads i)) refl
   where
     ls : List InputLists
@@ -117,7 +250,8 @@ passed_all is js ns w noted least on others i lt = by (is_word w (head_at ls hea
     same : noted.word ≡ w
     same = let e : Some noted.word ≡ Some w = sym noted.least ∙ least in cc
 
-    by : (b : Bool) → is_word w (head_at ls heads i) ≡ b → slice_index (heads_of js) i ≡ next_head ls w heads i
+    by : (b : Bool) → is_word w (head_at ls heads i) ≡ b → slice_index (heads_of js) i ≡ next_head ls w heads
+        i
     by true e =
         let there = found_word w (head_at ls heads i) e in
         let f = noted_all is ns i noted lt (there ∙ ap (λ (v : List ℕ). Some v) (sym same)) in
@@ -125,16 +259,21 @@ passed_all is js ns w noted least on others i lt = by (is_word w (head_at ls hea
     by false e =
         others i (λ j less at.
         let there = noted_there is ns j noted less in
-        let here : head_at ls heads i ≡ Some w = subst (λ (k : ℕ). head_at ls heads k ≡ Some noted.word) at there ∙ ap (λ (v : List ℕ). Some v) same in
+        let here : head_at ls heads i ≡ Some w = subst (λ (k : ℕ). head_at ls heads k ≡ Some noted.word) at
+        there ∙ ap (λ (v : List ℕ). Some v) same in
         let k : true ≡ false = sym (ap (is_word w) here ∙ same_word w) ∙ e in
         cc)
         ∙ rw e refl
 
 -- an input between those that are noted leaves nothing
-pub none_between : (is : List Input) (ns : List ℕ) (stored : List Stored) (w : List ℕ) (k from b : ℕ) → AreNoted (lists_of is) (heads_of is) ns → least_of (lists_of is) (heads_of is) (length (lists_of is)) ≡ Some w
-    → IsAtHeads (lists_of is) (heads_of is) w stored → IsGap (length (lists_of is)) ns k b → ((j : ℕ) → j < k → slice_index ns j < from) → (i : ℕ) → from ≤ i → i < b
+pub none_between : (is : List Input) (ns : List ℕ) (stored : List Stored) (w : List ℕ) (k from b : ℕ)
+    → AreNoted (lists_of is) (heads_of is) ns → least_of (lists_of is) (heads_of is) (length (lists_of is))
+    ≡ Some w
+    → IsAtHeads (lists_of is) (heads_of is) w stored → IsGap (length (lists_of is)) ns k b
+    → ((j : ℕ) → j < k → slice_index ns j < from) → (i : ℕ) → from ≤ i → i < b
     → list_with w (live_of (stored_at stored i)) ≡ []
-none_between is ns stored w k from b noted least absent gap before i le lt = by (is_word w (head_at ls heads i)) refl
+none_between is ns stored w k from b noted least absent gap before i le lt =
+    by (is_word w (head_at ls heads i)) refl
   where
     ls : List InputLists
     ls = lists_of is
@@ -165,9 +304,12 @@ pub record IsNoted (is : List Input) (ns : List ℕ) (k : ℕ) (w v : List ℕ) 
   pub word : Some v ≡ Some w
   pub below : (j : ℕ) → j < k + 1 → slice_index ns j < slice_index ns k + 1
 
-pub noted_gap : (is : List Input) (ns : List ℕ) (k : ℕ) (w : List ℕ) → (noted : AreNoted (lists_of is) (heads_of is) ns) → k < length ns → least_of (lists_of is) (heads_of is) (length (lists_of is)) ≡ Some w → IsNoted is ns k w noted.word
+pub noted_gap : (is : List Input) (ns : List ℕ) (k : ℕ) (w : List ℕ)
+    → (noted : AreNoted (lists_of is) (heads_of is) ns) → k < length ns
+    → least_of (lists_of is) (heads_of is) (length (lists_of is)) ≡ Some w → IsNoted is ns k w noted.word
 noted_gap is ns k w noted lt least =
-    let inside : slice_index ns k < length (lists_of is) = omega (arith, noted_within is ns k noted lt, length-map is (λ (z : Input). z.lists)) in
+    let inside : slice_index ns k < length (lists_of is) =
+    omega (arith, noted_within is ns k noted lt, length-map is (λ (z : Input). z.lists)) in
     record {
       gap = record {
         within = omega (arith, inside);
@@ -192,7 +334,9 @@ pub record Given (bytes : List ℕ) (x : Input) (stored : List Stored) (i : ℕ)
   pub segment : SegmentSpells (extent_bytes bytes x.extent) (stored_at stored i).documents kind
   pub lists : AreListsOf x.lists kind (stored_at stored i).documents (stored_at stored i).dead
 
-given_one : (bytes : List ℕ) (given : List MergeInput) (js : List Input) (stored : List Stored) (i : ℕ) (d : Input) → SpellsInputs bytes given stored → AreListed given (lists_of js) stored → HaveExtentsOf given js
+given_one : (bytes : List ℕ) (given : List MergeInput) (js : List Input) (stored : List Stored) (i : ℕ)
+    (d : Input) → SpellsInputs bytes given stored → AreListed given (lists_of js) stored
+    → HaveExtentsOf given js
     → i < length js → Given bytes (get_or js i d) stored i
 given_one bytes given [] stored i d spells are extents lt = absurd (omega arith)
 given_one bytes [] (x ∷ js) stored i d spells are extents lt = absurd (cc)
@@ -202,15 +346,51 @@ given_one bytes (m ∷ given) (x ∷ js) (s ∷ stored) zero d spells are extent
     record {
       kind = m.kind;
       within = omega arith;
-      segment = subst (λ (e : Extent). SegmentSpells (extent_bytes bytes e) s.documents m.kind) first spells.0.segment;
+      segment = subst (λ (e : Extent). SegmentSpells (extent_bytes bytes e) s.documents m.kind) first
+          spells.0.segment;
       lists = are.0;
     }
 given_one bytes (m ∷ given) (x ∷ js) (s ∷ stored) (suc i) d spells are extents lt =
     let rest : HaveExtentsOf given js = cc in
     let more = given_one bytes given js stored i d spells.1 are.1 rest (omega arith) in
-    record { kind = more.kind; within = omega (arith, more.within); segment = more.segment; lists = more.lists }
+    record {
+      kind = more.kind;
+      within = omega (arith, more.within);
+      segment = more.segment;
+      lists =
+          more.lists;
+    }
 
-pub given_at : (bytes : List ℕ) (given : List MergeInput) (is js : List Input) (stored : List Stored) (i : ℕ) (d : Input) → SpellsInputs bytes given stored → AreListed given (lists_of is) stored → HaveExtentsOf given is
-    → lists_of js ≡ lists_of is → extents_of js ≡ extents_of is → i < length (lists_of is) → Given bytes (get_or js i d) stored i
+pub given_at : (bytes : List ℕ) (given : List MergeInput) (is js : List Input) (stored : List Stored) (i : ℕ)
+    (d : Input) → SpellsInputs bytes given stored → AreListed given (lists_of is) stored
+    → HaveExtentsOf given is
+    → lists_of js ≡ lists_of is → extents_of js ≡ extents_of is → i < length (lists_of is)
+    → Given bytes (get_or js i d) stored i
 given_at bytes given is js stored i d spells are extents lists same lt =
-    given_one bytes given js stored i d spells (subst (λ (ls : List InputLists). AreListed given ls stored) (sym lists) are) (extents ∙ sym same) (omega (arith, lt, ap length lists, length-map js (λ (z : Input). z.lists)))
+    given_one bytes given js stored i d spells (subst (λ (ls : List InputLists). AreListed given ls stored)
+    (sym lists) are) (extents ∙ sym same)
+    (omega (arith, lt, ap length lists, length-map js (λ (z : Input). z.lists)))
+
+-- what is said of each list that may be joined is said of that of the next input that is noted
+pub joins_next : (Q : Stored → List ℕ → Type 0) (bytes now : List ℕ) (given : List MergeInput)
+    (is js : List Input) (stored : List Stored) (ns : List ℕ) (k : ℕ) (w : List ℕ) (x : Input) (j : Joined)
+    → (noted : AreNoted (lists_of is) (heads_of is) ns) → k < length ns
+    → least_of (lists_of is) (heads_of is) (length (lists_of is)) ≡ Some w
+    → HaveExtentsOf given is → SpellsInputs bytes given stored → AreListed given (lists_of is) stored
+    → CanHold stored j.room → now ≡ bytes → StandAs is js → x ≡ get_or js (slice_index ns k) x → Holds now x
+    → joined_in j ≡ list_with w (live_in (take (slice_index ns k) stored))
+    → ((s : Stored) (kind : ℕ) (v : List ℕ) → Holds now x
+    → SegmentSpells (extent_bytes now x.extent) s.documents kind → AreListsOf x.lists kind s.documents s.dead
+    → slice_get (words_in x.lists) x.head ≡ Some v → MayJoin j (list_with v (live_of s)) → Q s v)
+    → Q (stored_at stored (slice_index ns k)) w
+joins_next Q bytes now given is js stored ns k w x j noted lt least extents spells are can same stand at
+    holds so_far each =
+    let i = slice_index ns k in
+    let one = noted_gap is ns k w noted lt least in
+    let here = subst (λ (b : List ℕ). SpellsInputs b given stored) (sym same) spells in
+    let of_input = subst (λ (z : Input). Given now z stored i) (sym at)
+    (given_at now given is js stored i x here are extents stand.lists stand.extents one.within) in
+    let got = noted_here is js ns k x noted lt stand.lists
+    (ap (λ (hs : List ℕ). slice_index hs i) stand.heads) at ∙ one.word in
+    each (stored_at stored i) of_input.kind w holds of_input.segment of_input.lists got
+    (may_next j w stored i can of_input.within so_far)

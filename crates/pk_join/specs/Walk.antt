@@ -15,11 +15,11 @@ walk_lists walk = lists_of walk.inputs.items
 
 -- how many numbers it may join
 abbrev pub walk_room : Walk → ℕ
-walk_room walk = walk.joined.room
+walk_room walk = walk.list.joined.room
 
 -- the numbers of the word that it passed last
 abbrev pub walk_numbers : Walk → List ℕ
-walk_numbers walk = walk.joined.numbers.items
+walk_numbers walk = walk.list.joined.numbers.items
 
 -- and that word
 abbrev pub walk_word : Walk → List ℕ
@@ -27,7 +27,8 @@ walk_word walk = passed_of (slice_get walk.inputs.items walk.at)
 
 -- how many words of all inputs are to come, each input's own
 abbrev pub words_to_come : Walk → ℕ
-words_to_come walk = to_come (walk_lists walk) (heads_of walk.inputs.items) (length (walk_lists walk))
+words_to_come walk =
+    to_come (walk_lists walk) (heads_of walk.inputs.items) (length (walk_lists walk))
 
 -- each of its inputs lies within a disk of so many bytes
 abbrev pub WalksWithin : ℕ → Walk → Type 0

@@ -20,6 +20,10 @@ HaveExtentsOf given is = map (λ (m : MergeInput). m.extent) given ≡ extents_o
 abbrev pub lists_of : List Input → List InputLists
 lists_of is = map (λ (i : Input). i.lists) is
 
+-- the key of the word at the head of each
+abbrev pub keys_of : List Input → List ℕ
+keys_of is = map (λ (i : Input). i.key) is
+
 -- how many words of each were passed
 abbrev pub heads_of : List Input → List ℕ
 heads_of is = map (λ (i : Input). i.head) is
@@ -45,6 +49,20 @@ bytes_or_none (Some w) = w
 abbrev pub passed_of : Option Input → List ℕ
 passed_of None = []
 passed_of (Some i) = bytes_or_none (slice_get (words_in i.lists) (i.head - 1))
+
+-- The input has come as far, and is the same but for what is read ahead of it.
+pub record StandsAs (old new : Input) : Type 0 where
+  pub extent : new.extent ≡ old.extent
+  pub lists : new.lists ≡ old.lists
+  pub head : new.head ≡ old.head
+  pub key : new.key ≡ old.key
+
+-- So are all of them.
+pub record StandAs (old new : List Input) : Type 0 where
+  pub extents : extents_of new ≡ extents_of old
+  pub lists : lists_of new ≡ lists_of old
+  pub heads : heads_of new ≡ heads_of old
+  pub keys : keys_of new ≡ keys_of old
 
 -- the input stands before its first word, and nothing is read ahead of it
 pub record IsBefore (i : Input) : Type 0 where

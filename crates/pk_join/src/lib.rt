@@ -5,8 +5,9 @@
 //! segments are then merged without a sort: the least word at their heads comes next, and the lists
 //! of those that have it there are put one behind another, since the numbers rise from segment to
 //! segment (Manning, Raghavan, Schütze, Introduction to Information Retrieval, 2008, section 4.2).
-//! Words are compared by their keys first, the first eight bytes of each as a number. Deleted numbers
-//! are marked, a byte for each number from the first to the last of a deletion list, so that each
+//! Words are compared by their keys first, the first eight bytes of each as a number; the keys of
+//! the words at the heads lie side by side, so that a scan of them is short. Deleted numbers are
+//! marked, a byte for each number from the first to the last of a deletion list, so that each
 //! number of a list takes one look; a list whose numbers lie far apart is halved.
 //!
 //! | item | what it is |
@@ -14,7 +15,7 @@
 //! | `MergeInput` | a segment on the disk: its extent, its kind, and its deletion list |
 //! | `InputLists` | the words of an input, with their lists |
 //! | `read_lists` | those of a segment of either kind |
-//! | `Input` | an input of a walk: its words with their lists, and how far the walk has come in it |
+//! | `Input` | an input of a walk: its words with their lists, and how far the walk has come |
 //! | `Walk` | goes through the words that the inputs leave, each with its numbers |
 //! | `Ahead` | bytes of an extent that were read ahead, 32,768 at once, or fewer of many inputs |
 //! | `AheadSource` | an extent as a source that reads ahead |
@@ -23,9 +24,9 @@
 //! and where its list lies. A list is read when its word comes, and with it what stands behind: a
 //! `Walk` holds 32,768 bytes of each input of kind 2, and lends lists of them as long as they last,
 //! since they lie in the order of their words. A longer list is read beside, block by block. Of an
-//! input of kind 1 there is an index of the texts, in memory. Of the lists that are joined one word's
-//! is in memory at a time. After `read_lists`, `Input::new`, `Walk::new` and `Ahead::new` no call
-//! takes memory.
+//! input of kind 1 there is an index of the texts, in memory. Of the lists that are joined one
+//! word's is in memory at a time. After `read_lists`, `Input::new`, `Walk::new` and `Ahead::new` no
+//! call takes memory.
 //!
 //! # What is refused
 //!
@@ -34,13 +35,13 @@
 //! `Memory` where memory was refused, by `read_lists`, `Input::new`, `Walk::new` and `Ahead::new`
 //! alone. The disk is only read.
 //!
-//! Where the words are: `specs/Ahead` says what is held of an extent, `specs/Inputs` has what inputs
-//! spell, `specs/Words` how words lie end to end, `specs/Listed` what the words and lists of an input
-//! are, `specs/Marks` what the marks of deleted numbers say, `specs/Joining` what is joined,
-//! `specs/Keys` the keys of words, `specs/Walking` the words side by side, `specs/Noted` which inputs
-//! have the least of them, `specs/WalkInput` the inputs of a walk, `specs/Walk` where it has come.
-//! Lemma pages: `TermWalkLemmas` on the walk, whose words are the terms of the documents that are
-//! left; `JoinLemmas` on one word's list.
+//! Where the words are: `specs/Ahead` says what is held of an extent, `specs/Inputs` has what
+//! inputs spell, `specs/Words` how words lie end to end, `specs/Listed` what the words and lists of
+//! an input are, `specs/Marks` what the marks of deleted numbers say, `specs/Joining` what is
+//! joined, `specs/Keys` the keys of words, `specs/Walking` the words side by side, `specs/Noted`
+//! which inputs have the least of them, `specs/WalkInput` the inputs of a walk, `specs/Walk` where
+//! it has come. Lemma pages: `TermWalkLemmas` on the walk, whose words are the terms of the
+//! documents that are left; `JoinLemmas` on one word's list.
 #![tactic(auto)]
 
 mod ahead;

@@ -27,15 +27,15 @@ ghost use Rattle.pk_segment.specs.Spelling.{SegmentSpells};
 ghost use Rattle.pk_state.specs.Committed.{Stored, live_of};
 
 use crate::ahead::{Ahead, READ_AHEAD};
-use crate::joined::Joined;
+use crate::joined::WordList;
 use crate::keys::key_at;
-use crate::lists::{InputLists, join_word};
+use crate::lists::{InputLists, StoredList, join_indexed, join_stored};
 use pk_disk::{Disk, Extent};
 use pk_posting::SourceFault;
 use std::alloc::{AllocError, Global};
 
-// How many bytes of all inputs are read ahead at most: where they are more than 2,048, of each fewer
-// than of one alone.
+// How many bytes of all inputs are read ahead at most: where they are more than 2,048, of each
+// fewer than of one alone.
 const ALL_AHEAD: usize = 67_108_864;
 
 /// An input of a walk: where it lies, its words with their lists, and how far the walk has come.
@@ -55,7 +55,7 @@ pub struct Input {
 }
 
 impl Input {
-    ghost use Rattle.pk_join.specs.WalkInput.{passed_of};
+    ghost use Rattle.pk_join.specs.WalkInput.{StandsAs, passed_of};
 
     /// One of so many inputs, before its first word. Nothing is read of it yet, and where its lists
     /// are on the disk there is memory to read ahead 32,768 bytes, or its share of 67,108,864.
@@ -129,40 +129,50 @@ impl Input {
     pub(crate) fn join<D: Disk>(
         &mut self,
         disk: &mut D,
-        room: &mut [u32],
-        joined: &mut Joined,
+        list: &mut WordList,
     ) -> Result<(), SourceFault>
         requires inside { start_of self.old.extent + self.old.extent.bytes
             ≤ length (D.content disk.old) }
         requires word { self.old.head < length (words_in self.old.lists) }
-        requires room { room_for self.old.lists ≤ length room.old }
+        requires room { room_for self.old.lists ≤ length list.old.made.items }
         ensures joined { D.honest → (s : Stored) (kind : ℕ) (w : List ℕ)
             → HoldsOf (extent_bytes (D.content disk.old) self.old.extent) self.old.ahead
             → SegmentSpells (extent_bytes (D.content disk.old) self.old.extent) s.documents kind
             → AreListsOf self.old.lists kind s.documents s.dead
             → slice_get (words_in self.old.lists) self.old.head ≡ Some w
-            → MayJoin joined.old (list_with w (live_of s)) → MatchResult result
-            (λ _. joined_in joined.new ≡ joined_in joined.old ++ list_with w (live_of s))
-            (λ e. e ≡ SourceFault.Disk) }
+            → MayJoin list.old.joined (list_with w (live_of s)) → MatchResult result
+            (λ _. joined_in list.new.joined
+            ≡ joined_in list.old.joined ++ list_with w (live_of s)) (λ e. e ≡ SourceFault.Disk) }
         ensures holds { D.honest
             → HoldsOf (extent_bytes (D.content disk.old) self.old.extent) self.old.ahead
             → HoldsOf (extent_bytes (D.content disk.new) self.new.extent) self.new.ahead }
-        ensures extent { self.new.extent ≡ self.old.extent }
-        ensures lists { self.new.lists ≡ self.old.lists }
-        ensures head { self.new.head ≡ self.old.head }
-        ensures room { joined.new.room ≡ joined.old.room }
+        ensures stands { StandsAs self.old self.new }
+        ensures room { list.new.joined.room ≡ list.old.joined.room }
+        ensures made { length list.new.made.items ≡ length list.old.made.items }
         ensures keeps { KeepsDisk D.Disk disk.old disk.new }
         ensures faults { CountsFaults (D.failed_reads disk.old) (D.failed_reads disk.new) result }
     {
-        join_word(
-            disk,
-            self.extent,
-            &self.lists,
-            self.head,
-            &mut self.ahead,
-            room,
-            joined,
-        )
+        match &self.lists {
+            InputLists::Stored {
+                words,
+                postings,
+                marks,
+            } => {
+                let stored = StoredList {
+                    place: words.place(self.head),
+                    postings: *postings,
+                    dead: marks,
+                };
+                join_stored(disk, self.extent, stored, &mut self.ahead, &mut list.joined)
+            }
+            InputLists::Indexed { texts, marks } => join_indexed(
+                texts,
+                marks,
+                self.head,
+                &mut list.made,
+                &mut list.joined,
+            ),
+        }
     }
 }
 

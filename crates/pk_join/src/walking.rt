@@ -13,9 +13,11 @@ ghost use Rattle.std.specs.Prelude.{
   All,
   IfOk,
   IfSome,
+  MatchOption,
   MatchResult,
   OnOk,
   slice_get,
+  slice_index,
 };
 ghost use Rattle.std.specs.Option.{option_map};
 ghost use Rattle.pk_disk.specs.Frames.{KeepsDisk};
@@ -29,8 +31,10 @@ ghost use Rattle.pk_join.specs.WalkInput.{
   Holds,
   IsBefore,
   IsWithin,
+  StandAs,
   extents_of,
   heads_of,
+  keys_of,
   lists_of,
 };
 ghost use Rattle.pk_join.specs.Walking.{
@@ -49,7 +53,7 @@ ghost use Rattle.pk_posting.specs.Source.{CountsFaults};
 ghost use Rattle.pk_segment.specs.Indexed.{list_with};
 ghost use Rattle.pk_state.specs.Committed.{Stored, live_in};
 
-use crate::joined::Joined;
+use crate::joined::WordList;
 use crate::keys::Sought;
 use crate::walk_input::Input;
 use pk_disk::Disk;
@@ -63,26 +67,34 @@ struct Noted<'a> {
     count: usize,
 }
 
-// How the word at the head of an input stands to another; the end of an input stands behind each.
-// Where the keys tell, no word is looked at.
-fn order(input: &Input, sought: Sought) -> Ordering
+// How the word at the head of an input, which has this key, stands to another; the end of an input
+// stands behind each. Where the key is greater, the input is not looked at.
+fn order(input: &Input, key: u64, sought: Sought) -> Ordering
+    requires { key ≡ input.now.key }
     ensures { result ≡ order_of sought.entry.word.now
         (slice_get (words_in input.now.lists) input.now.head) }
 {
-    if sought.key < input.key {
+    if sought.key < key {
         return Ordering::Greater;
     }
     let Some(word) = input.word() else {
         return Ordering::Greater;
     };
-    if input.key < sought.key {
+    if key < sought.key {
         return Ordering::Less;
     }
     word.cmp(sought.word)
 }
 
-// Notes the ith input where none that was seen has a lesser word at its head.
-fn note<'a>(noted: Noted<'a>, input: &'a Input, i: usize, found: &mut [usize]) -> Noted<'a>
+// Notes the ith input, whose head has this key, where none that was seen has a lesser word there.
+fn note<'a>(
+    noted: Noted<'a>,
+    input: &'a Input,
+    key: u64,
+    i: usize,
+    found: &mut [usize],
+) -> Noted<'a>
+    requires key { key ≡ input.now.key }
     requires count { noted.count ≤ i }
     requires within { i < length found.old }
     ensures least { option_map (λ s. s.word.now) result.least
@@ -95,7 +107,7 @@ fn note<'a>(noted: Noted<'a>, input: &'a Input, i: usize, found: &mut [usize]) -
     ensures count { result.count ≤ i + 1 }
 {
     let order = match noted.least {
-        Some(sought) => order(input, sought),
+        Some(sought) => order(input, key, sought),
         None => Ordering::Less,
     };
     match order {
@@ -113,28 +125,47 @@ fn note<'a>(noted: Noted<'a>, input: &'a Input, i: usize, found: &mut [usize]) -
             };
             found[0] = i;
             Noted {
-                least: Some(Sought {
-                    word,
-                    key: input.key,
-                }),
+                least: Some(Sought { word, key }),
                 count: 1,
             }
         }
     }
 }
 
-/// Notes the places of the inputs that have the least word at their heads, in one scan, and answers
-/// how many they are; none where all have come to their ends.
-fn note_heads(inputs: &[Input], found: &mut [usize]) -> Option<usize>
-    requires { length inputs.now ≤ length found.old }
+// The first place from one on whose key is not greater than that of the least word so far, or the
+// end: what is passed has greater words. Without a least word it is that one.
+fn next_near(keys: &[u64], from: usize, least: Option<Sought>) -> usize
+    requires { from ≤ length keys.now }
+    ensures within { (from ≤ result) × (result ≤ length keys.now) }
+    ensures passed { MatchOption least.entry (result ≡ from) (λ s. (k : ℕ) → from ≤ k → k < result
+        → s.key < slice_index keys.now k) }
+{
+    let Some(sought) = least else {
+        return from;
+    };
+    for at in from..keys.len() {
+        if keys[at] <= sought.key {
+            return at;
+        }
+    }
+    keys.len()
+}
+
+/// Notes the places of the inputs that have the least word at their heads, in one scan of their
+/// keys, and answers how many they are; none where all have come to their ends.
+fn note_heads(inputs: &[Input], keys: &[u64], found: &mut [usize]) -> Option<usize>
+    requires keys { keys.now ≡ keys_of inputs.now }
+    requires found { length inputs.now ≤ length found.old }
     ensures { NotesAs (lists_of inputs.now) (heads_of inputs.now) found.new result }
 {
     let mut noted = Noted {
         least: None,
         count: 0,
     };
-    for i in 0..inputs.len() {
-        noted = note(noted, &inputs[i], i, found);
+    let mut i = 0;
+    while i < inputs.len() {
+        noted = note(noted, &inputs[i], keys[i], i, found);
+        i = next_near(keys, i + 1, noted.least);
     }
     match noted.least {
         Some(_) => Some(noted.count),
@@ -143,14 +174,17 @@ fn note_heads(inputs: &[Input], found: &mut [usize]) -> Option<usize>
 }
 
 /// Passes a word: each input that has it at its head goes one on.
-fn pass_noted(inputs: &mut [Input], found: &[usize])
-    requires { AreNoted (lists_of inputs.old) (heads_of inputs.old) found.now }
+fn pass_noted(inputs: &mut [Input], keys: &mut [u64], found: &[usize])
+    requires noted { AreNoted (lists_of inputs.old) (heads_of inputs.old) found.now }
+    requires keys { keys.old ≡ keys_of inputs.old }
     ensures passed { (w : List ℕ)
-        → least_of (lists_of inputs.old) (heads_of inputs.old) (length (lists_of inputs.old)) ≡ Some w
+        → least_of (lists_of inputs.old) (heads_of inputs.old) (length (lists_of inputs.old))
+        ≡ Some w
         → IsPassed (lists_of inputs.old) w (heads_of inputs.old) (heads_of inputs.new) }
     ensures lists { lists_of inputs.new ≡ lists_of inputs.old }
     ensures extents { extents_of inputs.new ≡ extents_of inputs.old }
     ensures hold { (bytes : List ℕ) → All (Holds bytes) inputs.old → All (Holds bytes) inputs.new }
+    ensures keys { keys.new ≡ keys_of inputs.new }
 {
     for k in 0..found.len() {
         let i = found[k];
@@ -158,6 +192,7 @@ fn pass_noted(inputs: &mut [Input], found: &[usize])
         prove!(within);
         let input = &mut inputs[i];
         input.pass();
+        keys[i] = input.key;
     }
 }
 
@@ -167,76 +202,79 @@ fn join_noted<D: Disk>(
     disk: &mut D,
     inputs: &mut [Input],
     found: &[usize],
-    room: &mut [u32],
-    joined: &mut Joined,
+    list: &mut WordList,
 ) -> Result<(), SourceFault>
     requires noted { AreNoted (lists_of inputs.old) (heads_of inputs.old) found.now }
     requires within { All (IsWithin (length (D.content disk.old))) inputs.old }
-    requires room { All (HasRoom (length room.old)) inputs.old }
+    requires room { All (HasRoom (length list.old.made.items)) inputs.old }
     ensures joined { D.honest → (given : List MergeInput) (stored : List Stored) (w : List ℕ)
         → HaveExtentsOf given inputs.old
         → All (Holds (D.content disk.old)) inputs.old
         → SpellsInputs (D.content disk.old) given stored
-        → AreListed given (lists_of inputs.old) stored → CanHold stored (room_in joined.old)
-        → least_of (lists_of inputs.old) (heads_of inputs.old) (length (lists_of inputs.old)) ≡ Some w
+        → AreListed given (lists_of inputs.old) stored → CanHold stored (room_in list.old.joined)
+        → least_of (lists_of inputs.old) (heads_of inputs.old) (length (lists_of inputs.old))
+        ≡ Some w
         → IsAtHeads (lists_of inputs.old) (heads_of inputs.old) w stored → MatchResult result
-        (λ _. joined_in joined.new ≡ list_with w (live_in stored)) (λ e. e ≡ SourceFault.Disk) }
+        (λ _. joined_in list.new.joined ≡ list_with w (live_in stored))
+        (λ e. e ≡ SourceFault.Disk) }
     ensures hold { D.honest → All (Holds (D.content disk.old)) inputs.old
         → OnOk result (All (Holds (D.content disk.new)) inputs.new) }
-    ensures lists { lists_of inputs.new ≡ lists_of inputs.old }
-    ensures heads { heads_of inputs.new ≡ heads_of inputs.old }
-    ensures extents { extents_of inputs.new ≡ extents_of inputs.old }
-    ensures room { room_in joined.new ≡ room_in joined.old }
+    ensures stand { StandAs inputs.old inputs.new }
+    ensures room { room_in list.new.joined ≡ room_in list.old.joined }
+    ensures made { length list.new.made.items ≡ length list.old.made.items }
     ensures keeps { KeepsDisk D.Disk disk.old disk.new }
     ensures faults { CountsFaults (D.failed_reads disk.old) (D.failed_reads disk.new) result }
 {
-    joined.clear();
+    list.joined.clear();
     for k in 0..found.len() {
         let i = found[k];
         let within = i < inputs.len();
         prove!(within);
         let input = &mut inputs[i];
-        input.join(disk, room, joined)?;
+        input.join(disk, list)?;
     }
     Ok(())
 }
 
-/// Passes words until the inputs leave numbers of one, whose numbers are then joined: the place of an
-/// input that has it. It takes no memory.
+/// Passes words until the inputs leave numbers of one, whose numbers are then joined: the place of
+/// an input that has it. It takes no memory.
 pub(crate) fn next_word<D: Disk>(
     disk: &mut D,
     inputs: &mut [Input],
+    keys: &mut [u64],
     found: &mut [usize],
-    room: &mut [u32],
-    joined: &mut Joined,
+    list: &mut WordList,
 ) -> Result<Option<usize>, SourceFault>
+    requires keys { keys.old ≡ keys_of inputs.old }
     requires found { length inputs.old ≤ length found.old }
     requires within { All (IsWithin (length (D.content disk.old))) inputs.old }
-    requires room { All (HasRoom (length room.old)) inputs.old }
+    requires room { All (HasRoom (length list.old.made.items)) inputs.old }
     ensures passed { D.honest → (given : List MergeInput) (stored : List Stored)
         (xs ys : List (List ℕ)) → HaveExtentsOf given inputs.old
         → All (Holds (D.content disk.old)) inputs.old
         → SpellsInputs (D.content disk.old) given stored
-        → AreListed given (lists_of inputs.old) stored → CanHold stored (room_in joined.old)
+        → AreListed given (lists_of inputs.old) stored → CanHold stored (room_in list.old.joined)
         → Walks (lists_of inputs.old) (heads_of inputs.old) stored xs ys
         → MatchResult result (PassedAs (lists_of inputs.new) (heads_of inputs.new) stored xs ys
-        (joined_in joined.new)) (λ e. e ≡ SourceFault.Disk) }
+        (joined_in list.new.joined)) (λ e. e ≡ SourceFault.Disk) }
     ensures hold { D.honest → All (Holds (D.content disk.old)) inputs.old
         → OnOk result (All (Holds (D.content disk.new)) inputs.new) }
     ensures lists { lists_of inputs.new ≡ lists_of inputs.old }
     ensures extents { extents_of inputs.new ≡ extents_of inputs.old }
+    ensures keys { keys.new ≡ keys_of inputs.new }
     ensures fewer { IfOk result (λ o. IfSome o (λ _.
         to_come (lists_of inputs.old) (heads_of inputs.new) (length (lists_of inputs.old))
         < to_come (lists_of inputs.old) (heads_of inputs.old) (length (lists_of inputs.old)))) }
-    ensures room { room_in joined.new ≡ room_in joined.old }
+    ensures room { room_in list.new.joined ≡ room_in list.old.joined }
+    ensures made { length list.new.made.items ≡ length list.old.made.items }
     ensures keeps { KeepsDisk D.Disk disk.old disk.new }
     ensures faults { CountsFaults (D.failed_reads disk.old) (D.failed_reads disk.new) result }
 {
-    'words: while let Some(count) = note_heads(inputs, found) {
+    'words: while let Some(count) = note_heads(inputs, keys, found) {
         let noted = &found[..count];
-        join_noted(disk, inputs, noted, room, joined)?;
-        pass_noted(inputs, noted);
-        if !joined.numbers().is_empty() {
+        join_noted(disk, inputs, noted, list)?;
+        pass_noted(inputs, keys, noted);
+        if !list.joined.numbers().is_empty() {
             return Ok(Some(noted[0]));
         }
     }
@@ -244,13 +282,16 @@ pub(crate) fn next_word<D: Disk>(
 }
 
 /// Goes back before the first word of each input.
-pub(crate) fn restart_all(inputs: &mut [Input])
+pub(crate) fn restart_all(inputs: &mut [Input], keys: &mut [u64])
+    requires { keys.old ≡ keys_of inputs.old }
     ensures before { All IsBefore inputs.new }
     ensures lists { lists_of inputs.new ≡ lists_of inputs.old }
     ensures extents { extents_of inputs.new ≡ extents_of inputs.old }
+    ensures keys { keys.new ≡ keys_of inputs.new }
 {
     for i in 0..inputs.len() {
         let input = &mut inputs[i];
         input.restart();
+        keys[i] = input.key;
     }
 }

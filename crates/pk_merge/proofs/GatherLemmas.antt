@@ -25,7 +25,8 @@ use Rattle.pk_merge.proofs.RiseLemmas.{rise_next}
 -- LENGTHS
 
 length_texts : (xs ys : List Doc) → length (texts (xs ++ ys)) ≡ length (texts xs) + length (texts ys)
-length_texts xs ys = ap length (flat_map-append (λ (d : Doc). d.text) xs ys) ∙ length-append (texts xs) (texts ys)
+length_texts xs ys = ap length (flat_map-append (λ (d : Doc). d.text) xs ys)
+    ∙ length-append (texts xs) (texts ys)
 
 -- in kind 1 nothing stands behind the texts
 pub front_of : (docs : List Doc) → segment_length docs 1 ≡ 24 + 12 * length docs + length (texts docs)
@@ -38,33 +39,49 @@ front_of docs = parts_of docs 1 ∙ nothing (24 + 12 * length docs + length (tex
 pub no_shorter : (docs : List Doc) (kind : ℕ) → segment_length docs 1 ≤ segment_length docs kind
 no_shorter docs kind = omega (arith, front_of docs, parts_of docs kind)
 
-front_append : (xs ys : List Doc) → segment_length (xs ++ ys) 1 + 24 ≡ segment_length xs 1 + segment_length ys 1
-front_append xs ys = omega (arith, front_of (xs ++ ys), front_of xs, front_of ys, length-append xs ys, length_texts xs ys)
+front_append : (xs ys : List Doc) → segment_length (xs ++ ys) 1 + 24 ≡ segment_length xs 1 + segment_length ys
+    1
+front_append xs ys = omega (
+  arith,
+  front_of (xs ++ ys),
+  front_of xs,
+  front_of ys,
+  length-append xs ys,
+  length_texts xs ys,
+)
 
 -- one document more
-pub front_one : (xs : List Doc) (d : Doc) → segment_length (xs ++ d ∷ []) 1 ≡ segment_length xs 1 + 12 + length d.text
+pub front_one : (xs : List Doc) (d : Doc) → segment_length (xs ++ d ∷ []) 1 ≡ segment_length xs 1 + 12
+    + length d.text
 front_one xs d = omega (arith, front_append xs (d ∷ []), front_of (d ∷ []), length_texts_cons d [])
 
 pub front_none : segment_length [] 1 ≡ 24
 front_none = front_of []
 
 -- a part that is too long makes the whole too long
-pub longer : (xs ys zs : List Doc) → zs ≡ xs ++ ys → longest < segment_length xs 1 → longest < segment_length zs 1
-longer xs ys zs same long = omega (arith, long, ap (λ (ds : List Doc). segment_length ds 1) same, front_append xs ys, front_of ys)
+pub longer : (xs ys zs : List Doc) → zs ≡ xs ++ ys → longest < segment_length xs 1
+    → longest < segment_length zs 1
+longer xs ys zs same long =
+    omega (arith, long, ap (λ (ds : List Doc). segment_length ds 1) same, front_append xs ys, front_of ys)
 
 -- WHAT IS LEFT
 
-pub left_append : (dead : List ℕ) (xs ys : List Doc) → left_by dead (xs ++ ys) ≡ left_by dead xs ++ left_by dead ys
+pub left_append : (dead : List ℕ) (xs ys : List Doc) → left_by dead (xs ++ ys) ≡ left_by dead xs
+    ++ left_by dead ys
 left_append dead xs ys = filter-append _ xs ys
 
 -- ONE DOCUMENT that is kept
 
-pub kept_rise : (ds now : List Document) (d : Document) (last : ℕ) → now ≡ ds ++ d ∷ [] → IsStrictlyIncreasing (numbers_of (docs_of ds))
-    → All (λ (x : Document). (1 ≤ x.number.0) × (x.number.0 ≤ last)) ds → last < d.number.0 → IsStrictlyIncreasing (numbers_of (docs_of now))
+pub kept_rise : (ds now : List Document) (d : Document) (last : ℕ) → now ≡ ds ++ d ∷ []
+    → IsStrictlyIncreasing (numbers_of (docs_of ds))
+    → All (λ (x : Document). (1 ≤ x.number.0) × (x.number.0 ≤ last)) ds → last < d.number.0
+    → IsStrictlyIncreasing (numbers_of (docs_of now))
 kept_rise ds now d last same rising each above =
-    let numbers = ap numbers_of (map-append doc_of ds (d ∷ [])) ∙ map-append (λ (x : Doc). x.number) (docs_of ds) (doc_of d ∷ []) in
+    let numbers = ap numbers_of (map-append doc_of ds (d ∷ []))
+    ∙ map-append (λ (x : Doc). x.number) (docs_of ds) (doc_of d ∷ []) in
     let below = All-map (λ (n : ℕ). n < d.number.0) (λ (x : Doc). x.number) (docs_of ds)
-    (All-map (λ (x : Doc). x.number < d.number.0) doc_of ds (λ k x h. omega (arith, (each k x h).1, above))) in
+    (All-map (λ (x : Doc). x.number < d.number.0) doc_of ds
+    (λ k x h. omega (arith, (each k x h).1, above))) in
     rw (same, numbers) (increasing-snoc (numbers_of (docs_of ds)) d.number.0 rising below)
 
 pub kept_each : (ds now : List Document) (d : Document) (last : ℕ) → now ≡ ds ++ d ∷ []
@@ -77,11 +94,14 @@ kept_each ds now d last same each above =
 pub kept_size : (ds now : List Document) (d : Document) → now ≡ ds ++ d ∷ []
     → segment_length (docs_of now) 1 ≡ segment_length (docs_of ds) 1 + 12 + length (doc_of d).text
 kept_size ds now d same = ap (λ (xs : List Document). segment_length (docs_of xs) 1) same
-    ∙ ap (λ (xs : List Doc). segment_length xs 1) (map-append doc_of ds (d ∷ [])) ∙ front_one (docs_of ds) (doc_of d)
+    ∙ ap (λ (xs : List Doc). segment_length xs 1) (map-append doc_of ds (d ∷ []))
+    ∙ front_one (docs_of ds) (doc_of d)
 
 -- a listed document is passed
-pub passes : (old new : Gathered) (dead : List ℕ) (d : Doc) (more : List Doc) (n : ℕ) → new.documents ≡ old.documents → new.last ≡ n → n ≡ d.number
-    → lists n dead ≡ true → RiseFrom old.last (d ∷ more) → (docs_in new ≡ docs_in old ++ left_by dead (d ∷ [])) × RiseFrom new.last more
+pub passes : (old new : Gathered) (dead : List ℕ) (d : Doc) (more : List Doc) (n : ℕ)
+    → new.documents ≡ old.documents → new.last ≡ n → n ≡ d.number
+    → lists n dead ≡ true → RiseFrom old.last (d ∷ more)
+    → (docs_in new ≡ docs_in old ++ left_by dead (d ∷ [])) × RiseFrom new.last more
 passes old new dead d more n same last number there rise = (
   let here : lists d.number dead ≡ true = subst (λ (k : ℕ). lists k dead ≡ true) number there in
       rw here (ap (λ (v : Vec Document Global). docs_of v.items) same ∙ sym (append-nil (docs_in old))),
@@ -89,13 +109,16 @@ passes old new dead d more n same last number there rise = (
 )
 
 -- another one is kept
-pub keeps : {T : Type 0} (old new : Gathered) (dead : List ℕ) (d e : Doc) (more : List Doc) (r : Result T MergeFault) → e ≡ d → lists d.number dead ≡ false
+pub keeps : {T : Type 0} (old new : Gathered) (dead : List ℕ) (d e : Doc) (more : List Doc)
+    (r : Result T MergeFault) → e ≡ d → lists d.number dead ≡ false
     → RiseFrom old.last (d ∷ more) → KeepsAs old e new r → GathersAs (left_by dead (d ∷ [])) more old new r
 keeps old new dead d e more (Ok u) same none rise kept = (
   rw none (kept.0 ∙ ap (λ (x : Doc). docs_in old ++ x ∷ []) same),
-  subst (λ (k : ℕ). RiseFrom k more) (sym (kept.1 ∙ ap (λ (x : Doc). x.number) same)) (rise_next old.last d more rise),
+  subst (λ (k : ℕ). RiseFrom k more) (sym (kept.1 ∙ ap (λ (x : Doc). x.number) same))
+      (rise_next old.last d more rise),
 )
-keeps old new dead d e more (Err TooLarge) same none rise kept = rw none (subst (λ (x : Doc). longest < segment_length (docs_in old ++ x ∷ []) 1) same kept)
+keeps old new dead d e more (Err TooLarge) same none rise kept =
+    rw none (subst (λ (x : Doc). longest < segment_length (docs_in old ++ x ∷ []) 1) same kept)
 keeps old new dead d e more (Err Damaged) same none rise kept = absurd kept
 keeps old new dead d e more (Err Disk) same none rise kept = absurd kept
 keeps old new dead d e more (Err Memory) same none rise kept = tt
@@ -103,7 +126,8 @@ keeps old new dead d e more (Err NotWritten) same none rise kept = absurd kept
 
 -- A FAULT on the way stays one
 
-pub gathers_fault : {U : Type 0} (left more : List Doc) (old new : Gathered) (r : Result U MergeFault) (x : MergeFault) → r ≡ Err x
+pub gathers_fault : {U : Type 0} (left more : List Doc) (old new : Gathered) (r : Result U MergeFault)
+    (x : MergeFault) → r ≡ Err x
     → MergeFails (docs_in old ++ left) 1 x → GathersAs left more old new r
 gathers_fault left more old new r x is fault = rw is fault
 
@@ -114,7 +138,8 @@ fails_read docs reading.Disk cause = tt
 fails_read docs reading.Memory cause = tt
 
 -- a part that fails makes the whole fail
-pub fails_longer : (xs ys zs : List Doc) (y : MergeFault) → zs ≡ xs ++ ys → MergeFails xs 1 y → MergeFails zs 1 y
+pub fails_longer : (xs ys zs : List Doc) (y : MergeFault) → zs ≡ xs ++ ys → MergeFails xs 1 y
+    → MergeFails zs 1 y
 fails_longer xs ys zs TooLarge same fault = longer xs ys zs same fault
 fails_longer xs ys zs Damaged same fault = absurd fault
 fails_longer xs ys zs Disk same fault = tt
@@ -122,21 +147,25 @@ fails_longer xs ys zs Memory same fault = tt
 fails_longer xs ys zs NotWritten same fault = absurd fault
 
 -- ONE PART AFTER THE OTHER, where what is left of two parts is what is left of each
-module _ {X : Type 0} (left : List X → List Doc) (parts : (xs ys : List X) → left (xs ++ ys) ≡ left xs ++ left ys) where
-  pub left_next : (xs : List X) (i : ℕ) (x : X) (old before part : List Doc) → take (i + 1) xs ≡ take i xs ++ x ∷ [] → part ≡ left (x ∷ [])
+module _ {X : Type 0} (left : List X → List Doc) (parts : (xs ys : List X)
+    → left (xs ++ ys) ≡ left xs ++ left ys) where
+  pub left_next : (xs : List X) (i : ℕ) (x : X) (old before part : List Doc)
+      → take (i + 1) xs ≡ take i xs ++ x ∷ [] → part ≡ left (x ∷ [])
       → before ≡ old ++ left (take i xs) → before ++ part ≡ old ++ left (take (i + 1) xs)
   left_next xs i x old before part here is so_far =
       ap (λ (ds : List Doc). ds ++ part) so_far ∙ append_assoc old (left (take i xs)) part
       ∙ ap (λ (ds : List Doc). old ++ (left (take i xs) ++ ds)) is
       ∙ ap (λ (ds : List Doc). old ++ ds) (sym (parts (take i xs) (x ∷ [])) ∙ ap left (sym here))
 
-  pub left_on : (xs : List X) (i : ℕ) (x : X) (old before part : List Doc) → take (i + 1) xs ≡ take i xs ++ x ∷ [] → part ≡ left (x ∷ [])
+  pub left_on : (xs : List X) (i : ℕ) (x : X) (old before part : List Doc)
+      → take (i + 1) xs ≡ take i xs ++ x ∷ [] → part ≡ left (x ∷ [])
       → before ≡ old ++ left (take i xs) → old ++ left xs ≡ (before ++ part) ++ left (drop (i + 1) xs)
   left_on xs i x old before part here is so_far =
       ap (λ (ds : List X). old ++ left ds) (sym (take-append-drop (i + 1) xs))
       ∙ ap (λ (ds : List Doc). old ++ ds) (parts (take (i + 1) xs) (drop (i + 1) xs))
       ∙ sym (append_assoc old (left (take (i + 1) xs)) (left (drop (i + 1) xs)))
-      ∙ ap (λ (ds : List Doc). ds ++ left (drop (i + 1) xs)) (sym (left_next xs i x old before part here is so_far))
+      ∙ ap (λ (ds : List Doc). ds ++ left (drop (i + 1) xs))
+      (sym (left_next xs i x old before part here is so_far))
 
 -- THE WHOLE
 
@@ -148,39 +177,45 @@ fails_in docs kind Disk fault = tt
 fails_in docs kind Memory fault = tt
 fails_in docs kind NotWritten fault = fault
 
-pub merged_fault : (docs : List Doc) (kind : ℕ) (r : Result (Option (Vec ℕ Global)) MergeFault) (x : MergeFault) → r ≡ Err x → MergeFails docs 1 x → MergedAs docs kind r
+pub merged_fault : (docs : List Doc) (kind : ℕ) (r : Result (Option (Vec ℕ Global)) MergeFault)
+    (x : MergeFault) → r ≡ Err x → MergeFails docs 1 x → MergedAs docs kind r
 merged_fault docs kind r x is fault = rw is (fails_in docs kind x fault)
 
-pub fails_built : (docs : List Doc) (kind : ℕ) (x : MergeFault) → FailsInMemory docs kind x → MergeFails docs kind x
+pub fails_built : (docs : List Doc) (kind : ℕ) (x : MergeFault) → FailsInMemory docs kind x
+    → MergeFails docs kind x
 fails_built docs kind TooLarge fault = fault
 fails_built docs kind Damaged fault = fault
 fails_built docs kind Disk fault = tt
 fails_built docs kind Memory fault = tt
 fails_built docs kind NotWritten fault = fault
 
-pub merged_all : (docs : List Doc) (kind : ℕ) (g : Gathered) (r : Result (Option (Vec ℕ Global)) MergeFault) → docs_in g ≡ docs → BuildsAs (docs_in g) kind r → MergedAs docs kind r
+pub merged_all : (docs : List Doc) (kind : ℕ) (g : Gathered) (r : Result (Option (Vec ℕ Global)) MergeFault)
+    → docs_in g ≡ docs → BuildsAs (docs_in g) kind r → MergedAs docs kind r
 merged_all docs kind g (Ok bytes) all built = subst (λ (ds : List Doc). BuildsAs ds kind (Ok bytes)) all built
-merged_all docs kind g (Err fault) all built = fails_built docs kind fault (subst (λ (ds : List Doc). FailsInMemory ds kind fault) all built)
+merged_all docs kind g (Err fault) all built =
+    fails_built docs kind fault (subst (λ (ds : List Doc). FailsInMemory ds kind fault) all built)
 
 -- no count rose where the documents were too many bytes, or memory was refused
-pub counts_memory : {T : Type 0} (before now : ℕ) (r : Result T MergeFault) (x : MergeFault) → r ≡ Err x → (x ≡ TooLarge) ⊎ (x ≡ Memory) → now ≡ before → CountsMerge before now r
-counts_memory {T} before now r x is cause same = subst (λ (s : Result T MergeFault). CountsMerge before now s) (sym is) (elim cause [
-  | inl e ↦ subst (λ (y : MergeFault). CountsMerge {T = T} before now (Err y)) (sym e) (record {
-    later = omega (arith, same);
-    ok = tt;
-    too_large = λ h. same;
-    damaged = λ h. same;
-    memory = λ h. same;
-    disk = λ h. absurd (cc (h));
-    unwritten = λ h. cc (h);
-  })
-  | inr e ↦ subst (λ (y : MergeFault). CountsMerge {T = T} before now (Err y)) (sym e) (record {
-    later = omega (arith, same);
-    ok = tt;
-    too_large = λ h. same;
-    damaged = λ h. same;
-    memory = λ h. same;
-    disk = λ h. absurd (cc (h));
-    unwritten = λ h. cc (h);
-  })
-])
+pub counts_memory : {T : Type 0} (before now : ℕ) (r : Result T MergeFault) (x : MergeFault) → r ≡ Err x
+    → (x ≡ TooLarge) ⊎ (x ≡ Memory) → now ≡ before → CountsMerge before now r
+counts_memory {T} before now r x is cause same = subst (λ (s : Result T MergeFault). CountsMerge before now s)
+    (sym is) (elim cause [
+      | inl e ↦ subst (λ (y : MergeFault). CountsMerge {T = T} before now (Err y)) (sym e) (record {
+        later = omega (arith, same);
+        ok = tt;
+        too_large = λ h. same;
+        damaged = λ h. same;
+        memory = λ h. same;
+        disk = λ h. absurd (cc (h));
+        unwritten = λ h. cc (h);
+      })
+      | inr e ↦ subst (λ (y : MergeFault). CountsMerge {T = T} before now (Err y)) (sym e) (record {
+        later = omega (arith, same);
+        ok = tt;
+        too_large = λ h. same;
+        damaged = λ h. same;
+        memory = λ h. same;
+        disk = λ h. absurd (cc (h));
+        unwritten = λ h. cc (h);
+      })
+    ])

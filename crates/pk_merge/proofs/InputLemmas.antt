@@ -15,24 +15,31 @@ use Rattle.pk_merge.specs.Gathering.{RiseFrom, left_by}
 use Rattle.pk_merge.proofs.RiseLemmas.{rise_zero}
 
 -- the documents of those that are left, one in front
-pub all_on : (stored : List Stored) (i : ℕ) → i < length stored → all_in (drop i stored) ≡ (stored_at stored i).documents ++ all_in (drop (i + 1) stored)
-all_on stored i lt = ap all_in (drop_more stored i none_stored lt) ∙ flat_map-cons (λ (s : Stored). s.documents) (stored_at stored i) (drop (i + 1) stored)
+pub all_on : (stored : List Stored) (i : ℕ) → i < length stored
+    → all_in (drop i stored) ≡ (stored_at stored i).documents ++ all_in (drop (i + 1) stored)
+all_on stored i lt = ap all_in (drop_more stored i none_stored lt)
+    ∙ flat_map-cons (λ (s : Stored). s.documents) (stored_at stored i) (drop (i + 1) stored)
 
 -- WHAT THEY LEAVE
 pub live_here : (dead : List ℕ) (s : Stored) → dead ≡ s.dead → left_by dead s.documents ≡ live_in (s ∷ [])
-live_here dead s same = ap (λ (ns : List ℕ). left_by ns s.documents) same ∙ sym (flat_map-cons live_of s [] ∙ append-nil (live_of s))
+live_here dead s same = ap (λ (ns : List ℕ). left_by ns s.documents) same
+    ∙ sym (flat_map-cons live_of s [] ∙ append-nil (live_of s))
 
 -- THE FIRST NUMBER is at least 1
 first_least : (docs more : List Doc) → AreDocuments docs → 1 ≤ (doc_in (docs ++ more) 0).number
 first_least [] more are = absurd (omega (arith, are.some))
-first_least (d ∷ docs) more are = (All-head (λ (x : Doc). (1 ≤ x.number) × (x.number < 2 ^ 32)) d docs are.each).0
+first_least (d ∷ docs) more are =
+    (All-head (λ (x : Doc). (1 ≤ x.number) × (x.number < 2 ^ 32)) d docs are.each).0
 
-least : (bytes : List ℕ) (is : List MergeInput) (stored : List Stored) → SpellsInputs bytes is stored → 0 < length (all_in stored) → 1 ≤ (doc_in (all_in stored) 0).number
+least : (bytes : List ℕ) (is : List MergeInput) (stored : List Stored) → SpellsInputs bytes is stored
+    → 0 < length (all_in stored) → 1 ≤ (doc_in (all_in stored) 0).number
 least bytes is [] spells some = absurd (omega (arith, some))
 least bytes [] (s ∷ stored) spells some = absurd spells
 least bytes (x ∷ is) (s ∷ stored) spells some =
-    subst (λ (ds : List Doc). 1 ≤ (doc_in ds 0).number) (sym (flat_map-cons (λ (y : Stored). y.documents) s stored))
+    subst (λ (ds : List Doc). 1 ≤ (doc_in ds 0).number)
+    (sym (flat_map-cons (λ (y : Stored). y.documents) s stored))
     (first_least s.documents (all_in stored) spells.0.segment.are)
 
-pub rise_all : (bytes : List ℕ) (is : List MergeInput) (stored : List Stored) → SpellsInputs bytes is stored → IsStrictlyIncreasing (numbers_of (all_in stored)) → RiseFrom 0 (all_in stored)
+pub rise_all : (bytes : List ℕ) (is : List MergeInput) (stored : List Stored) → SpellsInputs bytes is stored
+    → IsStrictlyIncreasing (numbers_of (all_in stored)) → RiseFrom 0 (all_in stored)
 rise_all bytes is stored spells rising = rise_zero (all_in stored) rising (least bytes is stored spells)

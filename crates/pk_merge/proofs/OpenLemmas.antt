@@ -23,17 +23,26 @@ module _ (docs : List Doc) (are : AreDocuments docs) (fits : segment_length docs
   spells = record { is_kind = inr refl; are = are; fits = fits; same = refl }
 
   pub front_long : length front ≡ 24 + 12 * length docs
-  front_long = omega (arith, length-append (header_in docs 2) (directory 0 docs), length_header 2 (length docs) (length (texts docs)) (length (postings_in docs 2)) (length (dictionary_in docs 2)) (terms_in docs 2), length_directory 0 docs)
+  front_long =
+      omega (
+        arith,
+        length-append (header_in docs 2) (directory 0 docs),
+        length_header 2 (length docs) (length (texts docs)) (length (postings_in docs 2))
+            (length (dictionary_in docs 2)) (terms_in docs 2),
+        length_directory 0 docs,
+      )
 
   same_part : (at n : ℕ) → at + n ≤ 24 + 12 * length docs → take n (drop at front) ≡ take n (drop at whole)
   same_part at n le =
-      sym (ap (λ (l : List ℕ). take n (drop at l)) (in_parts docs 2 ∙ sym (append_assoc (header_in docs 2) (directory 0 docs) (texts docs ++ behind docs 2)))
+      sym (ap (λ (l : List ℕ). take n (drop at l)) (in_parts docs 2
+      ∙ sym (append_assoc (header_in docs 2) (directory 0 docs) (texts docs ++ behind docs 2)))
       ∙ inside_part at n front (texts docs ++ behind docs 2) (omega (arith, le, front_long)))
 
   header_there : (h : Header) → IsHeader (header_field front) h → IsHeader (header_field whole) h
   header_there h is = subst (λ (field : List ℕ). IsHeader field h) (same_part 0 24 (omega arith)) is
 
-  entry_there : (i : ℕ) → i < length docs → number_at 0 (entry_field front i) ≡ number_at 0 (entry_field whole i)
+  entry_there : (i : ℕ) → i < length docs → number_at 0 (entry_field front i) ≡ number_at 0
+      (entry_field whole i)
   entry_there i lt = ap (number_at 0) (same_part (24 + 12 * i) 12 (omega (arith, lt)))
 
   pub opened_of : (size : ℕ) (s : Segment) → IsOpened front size 2 s → IsSegmentOf s docs
@@ -46,7 +55,8 @@ module _ (docs : List Doc) (are : AreDocuments docs) (fits : segment_length docs
         texts_is = is.texts_is ∙ texts_counted whole docs 2 is.header spells header;
         first_is = number_there whole docs 2 0 s.first spells some (is.first_is ∙ entry_there 0 some);
         last_is = number_there whole docs 2 (length docs - 1) s.last spells (omega (arith, some))
-            (is.last_is ∙ ap (λ (n : ℕ). number_at 0 (entry_field front (n - 1))) count ∙ entry_there (length docs - 1) (omega (arith, some)));
+            (is.last_is ∙ ap (λ (n : ℕ). number_at 0 (entry_field front (n - 1))) count
+            ∙ entry_there (length docs - 1) (omega (arith, some)));
       }
 
   abbrev said : Header
@@ -60,24 +70,55 @@ module _ (docs : List Doc) (are : AreDocuments docs) (fits : segment_length docs
   }
 
   said_there : IsHeader (header_field whole) said
-  said_there = header_there said (record { kind_is = refl; count_is = refl; texts_is = refl; postings_is = refl; dictionary_is = refl; terms_is = refl })
+  said_there =
+      header_there said (record {
+        kind_is = refl;
+        count_is = refl;
+        texts_is = refl;
+        postings_is = refl;
+        dictionary_is = refl;
+        terms_is = refl;
+      })
 
   said_short : 24 + 12 * said.count + said.texts < 2 ^ 32
-  said_short = omega (arith, counted whole docs 2 said spells said_there, texts_counted whole docs 2 said spells said_there, parts_of docs 2, fits)
+  said_short =
+      omega (
+        arith,
+        counted whole docs 2 said spells said_there,
+        texts_counted whole docs 2 said spells
+            said_there,
+        parts_of docs 2,
+        fits,
+      )
 
   abbrev segment_is : Segment
-  segment_is = record { count = said.count; texts = said.texts; first = number_at 0 (entry_field front 0); last = number_at 0 (entry_field front (said.count - 1)); fits = said_short }
+  segment_is = record {
+    count = said.count;
+    texts = said.texts;
+    first = number_at 0 (entry_field front 0);
+    last = number_at 0 (entry_field front (said.count - 1));
+    fits = said_short;
+  }
 
   pub opens : (size : ℕ) → size ≡ segment_length docs 2 → (s : Segment) × IsOpened front size 2 s
   opens size long =
       let some : 0 < length docs = are.some in
       let count : said.count ≡ length docs = counted whole docs 2 said spells said_there in
-      let order = in_order whole docs 2 (number_at 0 (entry_field front 0)) (number_at 0 (entry_field front (said.count - 1))) spells (entry_there 0 some)
-      (ap (λ (n : ℕ). number_at 0 (entry_field front (n - 1))) count ∙ entry_there (length docs - 1) (omega (arith, some))) in (
+      let order = in_order whole docs 2 (number_at 0 (entry_field front 0))
+      (number_at 0 (entry_field front (said.count - 1))) spells (entry_there 0 some)
+      (ap (λ (n : ℕ). number_at 0 (entry_field front (n - 1))) count
+      ∙ entry_there (length docs - 1) (omega (arith, some))) in (
         segment_is,
         record {
           header = said;
-          read = record { kind_is = refl; count_is = refl; texts_is = refl; postings_is = refl; dictionary_is = refl; terms_is = refl };
+          read = record {
+            kind_is = refl;
+            count_is = refl;
+            texts_is = refl;
+            postings_is = refl;
+            dictionary_is = refl;
+            terms_is = refl;
+          };
           sound = is_whole whole docs 2 size said spells said_there (long ∙ sym (length_segment docs 2));
           inside = omega (arith, count, front_long);
           count_is = refl;
@@ -90,6 +131,9 @@ module _ (docs : List Doc) (are : AreDocuments docs) (fits : segment_length docs
       )
 
 -- a slice as a source meets no fault of a device, nor one of the bytes where they open
-pub opens_faultless : {T : Type 0} (fault : SourceFault) (bytes : List ℕ) (size : ℕ) → (fault ≡ Damaged → (s : Segment) → IsOpened bytes size 2 s → ⊥) → CountsFaults {T = T} 0 0 (Err fault) → (s : Segment) × IsOpened bytes size 2 s → ⊥
+pub opens_faultless : {T : Type 0} (fault : SourceFault) (bytes : List ℕ) (size : ℕ)
+    → (fault ≡ Damaged → (s : Segment) → IsOpened bytes size 2 s → ⊥) → CountsFaults {T = T} 0 0 (Err fault)
+    → (s : Segment) × IsOpened bytes size 2 s → ⊥
 opens_faultless Damaged bytes size damaged counts is = damaged refl is.0 is.1
-opens_faultless Disk bytes size damaged counts is = ⊎_elim (λ (rose : 0 < 0). absurd (omega (arith, rose))) (λ (full : 0 ≡ 2 ^ 64 - 1). absurd (omega (arith, full))) (counts.disk refl)
+opens_faultless Disk bytes size damaged counts is = ⊎_elim (λ (rose : 0 < 0). absurd (omega (arith, rose)))
+    (λ (full : 0 ≡ 2 ^ 64 - 1). absurd (omega (arith, full))) (counts.disk refl)

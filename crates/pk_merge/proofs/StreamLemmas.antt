@@ -16,7 +16,8 @@ use Rattle.pk_merge.specs.Output.{IsFresh, LiesApart, count_given, given, places
 use Rattle.pk_merge.proofs.TextLemmas.{text_stays}
 
 -- what is kept stays where the stretch alone changed
-pub kept_stays : (b b' : List ℕ) (ks : List Kept) (docs : List Doc) (start end : ℕ) → length b' ≡ length b → ((p : ℕ) → in_range start (end - start) p ≡ false → get_or b' p 0 ≡ get_or b p 0)
+pub kept_stays : (b b' : List ℕ) (ks : List Kept) (docs : List Doc) (start end : ℕ) → length b' ≡ length b
+    → ((p : ℕ) → in_range start (end - start) p ≡ false → get_or b' p 0 ≡ get_or b p 0)
     → All (KeptApart start end) ks → All (EndBy (length b)) ks → AreKept b ks docs → AreKept b' ks docs
 kept_stays b b' [] [] start end long same apart inside are = tt
 kept_stays b b' [] (d ∷ docs) start end long same apart inside are = absurd are
@@ -25,24 +26,32 @@ kept_stays b b' (k ∷ ks) (d ∷ docs) start end long same apart inside are = (
   record {
     number_is = are.0.number_is;
     len_is = are.0.len_is;
-    text_is = text_stays b' b k.at k.len start end long same (All-head (KeptApart start end) k ks apart) (All-head (EndBy (length b)) k ks inside) ∙ are.0.text_is;
+    text_is = text_stays b' b k.at k.len start end long same (All-head (KeptApart start end) k ks apart)
+        (All-head (EndBy (length b)) k ks inside) ∙ are.0.text_is;
   },
-  kept_stays b b' ks docs start end long same (All-tail (KeptApart start end) k ks apart) (All-tail (EndBy (length b)) k ks inside) are.1,
+  kept_stays b b' ks docs start end long same (All-tail (KeptApart start end) k ks apart)
+      (All-tail (EndBy (length b)) k ks inside) are.1,
 )
 
 -- ---- the parts of a segment
 
-pub all_bytes : (docs : List Doc) (front words : List ℕ) → front ≡ header_in docs 2 ++ directory 0 docs → words ≡ dictionary docs → (front ++ texts docs) ++ (postings docs ++ words) ≡ segment_spelling docs 2
+pub all_bytes : (docs : List Doc) (front words : List ℕ) → front ≡ header_in docs 2 ++ directory 0 docs
+    → words ≡ dictionary docs → (front ++ texts docs) ++ (postings docs ++ words) ≡ segment_spelling docs 2
 all_bytes docs front words f w =
     let h = header_in docs 2 in
     let d = directory 0 docs in
     let behind = postings docs ++ dictionary docs in
-    ap (λ (l : List ℕ). (l ++ texts docs) ++ (postings docs ++ words)) f ∙ ap (λ (l : List ℕ). ((h ++ d) ++ texts docs) ++ (postings docs ++ l)) w
-    ∙ append_assoc (h ++ d) (texts docs) behind ∙ append_assoc h d (texts docs ++ behind) ∙ sym (in_parts docs 2)
+    ap (λ (l : List ℕ). (l ++ texts docs) ++ (postings docs ++ words)) f
+    ∙ ap (λ (l : List ℕ). ((h ++ d) ++ texts docs) ++ (postings docs ++ l)) w
+    ∙ append_assoc (h ++ d) (texts docs) behind ∙ append_assoc h d (texts docs ++ behind)
+    ∙ sym (in_parts docs 2)
 
 -- how long they are
-pub two_lengths : (docs : List Doc) (front words : List ℕ) → front ≡ header_in docs 2 ++ directory 0 docs → words ≡ dictionary docs → length (front ++ texts docs) + length (postings docs ++ words) ≡ segment_length docs 2
-two_lengths docs front words f w = sym (length-append (front ++ texts docs) (postings docs ++ words)) ∙ ap length (all_bytes docs front words f w) ∙ length_segment docs 2
+pub two_lengths : (docs : List Doc) (front words : List ℕ) → front ≡ header_in docs 2 ++ directory 0 docs
+    → words ≡ dictionary docs → length (front ++ texts docs) + length (postings docs ++ words)
+    ≡ segment_length docs 2
+two_lengths docs front words f w = sym (length-append (front ++ texts docs) (postings docs ++ words))
+    ∙ ap length (all_bytes docs front words f w) ∙ length_segment docs 2
 
 -- ---- an output from its start to its end
 
@@ -50,24 +59,31 @@ two_lengths docs front words f w = sym (length-append (front ++ texts docs) (pos
 pub fresh_given : (bytes : List ℕ) (start end : ℕ) (o : Output) → IsFresh start end o → given bytes o ≡ []
 fresh_given bytes start end o fresh =
     let n : o.at - o.start ≡ 0 = omega (arith, fresh.start_is, fresh.at_is) in
-    ap (λ (k : ℕ). take k (drop o.start bytes) ++ take o.filled o.buffer.items) n ∙ ap (λ (k : ℕ). take k o.buffer.items) fresh.none_held
+    ap (λ (k : ℕ). take k (drop o.start bytes) ++ take o.filled o.buffer.items) n
+    ∙ ap (λ (k : ℕ). take k o.buffer.items) fresh.none_held
 
 -- all that was given is written
-pub flushed : {T : Type 0} (r : Result T StreamFault) (b b' bytes : List ℕ) (o o' : Output) (start size : ℕ) → OnOk r (given b' o' ≡ given b o) → OnOk r (o'.filled ≡ 0) → OnOk r (count_given o' ≡ count_given o)
+pub flushed : {T : Type 0} (r : Result T StreamFault) (b b' bytes : List ℕ) (o o' : Output) (start size : ℕ)
+    → OnOk r (given b' o' ≡ given b o) → OnOk r (o'.filled ≡ 0) → OnOk r (count_given o' ≡ count_given o)
     → o'.start ≡ start → given b o ≡ bytes → count_given o ≡ size → OnOk r (take size (drop start b') ≡ bytes)
 flushed (Ok u) b b' bytes o o' start size same empty count at is long =
     let n : o'.at - o'.start ≡ size = omega (arith, count, empty, long) in
-    ap (λ (k : ℕ). take k (drop start b')) (sym n) ∙ ap (λ (k : ℕ). take (o'.at - o'.start) (drop k b')) (sym at)
-    ∙ sym (append-nil (take (o'.at - o'.start) (drop o'.start b'))) ∙ ap (λ (k : ℕ). take (o'.at - o'.start) (drop o'.start b') ++ take k o'.buffer.items) (sym empty)
+    ap (λ (k : ℕ). take k (drop start b')) (sym n) ∙ ap (λ (k : ℕ). take (o'.at - o'.start) (drop k b'))
+    (sym at)
+    ∙ sym (append-nil (take (o'.at - o'.start) (drop o'.start b')))
+    ∙ ap (λ (k : ℕ). take (o'.at - o'.start) (drop o'.start b') ++ take k o'.buffer.items) (sym empty)
     ∙ same ∙ is
 flushed (Err x) b b' bytes o o' start size same empty count at is long = tt
 
 -- a place that ends so many bytes after its start
-pub places_are : (o : Output) (start size : ℕ) → o.start ≡ start → o.end ≡ start + size → places_of o ≡ in_range start size
+pub places_are : (o : Output) (start size : ℕ) → o.start ≡ start → o.end ≡ start + size
+    → places_of o ≡ in_range start size
 places_are o start size s e =
     let n : o.end - o.start ≡ size = omega (arith, s, e) in
     ap (λ (k : ℕ). in_range k (o.end - o.start)) s ∙ ap (in_range start) n
 
 -- inputs apart from a stretch are so by its other names
-pub apart_there : (is : List MergeInput) (start end start' end' : ℕ) → start' ≡ start → end' ≡ end → All (LiesApart start end) is → All (LiesApart start' end') is
-apart_there is start end start' end' s e apart = subst (λ (n : ℕ). All (LiesApart n end') is) (sym s) (subst (λ (n : ℕ). All (LiesApart start n) is) (sym e) apart)
+pub apart_there : (is : List MergeInput) (start end start' end' : ℕ) → start' ≡ start → end' ≡ end
+    → All (LiesApart start end) is → All (LiesApart start' end') is
+apart_there is start end start' end' s e apart = subst (λ (n : ℕ). All (LiesApart n end') is) (sym s)
+    (subst (λ (n : ℕ). All (LiesApart start n) is) (sym e) apart)

@@ -53,8 +53,8 @@ PreparesAs bytes inputs stored (Ok None) = live_in stored ≡ []
 PreparesAs bytes inputs stored (Ok (Some p)) = IsPrepared bytes inputs stored p
 PreparesAs bytes inputs stored (Err fault) = MergeFails (live_in stored) 2 fault
 
--- a merge that is prepared is one of these inputs, on a disk of so many bytes, and the texts that it
--- keeps stay apart from what is apart from the inputs
+-- a merge that is prepared is one of these inputs, on a disk of so many bytes, and the texts that
+-- it keeps stay apart from what is apart from the inputs
 abbrev pub IsReady : ℕ → List MergeInput → Result (Option Prepared) MergeFault → Type 0
 IsReady bytes inputs (Ok None) = Unit {0}
 IsReady bytes inputs (Ok (Some p)) =
@@ -69,3 +69,7 @@ pub record CanMerge (bytes first : ℕ) (inputs : List MergeInput) (p : Prepared
   pub inside : All (LiesInside bytes) inputs
   pub fits : 512 * first + p.size ≤ bytes
   pub apart : All (LiesApart (512 * first) (512 * first + p.size)) inputs
+
+-- what is prepared, of some inputs, can be written from a unit on
+abbrev pub CanWrite : ℕ → ℕ → Prepared → Type 0
+CanWrite bytes first p = (inputs : List MergeInput) × CanMerge bytes first inputs p

@@ -28,6 +28,15 @@ use pk_model::limits::MAX_SEGMENT_BYTES;
 use pk_segment::Directory;
 use std::alloc::Global;
 
+/// The documents of an input.
+#[derive(Clone, Copy)]
+pub(crate) struct InputDocuments<'a> {
+    /// Its directory.
+    pub(crate) directory: &'a Directory,
+    /// Its deletion list.
+    pub(crate) dead: &'a Dead,
+}
+
 /// The documents that are left so far: such as one segment may hold.
 #[derive(Drop)]
 pub(crate) struct Left {
@@ -66,7 +75,8 @@ impl Left {
 
     /// How long header, directory and texts of their segment are.
     pub(crate) fn bytes(&self) -> u32
-        ensures value { result ≡ 24 + 12 * length (kept_in self.now) + kept_bytes (kept_in self.now) }
+        ensures value { result
+            ≡ 24 + 12 * length (kept_in self.now) + kept_bytes (kept_in self.now) }
         ensures fits { result ≤ longest }
     {
         self.bytes as u32
@@ -90,36 +100,37 @@ impl Left {
         Ok(())
     }
 
-    // Passes the ith document of a directory where the deletion list has it, else keeps it. The
-    // texts begin at a position of the disk, and end at another one at the latest.
+    // Passes the ith document of an input where the deletion list has it, else keeps it. The texts
+    // begin at a position of the disk, and end at another one at the latest.
     fn take(
         &mut self,
-        directory: &Directory,
+        input: &InputDocuments,
         i: u32,
         texts: u64,
         end: u64,
-        dead: &Dead,
     ) -> Result<(), MergeFault>
-        requires one { i < entries_in directory.now }
+        requires one { i < entries_in input.now.directory.now }
         requires inside { end ≤ self.old.disk_bytes }
         ensures taken { (bytes : List ℕ) (so_far docs more : List Doc) (kind : ℕ)
-            → IsDirectoryOf directory.now docs kind → TextsStand bytes texts end docs
+            → IsDirectoryOf input.now.directory.now docs kind
+            → TextsStand bytes texts end docs
             → RiseFrom self.old.last (drop i docs ++ more) → AreKept bytes (kept_in self.old) so_far
-            → TakesAs bytes so_far (left_by dead.now (doc_in docs i ∷ []))
+            → TakesAs bytes so_far (left_by input.now.dead.now (doc_in docs i ∷ []))
             (drop (i + 1) docs ++ more) self.new result }
-        ensures between { OnOk result (KeepsBetween texts end (kept_in self.old) (kept_in self.new)) }
+        ensures between { OnOk result
+            (KeepsBetween texts end (kept_in self.old) (kept_in self.new)) }
         ensures cause { IfErr result IsNoDisk }
         ensures disk_bytes { self.new.disk_bytes ≡ self.old.disk_bytes }
     {
-        let number = directory.number(i);
+        let number = input.directory.number(i);
         if number <= self.last {
             return Err(MergeFault::Damaged);
         }
-        if dead.contains(number) {
+        if input.dead.contains(number) {
             self.last = number;
             return Ok(());
         }
-        let (offset, len) = directory.text_place(i);
+        let (offset, len) = input.directory.text_place(i);
         let at = texts.saturating_add(u64::from(offset));
         if at > end || u64::from(len) > end - at {
             return Err(MergeFault::Damaged);
@@ -128,27 +139,28 @@ impl Left {
         self.keep(Kept { number, at, len })
     }
 
-    /// Keeps the documents of a directory that the deletion list leaves.
+    /// Keeps the documents of an input that its deletion list leaves.
     ///
     /// Answers `TooLarge`, `Damaged` where numbers don't rise or a text ends too late, or `Memory`.
     pub(crate) fn take_all(
         &mut self,
-        directory: &Directory,
+        input: &InputDocuments,
         texts: u64,
         end: u64,
-        dead: &Dead,
     ) -> Result<(), MergeFault>
         requires inside { end ≤ self.old.disk_bytes }
         ensures taken { (bytes : List ℕ) (so_far docs more : List Doc) (kind : ℕ)
-            → IsDirectoryOf directory.now docs kind → TextsStand bytes texts end docs
+            → IsDirectoryOf input.now.directory.now docs kind
+            → TextsStand bytes texts end docs
             → RiseFrom self.old.last (docs ++ more) → AreKept bytes (kept_in self.old) so_far
-            → TakesAs bytes so_far (left_by dead.now docs) more self.new result }
-        ensures between { OnOk result (KeepsBetween texts end (kept_in self.old) (kept_in self.new)) }
+            → TakesAs bytes so_far (left_by input.now.dead.now docs) more self.new result }
+        ensures between { OnOk result
+            (KeepsBetween texts end (kept_in self.old) (kept_in self.new)) }
         ensures cause { IfErr result IsNoDisk }
         ensures disk_bytes { self.new.disk_bytes ≡ self.old.disk_bytes }
     {
-        for i in 0..directory.len() {
-            self.take(directory, i, texts, end, dead)?;
+        for i in 0..input.directory.len() {
+            self.take(input, i, texts, end)?;
         }
         Ok(())
     }

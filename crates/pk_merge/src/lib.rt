@@ -22,8 +22,8 @@
 //!
 //! `prepare` reads the directories and the dictionaries (of inputs of kind 1 the texts), and goes
 //! through the words of all inputs side by side (pk_join): the least at their heads is next.
-//! Its list is joined from those of the inputs without the dead numbers, and only its length and its
-//! entry are kept. So the exact length is known, and all memory taken, before the first write.
+//! Its list is joined from those of the inputs without the dead numbers, and only its length and
+//! its entry are kept. So the exact length is known, and all memory taken, before the first write.
 //!
 //! `merge_into` then writes header and directory and the texts, goes through the words a second
 //! time, which gives the posting lists, and writes the dictionary: in writes of 65,536 bytes, the
@@ -38,10 +38,10 @@
 //!
 //! | what | how much |
 //! |---|---|
-//! | each document left | 24 bytes for its place, 12 for its directory entry, 4 in the list of one word |
+//! | each document left | 24 bytes for its place, 12 in the directory, 4 in the list of one word |
 //! | each term of an input of kind 2 | some 40 bytes, and the word |
 //! | an input of kind 1 | the index of its texts, and its words |
-//! | an input of kind 2 | 32,768 bytes to read ahead, of more than 2,048 inputs its share of 64 MiB |
+//! | an input of kind 2 | 32,768 bytes to read ahead, past 2,048 inputs its share of 64 MiB |
 //! | each deleted number | 4 bytes, and one for each number up to the next one, at most 64 |
 //! | the dictionary | its bytes |
 //! | the longest posting list | its bytes |
@@ -62,8 +62,8 @@
 //! again. Whatever was read, what `merged` answers is the bytes of a segment.
 //!
 //! `merge_into` answers `Damaged` where what it reads isn't what was prepared, `Disk` exactly where
-//! a read failed and `NotWritten` exactly where a write did: then a part of the segment may stand in
-//! its place. After the first two the merge may be prepared again.
+//! a read failed and `NotWritten` exactly where a write did: then a part of the segment may stand
+//! in its place. After the first two the merge may be prepared again.
 //!
 //! Where the words are: `specs/Merging` has what a merge answers (what inputs spell is in pk_join's
 //! `specs/Inputs`), `specs/Gathering` what stands in memory on the way, `specs/Choosing` what is

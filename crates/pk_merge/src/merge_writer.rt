@@ -39,7 +39,7 @@ impl<'a> WritesExtent for MergeWriter<'a> {
     ghost reads_nothing = { λ w. ⊥ };
 
     fn write_into<D: Disk>(self, disk: &mut D) -> Result<(), StreamFault> {
-        self.prepared.write_segment(disk, self.inputs, self.first)
+        self.prepared.write_segment(disk, self.first)
     }
 
     ghost is_far = { λ w size can. far_merge size w.first w.inputs.now w.prepared can };

@@ -123,41 +123,54 @@ fn gather_from<S: ByteSource>(
     let bytes = source.len();
     let segment = Segment::open(source, bytes, kind)?;
     let directory = segment.directory(alloc, source)?;
+    let opened = Opened {
+        segment: &segment,
+        directory: &directory,
+        dead,
+    };
     for i in 0..directory.len() {
-        gather_one(alloc, source, &segment, &directory, i, dead, gathered)?;
+        gather_one(alloc, source, &opened, i, gathered)?;
     }
     Ok(())
+}
+
+// A segment that is open, with its directory and its deletion list.
+#[derive(Clone, Copy)]
+struct Opened<'a> {
+    segment: &'a Segment,
+    directory: &'a Directory,
+    dead: &'a Dead,
 }
 
 // Passes the ith document where the deletion list has it, else keeps it.
 fn gather_one<S: ByteSource>(
     alloc: Global,
     source: &mut S,
-    segment: &Segment,
-    directory: &Directory,
+    opened: &Opened,
     i: u32,
-    dead: &Dead,
     gathered: &mut Gathered,
 ) -> Result<(), MergeFault>
-    requires { i < entries_in directory.now }
+    requires { i < entries_in opened.now.directory.now }
     ensures gathered { S.honest → (docs more : List Doc) (kind : ℕ)
-        → SegmentSpells (S.content source.old) docs kind → IsSegmentOf segment.now docs
-        → IsDirectoryOf directory.now docs kind
+        → SegmentSpells (S.content source.old) docs kind → IsSegmentOf opened.now.segment.now docs
+        → IsDirectoryOf opened.now.directory.now docs kind
         → RiseFrom gathered.old.last (drop i docs ++ more)
-        → GathersAs (left_by dead.now (doc_in docs i ∷ [])) (drop (i + 1) docs ++ more)
+        → GathersAs (left_by opened.now.dead.now (doc_in docs i ∷ [])) (drop (i + 1) docs ++ more)
         gathered.old gathered.new result }
     ensures content { S.honest → S.content source.new ≡ S.content source.old }
     ensures keeps { S.keeps source.old source.new }
     ensures faults { CountsMerge (S.failures source.old) (S.failures source.new) result }
 {
-    let number = directory.number(i);
+    let number = opened.directory.number(i);
     if number <= gathered.last() {
         return Err(MergeFault::Damaged);
     }
-    if dead.contains(number) {
+    if opened.dead.contains(number) {
         gathered.pass(number);
         return Ok(());
     }
-    let document = segment.document_in(alloc, source, directory, i)?;
+    let document = opened
+        .segment
+        .document_in(alloc, source, opened.directory, i)?;
     gathered.keep(document)
 }

@@ -172,7 +172,8 @@ impl Output {
         ensures some { 0 < len → self.old.filled < length self.old.buffer.items
             → IfOk result (λ n. 0 < n) }
         ensures held { D.honest → IfOk result (λ n. take self.new.filled self.new.buffer.items
-            ≡ take self.old.filled self.old.buffer.items ++ take n (drop from (D.content disk.old))) }
+            ≡ take self.old.filled self.old.buffer.items
+            ++ take n (drop from (D.content disk.old))) }
         ensures filled { IfOk result (λ n. self.new.filled ≡ self.old.filled + n) }
         ensures at { self.new.at ≡ self.old.at }
         ensures buffer { length self.new.buffer.items ≡ length self.old.buffer.items }

@@ -25,35 +25,34 @@ ghost use Rattle.pk_merge.specs.Left.{kept_in};
 ghost use Rattle.pk_merge.specs.Merging.{CountsMerge};
 ghost use Rattle.pk_merge.specs.ReadAll.{ReadsAllAs};
 ghost use Rattle.pk_model.specs.Collection.{Doc};
-ghost use Rattle.pk_segment.specs.Spelling.{IsKind, SegmentSpells};
+ghost use Rattle.pk_segment.specs.Spelling.{SegmentSpells};
 ghost use Rattle.pk_state.specs.Committed.{Stored, all_in};
 
 use crate::fault::MergeFault;
-use crate::left::Left;
-use pk_dead::Dead;
+use crate::left::{InputDocuments, Left};
 use pk_disk::{Disk, UNIT};
 use pk_join::{Ahead, AheadSource, Input, InputLists, MergeInput, READ_AHEAD, read_lists};
 use pk_posting::ByteSource;
 use pk_segment::Segment;
 use std::alloc::Global;
 
-// The words of a segment that is all of a source, whose bytes begin at a position of the disk; and
-// the documents that it leaves.
+// The words of an input whose segment is all of a source, and whose bytes begin at a position of
+// the disk; and the documents that it leaves.
 fn read_from<S: ByteSource>(
     alloc: Global,
     source: &mut S,
-    kind: u32,
+    input: &MergeInput,
     start: u64,
-    dead: &Dead,
     left: &mut Left,
 ) -> Result<InputLists, MergeFault>
-    requires kind { IsKind kind }
+    requires kind { HasKind input.now }
     requires inside { start + length (S.content source.old) ≤ left.old.disk_bytes }
     ensures read { S.honest → (bytes : List ℕ) (so_far docs more : List Doc)
         → S.content source.old ≡ take (length (S.content source.old)) (drop start bytes)
-        → SegmentSpells (S.content source.old) docs kind → RiseFrom left.old.last (docs ++ more)
+        → SegmentSpells (S.content source.old) docs input.now.kind
+        → RiseFrom left.old.last (docs ++ more)
         → AreKept bytes (kept_in left.old) so_far
-        → ReadsAs kind bytes so_far docs dead.now more left.new result }
+        → ReadsAs input.now.kind bytes so_far docs input.now.dead.now more left.new result }
     ensures between { OnOk result (KeepsBetween start (start + length (S.content source.old))
         (kept_in left.old) (kept_in left.new)) }
     ensures disk_bytes { left.new.disk_bytes ≡ left.old.disk_bytes }
@@ -61,12 +60,16 @@ fn read_from<S: ByteSource>(
     ensures faults { CountsMerge (S.failures source.old) (S.failures source.new) result }
 {
     let bytes = source.len();
-    let segment = Segment::open(source, bytes, kind)?;
+    let segment = Segment::open(source, bytes, input.kind)?;
     let directory = segment.directory(alloc, source)?;
     let texts = start.saturating_add(24 + 12 * u64::from(segment.count()));
     let end = start + u64::from(bytes);
-    left.take_all(&directory, texts, end, dead)?;
-    let lists = read_lists(alloc, source, kind, &segment, &directory, dead)?;
+    let documents = InputDocuments {
+        directory: &directory,
+        dead: input.dead,
+    };
+    left.take_all(&documents, texts, end)?;
+    let lists = read_lists(alloc, source, input, &segment, &directory)?;
     Ok(lists)
 }
 
@@ -100,7 +103,7 @@ pub(crate) fn read_input<D: Disk>(
     let start = UNIT * u64::from(input.extent.first);
     let mut ahead = Ahead::new(alloc, READ_AHEAD)?;
     let mut source = AheadSource::on(disk, input.extent, &mut ahead);
-    read_from(alloc, &mut source, input.kind, start, input.dead, left)
+    read_from(alloc, &mut source, input, start, left)
 }
 
 /// All inputs, each before its first word, and the documents that they leave.

@@ -19,9 +19,10 @@ ghost use Rattle.std.specs.Prelude.{
 ghost use Rattle.pk_disk.specs.Disk.{in_range};
 ghost use Rattle.pk_join.specs.Inputs.{SpellsInputs};
 ghost use Rattle.pk_join.specs.Walk.{HasCome, WalksWithin};
+ghost use Rattle.pk_join.specs.declared.input.MergeInput.{MergeInput};
 ghost use Rattle.pk_merge.specs.Keeping.{AreKept, EndBy, KeptApart};
 ghost use Rattle.pk_merge.specs.Output.{AreGiven, IsGiven, LiesApart};
-ghost use Rattle.pk_merge.specs.Prepared.{CanMerge, IsPrepared};
+ghost use Rattle.pk_merge.specs.Prepared.{CanMerge, CanWrite, IsPrepared};
 ghost use Rattle.pk_model.specs.Collection.{Doc};
 ghost use Rattle.pk_model.specs.Terms.{terms_of};
 ghost use Rattle.pk_posting.specs.Spelling.{spelling as list_spelling};
@@ -38,7 +39,7 @@ use crate::prepared::Prepared;
 use crate::texts::{SPAN_BYTES, write_texts};
 use crate::writing::write_lists;
 use pk_disk::{Disk, UNIT};
-use pk_join::{MergeInput, Walk};
+use pk_join::Walk;
 use pk_replace::StreamFault;
 
 // Gives header, directory and texts.
@@ -46,12 +47,10 @@ fn write_front<D: Disk>(
     disk: &mut D,
     front: &[u8],
     documents: &[Kept],
-    disk_bytes: u64,
     room: &mut [u8],
     output: &mut Output,
 ) -> Result<(), StreamFault>
-    requires disk_bytes { disk_bytes ≡ length (D.content disk.old) }
-    requires inside { All (EndBy disk_bytes) documents.now }
+    requires inside { All (EndBy (length (D.content disk.old))) documents.now }
     requires room { SPAN_BYTES ≤ length room.old }
     requires stretch { output.old.end ≤ length (D.content disk.old) }
     requires apart { All (KeptApart output.old.start output.old.end) documents.now }
@@ -62,7 +61,7 @@ fn write_front<D: Disk>(
         result }
 {
     output.offer(disk, front)?;
-    write_texts(disk, documents, disk_bytes, room, output)
+    write_texts(disk, documents, room, output)
 }
 
 // Gives posting lists and dictionary.
@@ -93,37 +92,27 @@ fn write_index<D: Disk>(
 impl Prepared {
     ghost use Rattle.pk_merge.specs.Streaming.{IsMergeCause};
 
-    /// Writes the segment from unit `first` on, as it is read. It takes no memory. The inputs are what
-    /// it was prepared from, of which the clauses speak; they are read by the walk.
-    pub(crate) fn write_segment<D: Disk>(
-        self,
-        disk: &mut D,
-        inputs: &[MergeInput],
-        first: u32,
-    ) -> Result<(), StreamFault>
-        requires { CanMerge (length (D.content disk.old)) first inputs.now self }
+    /// Writes the segment from unit `first` on, as it is read. It takes no memory. The inputs of
+    /// which the clauses speak are what it was prepared from.
+    pub(crate) fn write_segment<D: Disk>(self, disk: &mut D, first: u32) -> Result<(), StreamFault>
+        requires { CanWrite (length (D.content disk.old)) first self }
         ensures writes { WritesOnly D.Disk (in_range (512 * first) self.size) disk.old disk.new }
-        ensures there { D.honest → (stored : List Stored)
-            → SpellsInputs (D.content disk.old) inputs.now stored
-            → IsPrepared (D.content disk.old) inputs.now stored self
+        ensures there { D.honest → (inputs : List MergeInput) (stored : List Stored)
+            → CanMerge (length (D.content disk.old)) first inputs self
+            → SpellsInputs (D.content disk.old) inputs stored
+            → IsPrepared (D.content disk.old) inputs stored self
             → OnOk result (take self.size (drop (512 * first) (D.content disk.new))
             ≡ segment_spelling (live_in stored) 2) }
-        ensures undamaged { D.honest → (stored : List Stored)
-            → SpellsInputs (D.content disk.old) inputs.now stored
-            → IsPrepared (D.content disk.old) inputs.now stored self → IsUndamaged result }
+        ensures undamaged { D.honest → (inputs : List MergeInput) (stored : List Stored)
+            → CanMerge (length (D.content disk.old)) first inputs self
+            → SpellsInputs (D.content disk.old) inputs stored
+            → IsPrepared (D.content disk.old) inputs stored self → IsUndamaged result }
         ensures cause { IsCause D.Disk disk.old disk.new result }
     {
         let start = UNIT * u64::from(first);
         let mut output = Output::over(self.buffer, start, start + u64::from(self.size));
         let mut room = self.room;
-        write_front(
-            disk,
-            &self.front,
-            &self.documents,
-            self.disk_bytes,
-            &mut room,
-            &mut output,
-        )?;
+        write_front(disk, &self.front, &self.documents, &mut room, &mut output)?;
         let mut walk = self.walk;
         let mut encoded = self.encoded;
         write_index(disk, &mut walk, &mut encoded, &self.dictionary, &mut output)?;
@@ -131,33 +120,30 @@ impl Prepared {
     }
 
     /// Writes the segment that is prepared from unit `first` on, as it is read: in writes of 65,536
-    /// bytes, the last one perhaps shorter, and in the memory that `prepare` took. The inputs are
-    /// those that it was prepared from, and none of them has a position of the segment's place. No
-    /// other position is written, whatever is answered.
+    /// bytes, the last one perhaps shorter, and in the memory that `prepare` took. None of the
+    /// inputs that it was prepared from has a position of the segment's place. No other position is
+    /// written, whatever is answered.
     ///
     /// Answers `Damaged` where what is read isn't what was prepared, `Disk` where a read failed, or
     /// `NotWritten` where a write failed.
-    pub fn merge_into<D: Disk>(
-        self,
-        disk: &mut D,
-        inputs: &[MergeInput],
-        first: u32,
-    ) -> Result<(), MergeFault>
-        requires { CanMerge (length (D.content disk.old)) first inputs.now self }
+    pub fn merge_into<D: Disk>(self, disk: &mut D, first: u32) -> Result<(), MergeFault>
+        requires { CanWrite (length (D.content disk.old)) first self }
         ensures writes { WritesOnly D.Disk (in_range (512 * first) self.size) disk.old disk.new }
-        ensures there { D.honest → (stored : List Stored)
-            → SpellsInputs (D.content disk.old) inputs.now stored
-            → IsPrepared (D.content disk.old) inputs.now stored self
+        ensures there { D.honest → (inputs : List MergeInput) (stored : List Stored)
+            → CanMerge (length (D.content disk.old)) first inputs self
+            → SpellsInputs (D.content disk.old) inputs stored
+            → IsPrepared (D.content disk.old) inputs stored self
             → OnOk result (take self.size (drop (512 * first) (D.content disk.new))
             ≡ segment_spelling (live_in stored) 2) }
-        ensures undamaged { D.honest → (stored : List Stored)
-            → SpellsInputs (D.content disk.old) inputs.now stored
-            → IsPrepared (D.content disk.old) inputs.now stored self
+        ensures undamaged { D.honest → (inputs : List MergeInput) (stored : List Stored)
+            → CanMerge (length (D.content disk.old)) first inputs self
+            → SpellsInputs (D.content disk.old) inputs stored
+            → IsPrepared (D.content disk.old) inputs stored self
             → IfErr result (λ f. (f ≡ MergeFault.Disk) ⊎ (f ≡ MergeFault.NotWritten)) }
         ensures size { length (D.content disk.new) ≡ length (D.content disk.old) }
         ensures cause { IsMergeCause D.Disk disk.old disk.new result }
     {
-        self.write_segment(disk, inputs, first)?;
+        self.write_segment(disk, first)?;
         Ok(())
     }
 }

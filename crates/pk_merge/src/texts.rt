@@ -1,6 +1,6 @@
 //! The texts of a merge, read from where they stand: those that lie near each other at once.
 
-ghost use Rattle.std.specs.Prelude.{◌≡◌, ◌≤◌, ◌<◌, ◌+◌, List, length, take, All};
+ghost use Rattle.std.specs.Prelude.{◌≡◌, ◌≤◌, ◌<◌, ◌+◌, ◌^◌, List, length, take, All};
 ghost use Rattle.pk_merge.specs.Keeping.{AreKept, EndBy, KeptApart};
 ghost use Rattle.pk_merge.specs.Output.{AreGiven, IsGiven};
 ghost use Rattle.pk_merge.specs.Spans.{IsSpanOf, StandsIn};
@@ -78,13 +78,12 @@ fn write_span<D: Disk>(
     disk: &mut D,
     documents: &[Kept],
     span: Span,
-    disk_bytes: u64,
     room: &mut [u8],
     output: &mut Output,
 ) -> Result<(), StreamFault>
-    requires span { IsSpanOf disk_bytes documents.now span }
-    requires disk_bytes { disk_bytes ≡ length (D.content disk.old) }
-    requires inside { All (EndBy disk_bytes) documents.now }
+    requires span { IsSpanOf (length (D.content disk.old)) documents.now span }
+    requires low { length (D.content disk.old) < 2 ^ 64 }
+    requires inside { All (EndBy (length (D.content disk.old))) documents.now }
     requires room { SPAN_BYTES ≤ length room.old }
     requires stretch { output.old.end ≤ length (D.content disk.old) }
     requires apart { All (KeptApart output.old.start output.old.end) documents.now }
@@ -108,12 +107,10 @@ fn write_span<D: Disk>(
 pub(crate) fn write_texts<D: Disk>(
     disk: &mut D,
     documents: &[Kept],
-    disk_bytes: u64,
     room: &mut [u8],
     output: &mut Output,
 ) -> Result<(), StreamFault>
-    requires disk_bytes { disk_bytes ≡ length (D.content disk.old) }
-    requires inside { All (EndBy disk_bytes) documents.now }
+    requires inside { All (EndBy (length (D.content disk.old))) documents.now }
     requires room { SPAN_BYTES ≤ length room.old }
     requires stretch { output.old.end ≤ length (D.content disk.old) }
     requires apart { All (KeptApart output.old.start output.old.end) documents.now }
@@ -122,11 +119,12 @@ pub(crate) fn write_texts<D: Disk>(
         → output.old.at + output.old.filled + length (texts docs) ≤ output.old.end
         → AreGiven D.Disk disk.old disk.new output.old output.new (texts docs) result }
 {
+    let disk_bytes = disk.len();
     let mut done = 0;
     while done < documents.len() {
         let rest = &documents[done..];
         let span = span_of(rest, disk_bytes);
-        write_span(disk, rest, span, disk_bytes, room, output)?;
+        write_span(disk, rest, span, room, output)?;
         done += span.count;
     }
     Ok(())

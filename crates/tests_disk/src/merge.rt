@@ -326,7 +326,7 @@ fn merge_into<D: Disk>(
     if size > 512 {
         return Ok(None);
     }
-    prepared.merge_into(disk, &inputs, 3)?;
+    prepared.merge_into(disk, 3)?;
     Ok(Some(size))
 }
 

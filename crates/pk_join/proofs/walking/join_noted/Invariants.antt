@@ -5,7 +5,7 @@ use Rattle.pk_disk.specs.Frames.{KeepsDisk}
 use Rattle.pk_join.specs.declared.input.MergeInput.{MergeInput}
 use Rattle.pk_join.specs.Inputs.{SpellsInputs}
 use Rattle.pk_join.specs.Joining.{joined_in}
-use Rattle.pk_join.specs.WalkInput.{HaveExtentsOf, Holds, extents_of, heads_of, lists_of}
+use Rattle.pk_join.specs.WalkInput.{HaveExtentsOf, Holds, StandAs, heads_of, lists_of}
 use Rattle.pk_join.specs.Walking.{AreListed, CanHold, IsAtHeads, least_of}
 use Rattle.pk_segment.specs.Indexed.{list_with}
 use Rattle.pk_state.specs.Committed.{Stored, live_in}
@@ -18,13 +18,17 @@ invariant-loop-k g l =
     record {
       keeps : KeepsDisk disk l.fn.disk l.disk;
       reads : disk.failed_reads l.disk ≡ disk.failed_reads l.fn.disk;
-      room : l.joined.room ≡ l.fn.joined.room;
-      long : length l.room ≡ length l.fn.room;
-      lists : lists_of l.inputs ≡ lists_of l.fn.inputs;
-      heads : heads_of l.inputs ≡ heads_of l.fn.inputs;
-      extents : extents_of l.inputs ≡ extents_of l.fn.inputs;
-      hold : disk.honest → All (Holds (disk.content l.fn.disk)) l.fn.inputs → All (Holds (disk.content l.disk)) l.inputs;
-      joined : disk.honest → (given : List MergeInput) (stored : List Stored) (w : List ℕ) → HaveExtentsOf given l.fn.inputs → All (Holds (disk.content l.fn.disk)) l.fn.inputs → SpellsInputs (disk.content l.fn.disk) given stored
-          → AreListed given (lists_of l.fn.inputs) stored → CanHold stored l.fn.joined.room → least_of (lists_of l.fn.inputs) (heads_of l.fn.inputs) (length (lists_of l.fn.inputs)) ≡ Some w
-          → IsAtHeads (lists_of l.fn.inputs) (heads_of l.fn.inputs) w stored → (b : ℕ) → IsGap (length (lists_of l.fn.inputs)) l.found l.k b → joined_in l.joined ≡ list_with w (live_in (take b stored));
+      room : l.list.joined.room ≡ l.fn.list.joined.room;
+      made : length l.list.made.items ≡ length l.fn.list.made.items;
+      stand : StandAs l.fn.inputs l.inputs;
+      hold : disk.honest → All (Holds (disk.content l.fn.disk)) l.fn.inputs
+          → All (Holds (disk.content l.disk)) l.inputs;
+      joined : disk.honest → (given : List MergeInput) (stored : List Stored) (w : List ℕ)
+          → HaveExtentsOf given l.fn.inputs → All (Holds (disk.content l.fn.disk)) l.fn.inputs
+          → SpellsInputs (disk.content l.fn.disk) given stored
+          → AreListed given (lists_of l.fn.inputs) stored → CanHold stored l.fn.list.joined.room
+          → least_of (lists_of l.fn.inputs) (heads_of l.fn.inputs) (length (lists_of l.fn.inputs)) ≡ Some w
+          → IsAtHeads (lists_of l.fn.inputs) (heads_of l.fn.inputs) w stored → (b : ℕ)
+          → IsGap (length (lists_of l.fn.inputs)) l.found l.k b
+          → joined_in l.list.joined ≡ list_with w (live_in (take b stored));
     }

@@ -5,7 +5,7 @@ use Rattle.pk_disk.specs.Frames.{KeepsDisk}
 use Rattle.pk_join.specs.declared.input.MergeInput.{MergeInput}
 use Rattle.pk_join.specs.Inputs.{SpellsInputs}
 use Rattle.pk_join.specs.Joining.{room_in}
-use Rattle.pk_join.specs.WalkInput.{HaveExtentsOf, Holds, extents_of, heads_of, lists_of}
+use Rattle.pk_join.specs.WalkInput.{HaveExtentsOf, Holds, extents_of, heads_of, keys_of, lists_of}
 use Rattle.pk_join.specs.Walking.{AreListed, CanHold, Walks, to_come}
 use Rattle.pk_state.specs.Committed.{Stored}
 use Rattle.pk_join.proofs.walking.next_word.Given as goal
@@ -19,15 +19,22 @@ invariant-words g l =
     record {
       keeps : KeepsDisk disk l.fn.disk l.disk;
       reads : disk.failed_reads l.disk ≡ disk.failed_reads l.fn.disk;
-      room : room_in l.joined ≡ room_in l.fn.joined;
-      long : length l.room ≡ length l.fn.room;
+      room : room_in l.list.joined ≡ room_in l.fn.list.joined;
+      made : length l.list.made.items ≡ length l.fn.list.made.items;
       found : length l.found ≡ length l.fn.found;
       inputs : length l.inputs ≡ length l.fn.inputs;
       lists : lists_of l.inputs ≡ lists_of l.fn.inputs;
       extents : extents_of l.inputs ≡ extents_of l.fn.inputs;
-      fewer : to_come (lists_of l.fn.inputs) (heads_of l.inputs) (length (lists_of l.fn.inputs)) ≤ to_come (lists_of l.fn.inputs) (heads_of l.fn.inputs) (length (lists_of l.fn.inputs));
-      hold : disk.honest → All (Holds (disk.content l.fn.disk)) l.fn.inputs → All (Holds (disk.content l.disk)) l.inputs;
-      walks : disk.honest → (given : List MergeInput) (stored : List Stored) (xs ys : List (List ℕ)) → HaveExtentsOf given l.fn.inputs → All (Holds (disk.content l.fn.disk)) l.fn.inputs
-          → SpellsInputs (disk.content l.fn.disk) given stored → AreListed given (lists_of l.fn.inputs) stored → CanHold stored (room_in l.fn.joined) → Walks (lists_of l.fn.inputs) (heads_of l.fn.inputs) stored xs ys
+      keys : l.keys ≡ keys_of l.inputs;
+      fewer : to_come (lists_of l.fn.inputs) (heads_of l.inputs) (length (lists_of l.fn.inputs))
+          ≤ to_come (lists_of l.fn.inputs) (heads_of l.fn.inputs) (length (lists_of l.fn.inputs));
+      hold : disk.honest → All (Holds (disk.content l.fn.disk)) l.fn.inputs
+          → All (Holds (disk.content l.disk)) l.inputs;
+      walks : disk.honest → (given : List MergeInput) (stored : List Stored) (xs ys : List (List ℕ))
+          → HaveExtentsOf given l.fn.inputs → All (Holds (disk.content l.fn.disk)) l.fn.inputs
+          → SpellsInputs (disk.content l.fn.disk) given stored → AreListed given (lists_of l.fn.inputs) stored
+          → CanHold stored (room_in l.fn.list.joined) → Walks (lists_of l.fn.inputs) (heads_of l.fn.inputs)
+          stored
+          xs ys
           → Walks (lists_of l.fn.inputs) (heads_of l.inputs) stored xs ys;
     }

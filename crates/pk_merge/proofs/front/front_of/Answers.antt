@@ -11,4 +11,14 @@ returns-clause-long c =
     let n = c.args.counts in
     let head = header 2 n.documents n.texts n.postings n.dictionary n.terms in
     let entries = kept_directory 0 c.args.documents.now in
-    omega (arith, ap length c.in_ok-put_directory.ensures, ap length c.in_ok-put_header.ensures, ap length c.in_ok-front.ensures.items, length-append c.in_ok-front.front.items head, length-append c.put_header.new.out.items entries, length_header 2 n.documents n.texts n.postings n.dictionary n.terms, length_kept_directory 0 c.args.documents.now)
+    omega (
+      arith,
+      ap length c.in_ok-put_directory.ensures,
+      ap length c.in_ok-put_header.ensures,
+      ap length c.in_ok-front.ensures.items,
+      length-append c.in_ok-front.front.items head,
+      length-append c.put_header.new.out.items entries,
+      length_header 2 n.documents n.texts n.postings
+          n.dictionary n.terms,
+      length_kept_directory 0 c.args.documents.now,
+    )

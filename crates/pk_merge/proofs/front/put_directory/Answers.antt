@@ -14,7 +14,13 @@ unfolding none
 overflow_add-at c =
     let ks = c.args.documents.now in
     let i = c.loop-kept.kept-index in
-    omega (arith, bytes_next ks i none c.loop-kept-test.true, bytes_within ks (i + 1), c.loop-kept.invariant.at, c.requires)
+    omega (
+      arith,
+      bytes_next ks i none c.loop-kept-test.true,
+      bytes_within ks (i + 1),
+      c.loop-kept.invariant.at,
+      c.requires,
+    )
 
 pub loop-kept-preserved : goal.loop-kept-preserved
 unfolding none
@@ -25,7 +31,10 @@ loop-kept-preserved c =
     let k = get_or ks i none in
     let entry = le32 k.number ++ le32 c.loop-kept.at ++ le32 k.len in
     record {
-      at = ap (λ (n : ℕ). n + k.len) c.loop-kept.invariant.at ∙ sym (bytes_next ks i none c.loop-kept-test.true);
-      entries = c.in_ok-put_entry.ensures ∙ ap (λ (l : List ℕ). l ++ entry) c.loop-kept.invariant.entries ∙ append_assoc out (kept_directory 0 (take i ks)) entry
-          ∙ ap (λ (l : List ℕ). out ++ l) (sym (directory_next ks i c.loop-kept.at none c.loop-kept-test.true c.loop-kept.invariant.at));
+      at = ap (λ (n : ℕ). n + k.len) c.loop-kept.invariant.at
+          ∙ sym (bytes_next ks i none c.loop-kept-test.true);
+      entries = c.in_ok-put_entry.ensures ∙ ap (λ (l : List ℕ). l ++ entry) c.loop-kept.invariant.entries
+          ∙ append_assoc out (kept_directory 0 (take i ks)) entry
+          ∙ ap (λ (l : List ℕ). out ++ l)
+          (sym (directory_next ks i c.loop-kept.at none c.loop-kept-test.true c.loop-kept.invariant.at));
     }

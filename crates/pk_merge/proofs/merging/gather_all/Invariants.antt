@@ -12,8 +12,10 @@ invariant-loop-input g l =
     record {
       keeps : KeepsDisk disk l.fn.disk l.disk;
       reads : disk.failed_reads l.disk ≡ disk.failed_reads l.fn.disk;
-      left : disk.honest → (stored : List Stored) → SpellsInputs (disk.content l.fn.disk) l.inputs stored → RiseFrom l.fn.gathered.last (all_in stored)
+      left : disk.honest → (stored : List Stored) → SpellsInputs (disk.content l.fn.disk) l.inputs stored
+          → RiseFrom l.fn.gathered.last (all_in stored)
           → docs_in l.gathered ≡ docs_in l.fn.gathered ++ live_in (take l.input-index stored);
-      rise : disk.honest → (stored : List Stored) → SpellsInputs (disk.content l.fn.disk) l.inputs stored → RiseFrom l.fn.gathered.last (all_in stored)
+      rise : disk.honest → (stored : List Stored) → SpellsInputs (disk.content l.fn.disk) l.inputs stored
+          → RiseFrom l.fn.gathered.last (all_in stored)
           → RiseFrom l.gathered.last (all_in (drop l.input-index stored));
     }

@@ -23,7 +23,8 @@ returns-in_err-segment-clause-gathered g c = λ honest docs more is rise.
     gathers_fault left more c.args.gathered.now c.args.gathered.now c.from_residual.result found.0 found.1
     (subst (λ (x : MergeFault). MergeFails all 1 x) (sym found.2)
     (fails_read all (read_of c.in_err-segment.field-0.0)
-    (c.in_err-segment.ensures.directory honest docs (directory_of content docs c.args.kind is) c.len-bytes.ensures)))
+    (c.in_err-segment.ensures.directory honest docs (directory_of content docs c.args.kind is)
+    c.len-bytes.ensures)))
 
 pub loop-i-init : goal.loop-i-init
 loop-i-init g c =
@@ -35,7 +36,8 @@ loop-i-init g c =
       ready = λ h docs is.
           let before = directory_of (content c.args.source.now) docs c.args.kind is in
           let of = c.in_ok-segment.ensures.directory h docs before c.len-bytes.ensures in
-          let after = subst (λ (x : List ℕ). DirectorySpells x docs c.args.kind) (sym (c.in_ok-segment.ensures.content h)) before in
+          let after = subst (λ (x : List ℕ). DirectorySpells x docs c.args.kind)
+          (sym (c.in_ok-segment.ensures.content h)) before in
           (of, c.in_ok-directory.ensures.directory h docs c.args.kind after of);
       left = λ h docs more is rise. sym (append-nil (docs_in c.args.gathered.now));
       rise = λ h docs more is rise. rise;
@@ -46,15 +48,24 @@ returns-in_err-gather_one-clause-gathered g c = λ honest docs more is rise.
     let i = c.loop-i.i in
     let dead = c.args.dead.now in
     let ready = c.loop-i.invariant.ready honest docs is in
-    let here = subst (λ (x : List ℕ). SegmentSpells x docs c.args.kind) (sym (c.loop-i.invariant.same honest)) is in
-    let lt : i < length docs = omega (arith, c.loop-i-test.true, c.len-i-end.ensures.documents docs c.args.kind ready.1) in
-    let found = err_from_is_err_and c.from_residual-in_err-gather_one.result c.from_residual-in_err-gather_one.ensures.1 in
+    let here = subst (λ (x : List ℕ). SegmentSpells x docs c.args.kind) (sym (c.loop-i.invariant.same honest))
+    is in
+    let lt : i < length docs =
+    omega (arith, c.loop-i-test.true, c.len-i-end.ensures.documents docs c.args.kind ready.1) in
+    let found = err_from_is_err_and c.from_residual-in_err-gather_one.result
+    c.from_residual-in_err-gather_one.ensures.1 in
     let part = left_by dead (doc_in docs i ∷ []) in
-    let fault = c.in_err-gather_one.ensures.gathered honest docs more c.args.kind here ready.0 ready.1 (c.loop-i.invariant.rise honest docs more is rise) in
-    let on = left_on (left_by dead) (left_append dead) docs i (doc_in docs i) (docs_in c.args.gathered.now) (docs_in c.loop-i.gathered) part (take_doc docs i lt) refl (c.loop-i.invariant.left honest docs more is rise) in
-    gathers_fault (left_by dead docs) more c.args.gathered.now c.gather_one.new.gathered c.from_residual-in_err-gather_one.result found.0 found.1
-    (subst (λ (x : MergeFault). MergeFails (docs_in c.args.gathered.now ++ left_by dead docs) 1 x) (sym found.2)
-    (fails_longer (docs_in c.loop-i.gathered ++ part) (left_by dead (drop (i + 1) docs)) (docs_in c.args.gathered.now ++ left_by dead docs) c.in_err-gather_one.field-0.0 on fault))
+    let fault = c.in_err-gather_one.ensures.gathered honest docs more c.args.kind here ready.0 ready.1
+    (c.loop-i.invariant.rise honest docs more is rise) in
+    let on = left_on (left_by dead) (left_append dead) docs i (doc_in docs i) (docs_in c.args.gathered.now)
+    (docs_in c.loop-i.gathered) part (take_doc docs i lt) refl
+    (c.loop-i.invariant.left honest docs more is rise) in
+    gathers_fault (left_by dead docs) more c.args.gathered.now c.gather_one.new.gathered
+    c.from_residual-in_err-gather_one.result found.0 found.1
+    (subst (λ (x : MergeFault). MergeFails (docs_in c.args.gathered.now ++ left_by dead docs) 1 x)
+    (sym found.2)
+    (fails_longer (docs_in c.loop-i.gathered ++ part) (left_by dead (drop (i + 1) docs))
+    (docs_in c.args.gathered.now ++ left_by dead docs) c.in_err-gather_one.field-0.0 on fault))
 
 pub loop-i-preserved : goal.loop-i-preserved
 loop-i-preserved g c =
@@ -67,20 +78,31 @@ loop-i-preserved g c =
       ready = c.loop-i.invariant.ready;
       left = λ honest docs more is rise.
           let ready = c.loop-i.invariant.ready honest docs is in
-          let here = subst (λ (x : List ℕ). SegmentSpells x docs c.args.kind) (sym (c.loop-i.invariant.same honest)) is in
-          let lt : i < length docs = omega (arith, c.loop-i-test.true, c.len-i-end.ensures.documents docs c.args.kind ready.1) in
-          let kept = c.in_ok-gather_one.ensures.gathered honest docs more c.args.kind here ready.0 ready.1 (c.loop-i.invariant.rise honest docs more is rise) in
-          kept.0 ∙ left_next (left_by dead) (left_append dead) docs i (doc_in docs i) (docs_in c.args.gathered.now) (docs_in c.loop-i.gathered) (left_by dead (doc_in docs i ∷ [])) (take_doc docs i lt) refl (c.loop-i.invariant.left honest docs more is rise);
+          let here = subst (λ (x : List ℕ). SegmentSpells x docs c.args.kind)
+          (sym (c.loop-i.invariant.same honest)) is in
+          let lt : i < length docs =
+          omega (arith, c.loop-i-test.true, c.len-i-end.ensures.documents docs c.args.kind ready.1) in
+          let kept = c.in_ok-gather_one.ensures.gathered honest docs more c.args.kind here ready.0 ready.1
+          (c.loop-i.invariant.rise honest docs more is rise) in
+          kept.0 ∙ left_next (left_by dead) (left_append dead) docs i (doc_in docs i)
+          (docs_in c.args.gathered.now) (docs_in c.loop-i.gathered) (left_by dead (doc_in docs i ∷ []))
+          (take_doc docs i lt) refl (c.loop-i.invariant.left honest docs more is rise);
       rise = λ honest docs more is rise.
           let ready = c.loop-i.invariant.ready honest docs is in
-          let here = subst (λ (x : List ℕ). SegmentSpells x docs c.args.kind) (sym (c.loop-i.invariant.same honest)) is in
-          (c.in_ok-gather_one.ensures.gathered honest docs more c.args.kind here ready.0 ready.1 (c.loop-i.invariant.rise honest docs more is rise)).1;
+          let here = subst (λ (x : List ℕ). SegmentSpells x docs c.args.kind)
+          (sym (c.loop-i.invariant.same honest)) is in
+          (c.in_ok-gather_one.ensures.gathered honest docs more c.args.kind here ready.0 ready.1
+          (c.loop-i.invariant.rise honest docs more is rise)).1;
     }
 
 pub returns-clause-gathered : goal.returns-clause-gathered
 returns-clause-gathered g c = λ honest docs more is rise.
     let ready = c.loop-i.invariant.ready honest docs is in
-    let all : length docs ≤ c.loop-i.i = omega (arith, c.loop-i-test.false, c.len-i-end.ensures.documents docs c.args.kind ready.1) in (
-      c.loop-i.invariant.left honest docs more is rise ∙ ap (λ (ds : List Doc). docs_in c.args.gathered.now ++ left_by c.args.dead.now ds) (take_all c.loop-i.i docs all),
-      subst (λ (ds : List Doc). RiseFrom c.loop-i.gathered.last (ds ++ more)) (drop_all c.loop-i.i docs all) (c.loop-i.invariant.rise honest docs more is rise),
+    let all : length docs ≤ c.loop-i.i =
+    omega (arith, c.loop-i-test.false, c.len-i-end.ensures.documents docs c.args.kind ready.1) in (
+      c.loop-i.invariant.left honest docs more is rise
+          ∙ ap (λ (ds : List Doc). docs_in c.args.gathered.now ++ left_by c.args.dead.now ds)
+          (take_all c.loop-i.i docs all),
+      subst (λ (ds : List Doc). RiseFrom c.loop-i.gathered.last (ds ++ more)) (drop_all c.loop-i.i docs all)
+          (c.loop-i.invariant.rise honest docs more is rise),
     )

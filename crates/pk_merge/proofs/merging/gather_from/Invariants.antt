@@ -15,9 +15,11 @@ invariant-loop-i g l =
       kept : g.S.ByteSource.keeps l.fn.source l.source;
       failures : g.S.ByteSource.failures l.source ≡ g.S.ByteSource.failures l.fn.source;
       ready : g.S.ByteSource.honest → (docs : List Doc) → SegmentSpells (content l.fn.source) docs l.kind
-          → IsSegmentOf l.segment docs × IsDirectoryOf l.directory docs l.kind;
-      left : g.S.ByteSource.honest → (docs more : List Doc) → SegmentSpells (content l.fn.source) docs l.kind → RiseFrom l.fn.gathered.last (docs ++ more)
+          → IsSegmentOf l.opened.segment.now docs × IsDirectoryOf l.opened.directory.now docs l.kind;
+      left : g.S.ByteSource.honest → (docs more : List Doc) → SegmentSpells (content l.fn.source) docs l.kind
+          → RiseFrom l.fn.gathered.last (docs ++ more)
           → docs_in l.gathered ≡ docs_in l.fn.gathered ++ left_by l.dead (take l.i docs);
-      rise : g.S.ByteSource.honest → (docs more : List Doc) → SegmentSpells (content l.fn.source) docs l.kind → RiseFrom l.fn.gathered.last (docs ++ more)
+      rise : g.S.ByteSource.honest → (docs more : List Doc) → SegmentSpells (content l.fn.source) docs l.kind
+          → RiseFrom l.fn.gathered.last (docs ++ more)
           → RiseFrom l.gathered.last (drop l.i docs ++ more);
     }

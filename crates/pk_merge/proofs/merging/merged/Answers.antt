@@ -17,13 +17,16 @@ returns-in_err-gather_all-clause-merged g c = λ honest stored spells rising.
     let start = subst (λ (n : ℕ). RiseFrom n (all_in stored)) (sym c.new-gathered.ensures.last) rise in
     let found = err_from_is_err_and c.from_residual.result c.from_residual.ensures.1 in
     let none = ap docs_of c.new-gathered.ensures.documents in
-    let fault = subst (λ (ds : List Doc). MergeFails (ds ++ live_in stored) 1 c.in_err-gather_all.field-0.0) none (c.in_err-gather_all.ensures.gathered honest stored spells start) in
-    merged_fault (live_in stored) c.args.kind c.from_residual.result found.0 found.1 (subst (λ (x : MergeFault). MergeFails (live_in stored) 1 x) (sym found.2) fault)
+    let fault = subst (λ (ds : List Doc). MergeFails (ds ++ live_in stored) 1 c.in_err-gather_all.field-0.0)
+    none (c.in_err-gather_all.ensures.gathered honest stored spells start) in
+    merged_fault (live_in stored) c.args.kind c.from_residual.result found.0 found.1
+    (subst (λ (x : MergeFault). MergeFails (live_in stored) 1 x) (sym found.2) fault)
 
 pub returns-clause-merged : goal.returns-clause-merged
 returns-clause-merged g c = λ honest stored spells rising.
     let rise = rise_all (g.D.Disk.content c.args.disk.now) c.args.inputs.now stored spells rising in
     let start = subst (λ (n : ℕ). RiseFrom n (all_in stored)) (sym c.new-gathered.ensures.last) rise in
     let none = ap docs_of c.new-gathered.ensures.documents in
-    let all = (c.in_ok-gather_all.ensures.gathered honest stored spells start).0 ∙ ap (λ (ds : List Doc). ds ++ live_in stored) none in
+    let all = (c.in_ok-gather_all.ensures.gathered honest stored spells start).0
+    ∙ ap (λ (ds : List Doc). ds ++ live_in stored) none in
     merged_all (live_in stored) c.args.kind c.gather_all.new.gathered c.build.result all c.build.ensures

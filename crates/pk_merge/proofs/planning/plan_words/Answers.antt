@@ -13,10 +13,17 @@ words-init g c = record {
   reads = refl;
   same = same_walk_none c.args.walk.now;
   written = c.new-plan.ensures.written;
-  come = λ honest inputs stored come. ([], terms_of (live_in stored), come, c.new-plan.ensures.planned (live_in stored));
+  come =
+      λ honest inputs stored come. (
+        [],
+        terms_of (live_in stored),
+        come,
+        c.new-plan.ensures.planned (live_in stored),
+      );
 }
 
 pub next-requires : goal.next-requires
 next-requires g c =
     let inv = c.words.invariant in
-    within_same (length (g.D.Disk.content c.words.disk)) c.args.walk.now c.words.walk inv.same (subst (λ (n : ℕ). WalksWithin n c.args.walk.now) (sym inv.keeps.size) c.requires)
+    within_same (length (g.D.Disk.content c.words.disk)) c.args.walk.now c.words.walk inv.same
+    (subst (λ (n : ℕ). WalksWithin n c.args.walk.now) (sym inv.keeps.size) c.requires)

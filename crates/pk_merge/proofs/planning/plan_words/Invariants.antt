@@ -19,6 +19,8 @@ invariant-words g l =
       reads : disk.failed_reads l.disk ≡ disk.failed_reads l.fn.disk;
       same : IsSameWalk l.fn.walk l.walk;
       written : IsWritten l.plan;
-      come : disk.honest → (inputs : List MergeInput) (stored : List Stored) → HasCome (disk.content l.fn.disk) inputs stored l.fn.walk [] (terms_of (live_in stored))
-          → (xs : List (List ℕ)) × (ys : List (List ℕ)) × HasCome (disk.content l.disk) inputs stored l.walk xs ys × HasPlanned l.plan xs (live_in stored);
+      come : disk.honest → (inputs : List MergeInput) (stored : List Stored)
+          → HasCome (disk.content l.fn.disk) inputs stored l.fn.walk [] (terms_of (live_in stored))
+          → (xs : List (List ℕ)) × (ys : List (List ℕ)) × HasCome (disk.content l.disk) inputs stored l.walk
+          xs ys × HasPlanned l.plan xs (live_in stored);
     }

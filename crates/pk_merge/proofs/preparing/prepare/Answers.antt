@@ -36,19 +36,28 @@ some_of n e = elim (cases_lt 0 n) [
 pub returns-in_err-read-clause-prepared : goal.returns-in_err-read-clause-prepared
 returns-in_err-read-clause-prepared g c = λ honest stored spells rising.
     let content = g.D.Disk.content c.args.disk.now in
-    let rise = subst (λ (n : ℕ). RiseFrom n (all_in stored)) (sym c.new-left.ensures.last) (rise_all content c.args.inputs.now stored spells rising) in
+    let rise = subst (λ (n : ℕ). RiseFrom n (all_in stored)) (sym c.new-left.ensures.last)
+    (rise_all content c.args.inputs.now stored spells rising) in
     let kept = subst (λ (ks : List Kept). AreKept content ks []) (sym c.new-left.ensures.documents) tt in
     let fault = c.in_err-read.ensures.read honest [] stored spells rise kept in
     let found = err_from_is_err_and c.from_residual.result c.from_residual.ensures.1 in
-    rw found.1 (subst (λ (x : MergeFault). MergeFails (live_in stored) 2 x) (sym found.2) (fails_in (live_in stored) 2 c.in_err-read.field-0.0 fault))
+    rw found.1 (subst (λ (x : MergeFault). MergeFails (live_in stored) 2 x) (sym found.2)
+    (fails_in (live_in stored) 2 c.in_err-read.field-0.0 fault))
 
 pub returns-then-is_empty-clause-prepared : goal.returns-then-is_empty-clause-prepared
 returns-then-is_empty-clause-prepared g c = λ honest stored spells rising.
     let content = g.D.Disk.content c.args.disk.now in
-    let rise = subst (λ (n : ℕ). RiseFrom n (all_in stored)) (sym c.new-left.ensures.last) (rise_all content c.args.inputs.now stored spells rising) in
+    let rise = subst (λ (n : ℕ). RiseFrom n (all_in stored)) (sym c.new-left.ensures.last)
+    (rise_all content c.args.inputs.now stored spells rising) in
     let kept = subst (λ (ks : List Kept). AreKept content ks []) (sym c.new-left.ensures.documents) tt in
     let read = c.in_ok-read.ensures.read honest [] stored spells rise kept in
-    none_kept content (kept_in c.read_all.new.left) (live_in stored) read.1 (omega (arith, zero_of c.read_all.new.left.documents.len (sym c.is_empty.ensures ∙ c.if-is_empty.true), c.read_all.new.left.documents.ok))
+    none_kept content (kept_in c.read_all.new.left) (live_in stored) read.1
+    (omega (
+      arith,
+      zero_of c.read_all.new.left.documents.len (sym c.is_empty.ensures
+          ∙ c.if-is_empty.true),
+      c.read_all.new.left.documents.ok,
+    ))
 
 pub returns-in_err-plan-clause-prepared : goal.returns-in_err-plan-clause-prepared
 returns-in_err-plan-clause-prepared g c = λ honest stored spells rising.
@@ -58,7 +67,12 @@ returns-in_err-plan-clause-prepared g c = λ honest stored spells rising.
     let kept = subst (λ (ks : List Kept). AreKept content ks []) (sym c.new-left.ensures.documents) tt in
     let read = c.in_ok-read.ensures.read honest [] stored spells rise kept in
     let left = c.read_all.new.left in
-    let some : 0 < length (kept_in left) = omega (arith, some_of left.documents.len (sym c.is_empty.ensures ∙ c.if-is_empty.false), left.documents.ok) in
+    let some : 0 < length (kept_in left) =
+    omega (
+      arith,
+      some_of left.documents.len (sym c.is_empty.ensures ∙ c.if-is_empty.false),
+      left.documents.ok,
+    ) in
     let long = kept_long content (kept_in left) (live_in stored) read.1 in
     let can : CanHold stored (walk_room c.in_ok-walk.walk) = record {
       are = live_are content c.args.inputs.now stored spells start (omega (arith, some, long));
@@ -68,11 +82,15 @@ returns-in_err-plan-clause-prepared g c = λ honest stored spells rising.
     let same = (c.read_all.ensures.keeps.read honest).bytes in
     let here = subst (λ (b : List ℕ). SpellsInputs b c.args.inputs.now stored) (sym same) spells in
     let walk_is = c.in_ok-walk.ensures.inputs in
-    let listed = subst (λ (v : Vec Input). AreListed c.args.inputs.now (lists_of v.items) stored) (sym walk_is) read.0 in
-    let extents = subst (λ (v : Vec Input). HaveExtentsOf c.args.inputs.now v.items) (sym walk_is) c.in_ok-read.ensures.extents in
+    let listed = subst (λ (v : Vec Input). AreListed c.args.inputs.now (lists_of v.items) stored)
+    (sym walk_is) read.0 in
+    let extents = subst (λ (v : Vec Input). HaveExtentsOf c.args.inputs.now v.items) (sym walk_is)
+    c.in_ok-read.ensures.extents in
     let before = subst (λ (v : Vec Input). All IsBefore v.items) (sym walk_is) c.in_ok-read.ensures.before in
-    let fault = c.in_err-plan.ensures.planned honest c.args.inputs.now stored (come_start _ c.args.inputs.now stored c.in_ok-walk.walk extents here listed can before) in
-    let found = err_from_is_err_and c.from_residual-in_err-plan.result c.from_residual-in_err-plan.ensures.1 in
+    let fault = c.in_err-plan.ensures.planned honest c.args.inputs.now stored
+    (come_start _ c.args.inputs.now stored c.in_ok-walk.walk extents here listed can before) in
+    let found = err_from_is_err_and c.from_residual-in_err-plan.result
+    c.from_residual-in_err-plan.ensures.1 in
     rw found.1 (subst (λ (x : MergeFault). MergeFails (live_in stored) 2 x) (sym found.2) fault)
 
 pub returns-in_err-prepared-clause-prepared : goal.returns-in_err-prepared-clause-prepared
@@ -83,7 +101,12 @@ returns-in_err-prepared-clause-prepared g c = λ honest stored spells rising.
     let kept = subst (λ (ks : List Kept). AreKept content ks []) (sym c.new-left.ensures.documents) tt in
     let read = c.in_ok-read.ensures.read honest [] stored spells rise kept in
     let left = c.read_all.new.left in
-    let some : 0 < length (kept_in left) = omega (arith, some_of left.documents.len (sym c.is_empty.ensures ∙ c.if-is_empty.false), left.documents.ok) in
+    let some : 0 < length (kept_in left) =
+    omega (
+      arith,
+      some_of left.documents.len (sym c.is_empty.ensures ∙ c.if-is_empty.false),
+      left.documents.ok,
+    ) in
     let long = kept_long content (kept_in left) (live_in stored) read.1 in
     let are = live_are content c.args.inputs.now stored spells start (omega (arith, some, long)) in
     let can : CanHold stored (walk_room c.in_ok-walk.walk) = record {
@@ -94,14 +117,20 @@ returns-in_err-prepared-clause-prepared g c = λ honest stored spells rising.
     let same = (c.read_all.ensures.keeps.read honest).bytes in
     let here = subst (λ (b : List ℕ). SpellsInputs b c.args.inputs.now stored) (sym same) spells in
     let walk_is = c.in_ok-walk.ensures.inputs in
-    let listed = subst (λ (v : Vec Input). AreListed c.args.inputs.now (lists_of v.items) stored) (sym walk_is) read.0 in
-    let extents = subst (λ (v : Vec Input). HaveExtentsOf c.args.inputs.now v.items) (sym walk_is) c.in_ok-read.ensures.extents in
+    let listed = subst (λ (v : Vec Input). AreListed c.args.inputs.now (lists_of v.items) stored)
+    (sym walk_is) read.0 in
+    let extents = subst (λ (v : Vec Input). HaveExtentsOf c.args.inputs.now v.items) (sym walk_is)
+    c.in_ok-read.ensures.extents in
     let before = subst (λ (v : Vec Input). All IsBefore v.items) (sym walk_is) c.in_ok-read.ensures.before in
-    let planned = c.in_ok-plan.ensures.planned honest c.args.inputs.now stored (come_start _ c.args.inputs.now stored c.in_ok-walk.walk extents here listed can before) in
-    let listed_still = subst (λ (ls : List InputLists). AreListed c.args.inputs.now ls stored) (sym c.plan_words.ensures.same.lists) listed in
+    let planned = c.in_ok-plan.ensures.planned honest c.args.inputs.now stored
+    (come_start _ c.args.inputs.now stored c.in_ok-walk.walk extents here listed can before) in
+    let listed_still = subst (λ (ls : List InputLists). AreListed c.args.inputs.now ls stored)
+    (sym c.plan_words.ensures.same.lists) listed in
     let can_still = subst (CanHold stored) (sym c.plan_words.ensures.same.room) can in
-    let fault = c.in_err-prepared.ensures.prepared content c.args.inputs.now stored listed_still read.1 can_still planned in
-    let found = err_from_is_err_and c.from_residual-in_err-prepared.result c.from_residual-in_err-prepared.ensures.1 in
+    let fault = c.in_err-prepared.ensures.prepared content c.args.inputs.now stored listed_still read.1
+    can_still planned in
+    let found = err_from_is_err_and c.from_residual-in_err-prepared.result
+    c.from_residual-in_err-prepared.ensures.1 in
     rw found.1 (subst (λ (x : MergeFault). MergeFails (live_in stored) 2 x) (sym found.2) fault)
 
 pub returns-clause-prepared : goal.returns-clause-prepared
@@ -112,7 +141,12 @@ returns-clause-prepared g c = λ honest stored spells rising.
     let kept = subst (λ (ks : List Kept). AreKept content ks []) (sym c.new-left.ensures.documents) tt in
     let read = c.in_ok-read.ensures.read honest [] stored spells rise kept in
     let left = c.read_all.new.left in
-    let some : 0 < length (kept_in left) = omega (arith, some_of left.documents.len (sym c.is_empty.ensures ∙ c.if-is_empty.false), left.documents.ok) in
+    let some : 0 < length (kept_in left) =
+    omega (
+      arith,
+      some_of left.documents.len (sym c.is_empty.ensures ∙ c.if-is_empty.false),
+      left.documents.ok,
+    ) in
     let long = kept_long content (kept_in left) (live_in stored) read.1 in
     let are = live_are content c.args.inputs.now stored spells start (omega (arith, some, long)) in
     let can : CanHold stored (walk_room c.in_ok-walk.walk) = record {
@@ -123,26 +157,36 @@ returns-clause-prepared g c = λ honest stored spells rising.
     let same = (c.read_all.ensures.keeps.read honest).bytes in
     let here = subst (λ (b : List ℕ). SpellsInputs b c.args.inputs.now stored) (sym same) spells in
     let walk_is = c.in_ok-walk.ensures.inputs in
-    let listed = subst (λ (v : Vec Input). AreListed c.args.inputs.now (lists_of v.items) stored) (sym walk_is) read.0 in
-    let extents = subst (λ (v : Vec Input). HaveExtentsOf c.args.inputs.now v.items) (sym walk_is) c.in_ok-read.ensures.extents in
+    let listed = subst (λ (v : Vec Input). AreListed c.args.inputs.now (lists_of v.items) stored)
+    (sym walk_is) read.0 in
+    let extents = subst (λ (v : Vec Input). HaveExtentsOf c.args.inputs.now v.items) (sym walk_is)
+    c.in_ok-read.ensures.extents in
     let before = subst (λ (v : Vec Input). All IsBefore v.items) (sym walk_is) c.in_ok-read.ensures.before in
-    let planned = c.in_ok-plan.ensures.planned honest c.args.inputs.now stored (come_start _ c.args.inputs.now stored c.in_ok-walk.walk extents here listed can before) in
-    let listed_still = subst (λ (ls : List InputLists). AreListed c.args.inputs.now ls stored) (sym c.plan_words.ensures.same.lists) listed in
+    let planned = c.in_ok-plan.ensures.planned honest c.args.inputs.now stored
+    (come_start _ c.args.inputs.now stored c.in_ok-walk.walk extents here listed can before) in
+    let listed_still = subst (λ (ls : List InputLists). AreListed c.args.inputs.now ls stored)
+    (sym c.plan_words.ensures.same.lists) listed in
     let can_still = subst (CanHold stored) (sym c.plan_words.ensures.same.room) can in
     c.in_ok-prepared.ensures.prepared content c.args.inputs.now stored listed_still read.1 can_still planned
 
 pub returns-clause-ready : goal.returns-clause-ready
 returns-clause-ready g c =
     let inputs = c.args.inputs.now in
-    let none = subst (StayApart inputs) (sym c.new-left.ensures.documents) (λ start end all k d within. absurd (omega (arith, within))) in (
-      c.in_ok-prepared.ensures.disk_bytes ∙ c.read_all.ensures.disk_bytes ∙ c.new-left.ensures.disk_bytes ∙ c.len.ensures,
-      c.in_ok-read.ensures.extents ∙ sym (ap (λ (v : Vec Input). extents_of v.items) c.in_ok-walk.ensures.inputs) ∙ sym c.plan_words.ensures.same.extents ∙ sym c.in_ok-prepared.ensures.extents,
+    let none = subst (StayApart inputs) (sym c.new-left.ensures.documents)
+    (λ start end all k d within. absurd (omega (arith, within))) in (
+      c.in_ok-prepared.ensures.disk_bytes ∙ c.read_all.ensures.disk_bytes ∙ c.new-left.ensures.disk_bytes
+          ∙ c.len.ensures,
+      c.in_ok-read.ensures.extents
+          ∙ sym (ap (λ (v : Vec Input). extents_of v.items) c.in_ok-walk.ensures.inputs)
+          ∙ sym c.plan_words.ensures.same.extents ∙ sym c.in_ok-prepared.ensures.extents,
       subst (StayApart inputs) (sym c.in_ok-prepared.ensures.documents) (c.in_ok-read.ensures.apart none),
     )
 
 pub plan_words-requires : goal.plan_words-requires
 plan_words-requires g c =
     let size = length (g.D.Disk.content c.read_all.new.disk) in
-    let extents = subst (λ (v : Vec Input). HaveExtentsOf c.args.inputs.now v.items) (sym c.in_ok-walk.ensures.inputs) c.in_ok-read.ensures.extents in
+    let extents = subst (λ (v : Vec Input). HaveExtentsOf c.args.inputs.now v.items)
+    (sym c.in_ok-walk.ensures.inputs) c.in_ok-read.ensures.extents in
     within_given size c.args.inputs.now c.in_ok-walk.walk.inputs.items extents
-    (subst (λ (n : ℕ). All (LiesInside n) c.args.inputs.now) (sym c.read_all.ensures.keeps.size) c.requires.inside)
+    (subst (λ (n : ℕ). All (LiesInside n) c.args.inputs.now) (sym c.read_all.ensures.keeps.size)
+    c.requires.inside)

@@ -1,5 +1,5 @@
 -- One input after the other.
-use Rattle.std.proofs.Common.{◌∙◌, ◌∷◌, ◌++◌, [], ◌<◌, ◌+◌, List, ℕ, length, take, drop, refl, sym, ap, subst, arith}
+use Rattle.std.proofs.Common.{◌∙◌, ◌∷◌, ◌++◌, [], ◌<◌, ◌+◌, List, ℕ, length, take, drop, refl, sym, subst, arith}
 use Rattle.std.specs.Prelude.{All}
 use Rattle.std.proofs.lemmas.List.{take_all}
 use Rattle.std.proofs.lemmas.List.Elements.{All-push}
@@ -34,20 +34,31 @@ returns-in_err-lists-clause-read g c = λ honest so_far stored spells rise are.
     let s = stored_at stored i in
     let x = c.input-item.result in
     let dead = x.dead.now in
-    let lt : i < length stored = omega (arith, c.loop-input-test.true, inputs_long (content c.args.disk.now) c.args.inputs.now stored spells) in
+    let lt : i < length stored =
+    omega (
+      arith,
+      c.loop-input-test.true,
+      inputs_long (content c.args.disk.now) c.args.inputs.now stored
+          spells,
+    ) in
     let same = (inv.keeps.read honest).bytes in
     let here = subst (λ (b : List ℕ). SpellsInputs b c.args.inputs.now stored) (sym same) spells in
-    let input = input_at (content c.loop-input.disk) c.args.inputs.now stored i x here c.loop-input-test.true c.input-item.is in
+    let input = input_at (content c.loop-input.disk) c.args.inputs.now stored i x here c.loop-input-test.true
+    c.input-item.is in
     let known = inv.read honest so_far stored spells rise are in
     let next = subst (λ (ds : List Doc). RiseFrom c.loop-input.left.last ds) (all_on stored i lt) known.2 in
     let before = so_far ++ live_in (take i stored) in
     let kept = subst (λ (b : List ℕ). AreKept b (kept_in c.loop-input.left) before) (sym same) known.1 in
     let part = left_by dead s.documents in
-    let fault = c.in_err-lists.ensures.read honest before s.documents (all_in (drop (i + 1) stored)) input.segment next kept in
-    let on = left_on live_in live_append stored i s so_far before part (take_stored stored i lt) (live_here dead s input.dead) refl in
-    let found = err_from_is_err_and c.from_residual-in_err-lists.result c.from_residual-in_err-lists.ensures.1 in
+    let fault = c.in_err-lists.ensures.read honest before s.documents (all_in (drop (i + 1) stored))
+    input.segment next kept in
+    let on = left_on live_in live_append stored i s so_far before part (take_stored stored i lt)
+    (live_here dead s input.dead) refl in
+    let found = err_from_is_err_and c.from_residual-in_err-lists.result
+    c.from_residual-in_err-lists.ensures.1 in
     rw found.1 (subst (λ (y : MergeFault). MergeFails (so_far ++ live_in stored) 1 y) (sym found.2)
-    (fails_longer (before ++ part) (live_in (drop (i + 1) stored)) (so_far ++ live_in stored) c.in_err-lists.field-0.0 on fault))
+    (fails_longer (before ++ part) (live_in (drop (i + 1) stored)) (so_far ++ live_in stored)
+    c.in_err-lists.field-0.0 on fault))
 
 pub loop-input-preserved : goal.loop-input-preserved
 loop-input-preserved g c =
@@ -60,30 +71,55 @@ loop-input-preserved g c =
       keeps = keeps_disk_then _ _ _ _ inv.keeps c.read_input.ensures.keeps;
       reads = c.in_ok-lists.ensures.reads.ok ∙ inv.reads;
       disk_bytes = c.read_input.ensures.disk_bytes ∙ inv.disk_bytes;
-      apart = λ before start end all. c.in_ok-lists.ensures.between start end (subst (LiesApart start end) (sym c.input-item.is) (all i x c.loop-input-test.true)) (inv.apart before start end all);
-      extents = pushed_extents c.args.inputs.now i x c.loop-input.read.items c.push.new.self.items y c.loop-input-test.true c.input-item.is c.in-Ok.ensures.items c.in_ok-before.ensures.extent inv.extents;
-      before = subst (All IsBefore) (sym c.in-Ok.ensures.items) (All-push IsBefore c.loop-input.read.items y inv.before (record { head = c.in_ok-before.ensures.start; ahead = c.in_ok-before.ensures.none }));
+      apart = λ before start end all. c.in_ok-lists.ensures.between start end
+          (subst (LiesApart start end) (sym c.input-item.is) (all i x c.loop-input-test.true))
+          (inv.apart before start end all);
+      extents = pushed_extents c.args.inputs.now i x c.loop-input.read.items c.push.new.self.items y
+          c.loop-input-test.true c.input-item.is c.in-Ok.ensures.items c.in_ok-before.ensures.extent
+          inv.extents;
+      before = subst (All IsBefore) (sym c.in-Ok.ensures.items)
+          (All-push IsBefore c.loop-input.read.items y inv.before
+          (record { head = c.in_ok-before.ensures.start; ahead = c.in_ok-before.ensures.none }));
       read = λ honest so_far stored spells rise are.
           let s = stored_at stored i in
           let dead = x.dead.now in
-          let lt : i < length stored = omega (arith, c.loop-input-test.true, inputs_long (content c.args.disk.now) c.args.inputs.now stored spells) in
+          let lt : i < length stored =
+          omega (
+            arith,
+            c.loop-input-test.true,
+            inputs_long (content c.args.disk.now) c.args.inputs.now
+                stored spells,
+          ) in
           let same = (inv.keeps.read honest).bytes in
           let here = subst (λ (b : List ℕ). SpellsInputs b c.args.inputs.now stored) (sym same) spells in
-          let input = input_at (content c.loop-input.disk) c.args.inputs.now stored i x here c.loop-input-test.true c.input-item.is in
+          let input = input_at (content c.loop-input.disk) c.args.inputs.now stored i x here
+          c.loop-input-test.true c.input-item.is in
           let known = inv.read honest so_far stored spells rise are in
-          let next = subst (λ (ds : List Doc). RiseFrom c.loop-input.left.last ds) (all_on stored i lt) known.2 in
+          let next = subst (λ (ds : List Doc). RiseFrom c.loop-input.left.last ds) (all_on stored i lt)
+          known.2 in
           let before = so_far ++ live_in (take i stored) in
-          let kept = subst (λ (b : List ℕ). AreKept b (kept_in c.loop-input.left) before) (sym same) known.1 in
+          let kept = subst (λ (b : List ℕ). AreKept b (kept_in c.loop-input.left) before) (sym same)
+          known.1 in
           let part = left_by dead s.documents in
-          let has = c.in_ok-lists.ensures.read honest before s.documents (all_in (drop (i + 1) stored)) input.segment next kept in
-          let all = left_next live_in live_append stored i s so_far before part (take_stored stored i lt) (live_here dead s input.dead) refl in
+          let has = c.in_ok-lists.ensures.read honest before s.documents (all_in (drop (i + 1) stored))
+          input.segment next kept in
+          let all = left_next live_in live_append stored i s so_far before part (take_stored stored i lt)
+          (live_here dead s input.dead) refl in
           let listed = subst (AreListsOf c.in_ok-lists.lists x.kind s.documents) input.dead has.listed in
-          let more = listed_snoc (take i c.args.inputs.now) (lists_of c.loop-input.read.items) (take i stored) x c.in_ok-lists.lists s known.0 listed in
-          let pushed = pushed_lists c.loop-input.read.items c.push.new.self.items y c.in_ok-lists.lists c.in-Ok.ensures.items c.in_ok-before.ensures.lists in (
-            subst (λ (is : List MergeInput). AreListed is (lists_of c.push.new.self.items) (take (i + 1) stored)) (sym (inputs_more c.args.inputs.now i x c.loop-input-test.true c.input-item.is))
-                (subst (λ (ls : List InputLists). AreListed (take i c.args.inputs.now ++ x ∷ []) ls (take (i + 1) stored)) (sym pushed)
-                (subst (AreListed (take i c.args.inputs.now ++ x ∷ []) (lists_of c.loop-input.read.items ++ c.in_ok-lists.lists ∷ [])) (sym (take_stored stored i lt)) more)),
-            subst (λ (b : List ℕ). AreKept b (kept_in c.read_input.new.left) (so_far ++ live_in (take (i + 1) stored))) same
+          let more = listed_snoc (take i c.args.inputs.now) (lists_of c.loop-input.read.items) (take i stored)
+          x c.in_ok-lists.lists s known.0 listed in
+          let pushed = pushed_lists c.loop-input.read.items c.push.new.self.items y c.in_ok-lists.lists
+          c.in-Ok.ensures.items c.in_ok-before.ensures.lists in (
+            subst (λ (is : List MergeInput). AreListed is (lists_of c.push.new.self.items)
+                (take (i + 1) stored)) (sym
+                (inputs_more c.args.inputs.now i x c.loop-input-test.true c.input-item.is))
+                (subst (λ (ls : List InputLists). AreListed (take i c.args.inputs.now ++ x ∷ []) ls
+                (take (i + 1) stored)) (sym pushed)
+                (subst (AreListed (take i c.args.inputs.now ++ x ∷ [])
+                (lists_of c.loop-input.read.items ++ c.in_ok-lists.lists ∷ []))
+                (sym (take_stored stored i lt)) more)),
+            subst (λ (b : List ℕ). AreKept b (kept_in c.read_input.new.left)
+                (so_far ++ live_in (take (i + 1) stored))) same
                 (subst (AreKept (content c.loop-input.disk) (kept_in c.read_input.new.left)) all has.kept),
             has.rise,
           );
@@ -97,11 +133,14 @@ returns-clause-read g c = λ honest so_far stored spells rise are.
     let long = inputs_long (content c.args.disk.now) c.args.inputs.now stored spells in
     let all = take_all i stored (omega (arith, c.loop-input-test.false, long)) in
     let each = take_all i c.args.inputs.now (omega (arith, c.loop-input-test.false)) in (
-      subst (λ (is : List MergeInput). AreListed is (lists_of c.loop-input.read.items) stored) each (subst (AreListed (take i c.args.inputs.now) (lists_of c.loop-input.read.items)) all known.0),
-      subst (λ (ss : List Stored). AreKept (content c.args.disk.now) (kept_in c.loop-input.left) (so_far ++ live_in ss)) all known.1,
+      subst (λ (is : List MergeInput). AreListed is (lists_of c.loop-input.read.items) stored) each
+          (subst (AreListed (take i c.args.inputs.now) (lists_of c.loop-input.read.items)) all known.0),
+      subst (λ (ss : List Stored). AreKept (content c.args.disk.now) (kept_in c.loop-input.left)
+          (so_far ++ live_in ss)) all known.1,
     )
 
 pub returns-clause-extents : goal.returns-clause-extents
 returns-clause-extents g c =
     let i = c.loop-input.input-index in
-    subst (λ (is : List MergeInput). HaveExtentsOf is c.loop-input.read.items) (take_all i c.args.inputs.now (omega (arith, c.loop-input-test.false))) c.loop-input.invariant.extents
+    subst (λ (is : List MergeInput). HaveExtentsOf is c.loop-input.read.items)
+    (take_all i c.args.inputs.now (omega (arith, c.loop-input-test.false))) c.loop-input.invariant.extents

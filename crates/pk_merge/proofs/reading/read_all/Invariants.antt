@@ -22,6 +22,10 @@ invariant-loop-input g l =
       apart : StayApart l.inputs (kept_in l.fn.left) → StayApart l.inputs (kept_in l.left);
       extents : HaveExtentsOf (take l.input-index l.inputs) l.read.items;
       before : All IsBefore l.read.items;
-      read : disk.honest → (so_far : List Doc) (stored : List Stored) → SpellsInputs (disk.content l.fn.disk) l.inputs stored → RiseFrom l.fn.left.last (all_in stored) → AreKept (disk.content l.fn.disk) (kept_in l.fn.left) so_far
-          → AreListed (take l.input-index l.inputs) (lists_of l.read.items) (take l.input-index stored) × AreKept (disk.content l.fn.disk) (kept_in l.left) (so_far ++ live_in (take l.input-index stored)) × RiseFrom l.left.last (all_in (drop l.input-index stored));
+      read : disk.honest → (so_far : List Doc) (stored : List Stored)
+          → SpellsInputs (disk.content l.fn.disk) l.inputs stored → RiseFrom l.fn.left.last (all_in stored)
+          → AreKept (disk.content l.fn.disk) (kept_in l.fn.left) so_far
+          → AreListed (take l.input-index l.inputs) (lists_of l.read.items) (take l.input-index stored)
+          × AreKept (disk.content l.fn.disk) (kept_in l.left) (so_far ++ live_in (take l.input-index stored))
+          × RiseFrom l.left.last (all_in (drop l.input-index stored));
     }

@@ -16,7 +16,10 @@ returns-clause-between g c =
     let new = kept_in c.read_from.new.left in
     let start : 512 * c.from-start.result ≡ start_of extent = omega (arith, c.from-start.ensures) in
     let long : length (extent_bytes content source.extent) ≡ extent.bytes =
-    length-take-le source.extent.bytes (drop (start_of source.extent) content) (omega (arith, length-drop (start_of source.extent) content, source.inside))
+    length-take-le source.extent.bytes (drop (start_of source.extent) content)
+    (omega (arith, length-drop (start_of source.extent) content, source.inside))
     ∙ ap (λ (x : DiskExtent). x.bytes) c.on-source.ensures.extent in
     subst (λ (n : ℕ). OnOk c.read_from.result (KeepsBetween n (n + extent.bytes) ks new)) start
-    (subst (λ (n : ℕ). OnOk c.read_from.result (KeepsBetween (512 * c.from-start.result) (512 * c.from-start.result + n) ks new)) long c.read_from.ensures.between)
+    (subst (λ (n : ℕ). OnOk c.read_from.result
+    (KeepsBetween (512 * c.from-start.result) (512 * c.from-start.result + n) ks new)) long
+    c.read_from.ensures.between)

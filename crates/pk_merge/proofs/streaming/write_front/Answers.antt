@@ -1,5 +1,5 @@
 -- Header and directory, and then the texts, which stay meanwhile.
-use Rattle.std.proofs.Common.{ℕ, arith, length-append, subst, All}
+use Rattle.std.proofs.Common.{ℕ, arith, length-append, subst, sym, All}
 use Rattle.pk_segment.specs.Spelling.{texts}
 use Rattle.pk_merge.specs.Keeping.{EndBy}
 use Rattle.pk_merge.proofs.GivenLemmas.{are_given_next}
@@ -16,7 +16,16 @@ returns-clause-bytes g c = λ honest docs are room.
     let given = c.in_ok-offer.ensures.given in
     let both = length-append front (texts docs) in
     let one = c.in_ok-offer.ensures.bytes honest (omega (arith, room, both)) in
-    let inside = subst (λ (n : ℕ). All (EndBy n) ks) c.requires.disk_bytes c.requires.inside in
-    let kept = kept_stays (content c.args.disk.now) (content c.offer.new.disk) ks docs o.start o.end given.writes.size (given.writes.changed honest).same c.requires.apart inside are in
-    let two = c.write_texts.ensures.bytes honest docs kept (omega (arith, room, both, one.count, given.stretch.end)) in
-    are_given_next d c.args.disk.now c.offer.new.disk c.write_texts.new.disk o c.offer.new.self c.write_texts.new.output front (texts docs) c.in_ok-offer.field-0 c.write_texts.result one two
+    let inside = c.requires.inside in
+    let kept = kept_stays (content c.args.disk.now) (content c.offer.new.disk) ks docs o.start o.end
+    given.writes.size (given.writes.changed honest).same c.requires.apart inside are in
+    let two =
+    c.write_texts.ensures.bytes honest docs kept
+    (omega (arith, room, both, one.count, given.stretch.end)) in
+    are_given_next d c.args.disk.now c.offer.new.disk c.write_texts.new.disk o c.offer.new.self
+    c.write_texts.new.output front (texts docs) c.in_ok-offer.field-0 c.write_texts.result one two
+
+pub write_texts-requires-clause-inside : goal.write_texts-requires-clause-inside
+write_texts-requires-clause-inside g c =
+    subst (λ (n : ℕ). All (EndBy n) c.args.documents.now) (sym c.in_ok-offer.ensures.given.writes.size)
+    c.requires.inside

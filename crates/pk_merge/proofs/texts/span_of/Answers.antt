@@ -20,10 +20,20 @@ loop-i-preserved c =
     let lt = c.loop-i-test.true in
     record {
       short = omega (arith, c.max-bytes.ensures, c.from.ensures, inv.short, c.if-end-from.false);
-      inside = omega (arith, c.max-bytes.ensures, c.from.ensures, inv.inside, c.if-kept-from.false, c.requires.inside i none lt);
+      inside = omega (
+        arith,
+        c.max-bytes.ensures,
+        c.from.ensures,
+        inv.inside,
+        c.if-kept-from.false,
+        c.requires.inside i none lt,
+      );
       near = All-more (StandsIn from (from + c.max-bytes.result)) ks i none lt
-          (All-weaker (StandsIn from (from + c.loop-i.bytes)) (StandsIn from (from + c.max-bytes.result)) (λ k stands. (stands.0, omega (arith, stands.1, c.max-bytes.ensures))) (take i ks) inv.near)
-          (omega (arith, c.if-kept-from.false), omega (arith, c.max-bytes.ensures, c.from.ensures, c.if-kept-from.false));
+          (All-weaker (StandsIn from (from + c.loop-i.bytes)) (StandsIn from (from + c.max-bytes.result))
+          (λ k stands. (stands.0, omega (arith, stands.1, c.max-bytes.ensures))) (take i ks) inv.near) (
+            omega (arith, c.if-kept-from.false),
+            omega (arith, c.max-bytes.ensures, c.from.ensures, c.if-kept-from.false),
+          );
     }
 
 pub returns : goal.returns

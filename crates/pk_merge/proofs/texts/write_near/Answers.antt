@@ -28,10 +28,14 @@ returns-in_err-offer-clause-bytes g c = λ honest docs are room.
     let inv = c.loop-kept.invariant in
     let so_far = inv.texts honest docs are room in
     let lt : i < length docs = omega (arith, c.loop-kept-test.true, kept_long content ks docs are) in
-    let text = text_there content c.read.new.out c.args.from (length c.args.room.now) ks docs i none (c.in-Ok.ensures.given honest) c.requires.near c.requires.read are c.loop-kept-test.true in
-    let given = c.in_err-offer.ensures.bytes honest (omega (arith, so_far.count, next_within docs i lt, room, ap length text, inv.given.stretch.end)) in
+    let text = text_there content c.read.new.out c.args.from (length c.args.room.now) ks docs i none
+    (c.in-Ok.ensures.given honest) c.requires.near c.requires.read are c.loop-kept-test.true in
+    let given =
+    c.in_err-offer.ensures.bytes honest
+    (omega (arith, so_far.count, next_within docs i lt, room, ap length text, inv.given.stretch.end)) in
     let found = err_from_is_err_and c.from_residual.result c.from_residual.ensures.1 in
-    err_given d c.args.disk.now c.offer.new.disk c.args.output.now c.offer.new.self (texts docs) c.from_residual.result found.0 found.1
+    err_given d c.args.disk.now c.offer.new.disk c.args.output.now c.offer.new.self (texts docs)
+    c.from_residual.result found.0 found.1
     (subst (λ (x : StreamFault). IsUndamaged {T = Unit {0}} (Err x)) (sym found.2) given.undamaged)
 
 pub loop-kept-preserved : goal.loop-kept-preserved
@@ -44,20 +48,42 @@ loop-kept-preserved g c =
     let k = get_or ks i none in
     let inv = c.loop-kept.invariant in
     record {
-      given = is_given_then d c.args.disk.now c.loop-kept.disk c.offer.new.disk c.args.output.now c.loop-kept.output c.offer.new.self (tt {0}) inv.given c.in_ok-offer.ensures.given;
+      given = is_given_then d c.args.disk.now c.loop-kept.disk c.offer.new.disk c.args.output.now
+          c.loop-kept.output c.offer.new.self (tt {0}) inv.given c.in_ok-offer.ensures.given;
       texts = λ honest docs are room.
           let so_far = inv.texts honest docs are room in
           let lt : i < length docs = omega (arith, c.loop-kept-test.true, kept_long content ks docs are) in
           let part = slice_range c.read.new.out (k.at - c.args.from) (k.at - c.args.from + k.len) in
-          let text = text_there content c.read.new.out c.args.from (length c.args.room.now) ks docs i none (c.in-Ok.ensures.given honest) c.requires.near c.requires.read are c.loop-kept-test.true in
-          let given = c.in_ok-offer.ensures.bytes honest (omega (arith, so_far.count, next_within docs i lt, room, ap length text, inv.given.stretch.end)) in
-          let all = are_given_then d c.args.disk.now c.loop-kept.disk c.offer.new.disk c.args.output.now c.loop-kept.output c.offer.new.self (texts (take i docs)) part (tt {0}) so_far given in
-          subst (λ (l : List ℕ). AreGiven d c.args.disk.now c.offer.new.disk c.args.output.now c.offer.new.self l well) (ap (λ (l : List ℕ). texts (take i docs) ++ l) text ∙ sym (texts_next docs i lt)) all;
+          let text = text_there content c.read.new.out c.args.from (length c.args.room.now) ks docs i none
+          (c.in-Ok.ensures.given honest) c.requires.near c.requires.read are c.loop-kept-test.true in
+          let given =
+          c.in_ok-offer.ensures.bytes honest
+          (omega (
+            arith,
+            so_far.count,
+            next_within docs i lt,
+            room,
+            ap length text,
+            inv.given.stretch.end,
+          )) in
+          let all = are_given_then d c.args.disk.now c.loop-kept.disk c.offer.new.disk c.args.output.now
+          c.loop-kept.output c.offer.new.self (texts (take i docs)) part (tt {0}) so_far given in
+          subst (λ (l : List ℕ). AreGiven d c.args.disk.now c.offer.new.disk c.args.output.now
+          c.offer.new.self l well) (ap (λ (l : List ℕ). texts (take i docs) ++ l) text
+          ∙ sym (texts_next docs i lt)) all;
     }
 
 pub returns-clause-bytes : goal.returns-clause-bytes
 returns-clause-bytes g c = λ honest docs are room.
     let i = c.loop-kept.kept-index in
-    let all = take_all i docs (omega (arith, c.loop-kept-test.false, kept_long (g.D.Disk.content c.args.disk.now) c.args.documents.now docs are)) in
-    let so_far = subst (λ (ds : List Doc). AreGiven g.D.Disk c.args.disk.now c.loop-kept.disk c.args.output.now c.loop-kept.output (texts ds) well) all (c.loop-kept.invariant.texts honest docs are room) in
+    let all =
+    take_all i docs (omega (
+      arith,
+      c.loop-kept-test.false,
+      kept_long (g.D.Disk.content c.args.disk.now)
+          c.args.documents.now docs are,
+    )) in
+    let so_far =
+    subst (λ (ds : List Doc). AreGiven g.D.Disk c.args.disk.now c.loop-kept.disk c.args.output.now
+    c.loop-kept.output (texts ds) well) all (c.loop-kept.invariant.texts honest docs are room) in
     record { count = so_far.count; given_are = so_far.given_are; undamaged = tt }

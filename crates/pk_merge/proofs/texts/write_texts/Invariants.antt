@@ -17,6 +17,7 @@ invariant-loop-done g l =
       most : l.done ≤ length l.documents;
       room : length l.room ≡ length l.fn.room;
       given : IsGiven disk l.fn.disk l.disk l.fn.output l.output well;
-      texts : disk.honest → (docs : List Doc) → AreKept (disk.content l.fn.disk) l.documents docs → l.fn.output.at + l.fn.output.filled + length (texts docs) ≤ l.fn.output.end
+      texts : disk.honest → (docs : List Doc) → AreKept (disk.content l.fn.disk) l.documents docs
+          → l.fn.output.at + l.fn.output.filled + length (texts docs) ≤ l.fn.output.end
           → AreGiven disk l.fn.disk l.disk l.fn.output l.output (texts (take l.done docs)) well;
     }

@@ -21,16 +21,27 @@ returns-in_err-write_list-clause-bytes g c = λ honest inputs stored start apart
     let inv = c.words.invariant in
     let docs = live_in stored in
     let known = inv.come honest inputs stored start apart enough room in
-    let to = subst (GoesAs (g.D.Disk.content c.go_on.new.disk) inputs stored c.go_on.new.walk known.0 known.1) c.if-branch.true (c.in_ok-go_on.ensures.goes honest inputs stored known.0 known.1 known.2) in
+    let to = subst (GoesAs (g.D.Disk.content c.go_on.new.disk) inputs stored c.go_on.new.walk known.0 known.1)
+    c.if-branch.true (c.in_ok-go_on.ensures.goes honest inputs stored known.0 known.1 known.2) in
     let w = walk_word c.go_on.new.walk in
     let terms = to.come.walks.terms ∙ append_assoc known.0 (w ∷ []) to.rest in
     let P = λ (v : List ℕ). length (list_spelling (list_with v docs)) ≤ length c.args.encoded.now in
-    let most : length (list_spelling (list_with w docs)) ≤ length c.args.encoded.now = all_mid P known.0 w to.rest (subst (All P) terms enough) in
+    let most : length (list_spelling (list_with w docs)) ≤ length c.args.encoded.now =
+    all_mid P known.0 w to.rest (subst (All P) terms enough) in
     let is = ap (λ (l : List ℕ). length (list_spelling l)) (c.numbers.ensures.numbers ∙ to.numbers) in
     let given = c.in_err-write_list.ensures.bytes honest (omega (arith, is, most, inv.encoded))
-    (omega (arith, is, room, known.3.count, lists_within docs known.0 w to.rest terms, inv.given.stretch.end)) in
-    let found = err_from_is_err_and c.from_residual-in_err-write_list.result c.from_residual-in_err-write_list.ensures.1 in
-    err_given g.D.Disk c.args.disk.now c.write_list.new.disk c.args.output.now c.write_list.new.output (postings docs) c.from_residual-in_err-write_list.result found.0 found.1
+    (omega (
+      arith,
+      is,
+      room,
+      known.3.count,
+      lists_within docs known.0 w to.rest terms,
+      inv.given.stretch.end,
+    )) in
+    let found = err_from_is_err_and c.from_residual-in_err-write_list.result
+    c.from_residual-in_err-write_list.ensures.1 in
+    err_given g.D.Disk c.args.disk.now c.write_list.new.disk c.args.output.now c.write_list.new.output
+    (postings docs) c.from_residual-in_err-write_list.result found.0 found.1
     (subst (λ (x : StreamFault). IsUndamaged {T = Unit {0}} (Err x)) (sym found.2) given.undamaged)
 
 pub words-preserved : goal.words-preserved
@@ -38,36 +49,56 @@ words-preserved g c =
     let inv = c.words.invariant in
     let content = g.D.Disk.content in
     let d = g.D.Disk in
-    let read = is_given_read d c.args.disk.now c.words.disk c.go_on.new.disk c.args.output.now c.words.output inv.given c.go_on.ensures.keeps c.in_ok-go_on.ensures.cause in
+    let read = is_given_read d c.args.disk.now c.words.disk c.go_on.new.disk c.args.output.now c.words.output
+    inv.given c.go_on.ensures.keeps c.in_ok-go_on.ensures.cause in
     record {
-      given = is_given_then d c.args.disk.now c.go_on.new.disk c.write_list.new.disk c.args.output.now c.words.output c.write_list.new.output tt read c.in_ok-write_list.ensures.given;
+      given = is_given_then d c.args.disk.now c.go_on.new.disk c.write_list.new.disk c.args.output.now
+          c.words.output c.write_list.new.output tt read c.in_ok-write_list.ensures.given;
       same = same_walk_then c.args.walk.now c.words.walk c.go_on.new.walk inv.same c.go_on.ensures.same;
       encoded = omega (arith, c.write_list.auto.encoded, inv.encoded);
       come = λ honest inputs stored start apart enough room.
           let docs = live_in stored in
           let known = inv.come honest inputs stored start apart enough room in
-          let to = subst (GoesAs (g.D.Disk.content c.go_on.new.disk) inputs stored c.go_on.new.walk known.0 known.1) c.if-branch.true (c.in_ok-go_on.ensures.goes honest inputs stored known.0 known.1 known.2) in
+          let to =
+          subst (GoesAs (g.D.Disk.content c.go_on.new.disk) inputs stored c.go_on.new.walk known.0
+          known.1) c.if-branch.true (c.in_ok-go_on.ensures.goes honest inputs stored known.0 known.1
+          known.2) in
           let ws = known.0 in
           let w = walk_word c.go_on.new.walk in
           let same = (c.go_on.ensures.keeps.read honest).bytes in
-          let so_far = are_given_read d c.args.disk.now c.words.disk c.go_on.new.disk c.args.output.now c.words.output (lists_of ws docs) same known.3 in
+          let so_far = are_given_read d c.args.disk.now c.words.disk c.go_on.new.disk c.args.output.now
+          c.words.output (lists_of ws docs) same known.3 in
           let terms = to.come.walks.terms ∙ append_assoc ws (w ∷ []) to.rest in
           let P = λ (u : List ℕ). length (list_spelling (list_with u docs)) ≤ length c.args.encoded.now in
-          let most : length (list_spelling (list_with w docs)) ≤ length c.args.encoded.now = all_mid P ws w to.rest (subst (All P) terms enough) in
+          let most : length (list_spelling (list_with w docs)) ≤ length c.args.encoded.now =
+          all_mid P ws w to.rest (subst (All P) terms enough) in
           let numbers = c.numbers.ensures.numbers ∙ to.numbers in
           let is = ap (λ (l : List ℕ). length (list_spelling l)) numbers in
           let given = c.in_ok-write_list.ensures.bytes honest (omega (arith, is, most, inv.encoded))
-          (omega (arith, is, room, known.3.count, lists_within docs ws w to.rest terms, inv.given.stretch.end)) in
-          let all = are_given_then d c.args.disk.now c.go_on.new.disk c.write_list.new.disk c.args.output.now c.words.output c.write_list.new.output (lists_of ws docs) _ tt so_far given in
+          (omega (
+            arith,
+            is,
+            room,
+            known.3.count,
+            lists_within docs ws w to.rest terms,
+            inv.given.stretch.end,
+          )) in
+          let all = are_given_then d c.args.disk.now c.go_on.new.disk c.write_list.new.disk c.args.output.now
+          c.words.output c.write_list.new.output (lists_of ws docs) _ tt so_far given in
           let own = c.in_ok-write_list.ensures.given.writes in
           let stretch = inv.given.stretch in
-          let apart_now = apart_there inputs c.args.output.now.start c.args.output.now.end c.words.output.start c.words.output.end stretch.start stretch.end apart in
-          let stay = same_bytes (content c.go_on.new.disk) (content c.write_list.new.disk) inputs c.words.output.start c.words.output.end own.size (own.changed honest).same apart_now in (
+          let apart_now = apart_there inputs c.args.output.now.start c.args.output.now.end
+          c.words.output.start c.words.output.end stretch.start stretch.end apart in
+          let stay = same_bytes (content c.go_on.new.disk) (content c.write_list.new.disk) inputs
+          c.words.output.start c.words.output.end own.size (own.changed honest).same apart_now in (
             ws ++ w ∷ [],
             to.rest,
-            come_stays (content c.go_on.new.disk) (content c.write_list.new.disk) inputs stored c.go_on.new.walk (ws ++ w ∷ []) to.rest stay to.come,
-            subst (λ (l : List ℕ). AreGiven d c.args.disk.now c.write_list.new.disk c.args.output.now c.write_list.new.output l well)
-                (ap (λ (l : List ℕ). lists_of ws docs ++ list_spelling l) numbers ∙ sym (lists_next ws w docs)) all,
+            come_stays (content c.go_on.new.disk) (content c.write_list.new.disk) inputs stored
+                c.go_on.new.walk (ws ++ w ∷ []) to.rest stay to.come,
+            subst (λ (l : List ℕ). AreGiven d c.args.disk.now c.write_list.new.disk c.args.output.now
+                c.write_list.new.output l well)
+                (ap (λ (l : List ℕ). lists_of ws docs ++ list_spelling l) numbers
+                ∙ sym (lists_next ws w docs)) all,
           );
     }
 
@@ -75,15 +106,22 @@ pub returns-clause-bytes : goal.returns-clause-bytes
 returns-clause-bytes g c = λ honest inputs stored start apart enough room.
     let docs = live_in stored in
     let known = c.words.invariant.come honest inputs stored start apart enough room in
-    let all : known.1 ≡ [] = subst (GoesAs (g.D.Disk.content c.go_on.new.disk) inputs stored c.go_on.new.walk known.0 known.1) c.if-branch.false (c.in_ok-go_on.ensures.goes honest inputs stored known.0 known.1 known.2) in
+    let all : known.1 ≡ [] =
+    subst (GoesAs (g.D.Disk.content c.go_on.new.disk) inputs stored c.go_on.new.walk known.0 known.1)
+    c.if-branch.false (c.in_ok-go_on.ensures.goes honest inputs stored known.0 known.1 known.2) in
     let terms = known.2.walks.terms ∙ ap (λ (us : List (List ℕ)). known.0 ++ us) all ∙ append-nil known.0 in
-    let lists = ap (λ (ws : List (List ℕ)). lists_of ws docs) (sym terms) ∙ lists_all docs (terms_of docs) refl in
+    let lists = ap (λ (ws : List (List ℕ)). lists_of ws docs) (sym terms)
+    ∙ lists_all docs (terms_of docs) refl in
     let same = (c.go_on.ensures.keeps.read honest).bytes in
-    let so_far = subst (λ (l : List ℕ). AreGiven g.D.Disk c.args.disk.now c.go_on.new.disk c.args.output.now c.words.output l well) lists
-    (are_given_read g.D.Disk c.args.disk.now c.words.disk c.go_on.new.disk c.args.output.now c.words.output (lists_of known.0 docs) same known.3) in
+    let so_far =
+    subst (λ (l : List ℕ). AreGiven g.D.Disk c.args.disk.now c.go_on.new.disk c.args.output.now
+    c.words.output l well) lists
+    (are_given_read g.D.Disk c.args.disk.now c.words.disk c.go_on.new.disk c.args.output.now c.words.output
+    (lists_of known.0 docs) same known.3) in
     record { count = so_far.count; given_are = so_far.given_are; undamaged = tt }
 
 pub go_on-requires : goal.go_on-requires
 go_on-requires g c =
     let inv = c.words.invariant in
-    within_same (length (g.D.Disk.content c.words.disk)) c.args.walk.now c.words.walk inv.same (subst (λ (n : ℕ). WalksWithin n c.args.walk.now) (sym inv.given.writes.size) c.requires.walk)
+    within_same (length (g.D.Disk.content c.words.disk)) c.args.walk.now c.words.walk inv.same
+    (subst (λ (n : ℕ). WalksWithin n c.args.walk.now) (sym inv.given.writes.size) c.requires.walk)

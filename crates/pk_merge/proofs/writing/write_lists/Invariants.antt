@@ -25,8 +25,13 @@ invariant-words g l =
       given : IsGiven disk l.fn.disk l.disk l.fn.output l.output went_well;
       same : IsSameWalk l.fn.walk l.walk;
       encoded : length l.encoded ≡ length l.fn.encoded;
-      come : disk.honest → (inputs : List MergeInput) (stored : List Stored) → HasCome (disk.content l.fn.disk) inputs stored l.fn.walk [] (terms_of (live_in stored))
-          → All (LiesApart l.fn.output.start l.fn.output.end) inputs → All (λ w. length (list_spelling (list_with w (live_in stored))) ≤ length l.fn.encoded) (terms_of (live_in stored))
+      come : disk.honest → (inputs : List MergeInput) (stored : List Stored)
+          → HasCome (disk.content l.fn.disk) inputs stored l.fn.walk [] (terms_of (live_in stored))
+          → All (LiesApart l.fn.output.start l.fn.output.end) inputs
+          → All (λ w. length (list_spelling (list_with w (live_in stored))) ≤ length l.fn.encoded)
+          (terms_of (live_in stored))
           → l.fn.output.at + l.fn.output.filled + length (postings (live_in stored)) ≤ l.fn.output.end
-          → (xs : List (List ℕ)) × (ys : List (List ℕ)) × HasCome (disk.content l.disk) inputs stored l.walk xs ys × AreGiven disk l.fn.disk l.disk l.fn.output l.output (lists_of xs (live_in stored)) went_well;
+          → (xs : List (List ℕ)) × (ys : List (List ℕ)) × HasCome (disk.content l.disk) inputs stored l.walk
+          xs ys × AreGiven disk l.fn.disk l.disk l.fn.output l.output (lists_of xs (live_in stored))
+          went_well;
     }

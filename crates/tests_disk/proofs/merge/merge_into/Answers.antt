@@ -13,10 +13,12 @@ merge_into-requires g c =
     let size = length (g.D.Disk.content c.prepare.new.disk) in
     let keeps = c.in_ok-prepared.ensures.keeps in
     let is : size ≡ 2048 = keeps.size ∙ c.requires in
-    let ready = subst (λ (o : Option Prepared). IsReady (length (g.D.Disk.content c.args.disk.now)) inputs (Ok o)) c.in-Some.is c.in_ok-prepared.ensures.ready in
-    record {
-      ready = subst (λ (n : ℕ). IsReady n inputs (Ok (Some p))) (sym keeps.size) ready;
-      inside = subst (λ (n : ℕ). All (LiesInside n) inputs) (sym is) c.inputs-inputs.ensures.inside;
-      fits = omega (arith, c.if-size-gt512.false, c.size-size.ensures.value, is);
-      apart = c.inputs-inputs.ensures.apart (1536 + p.size);
-    }
+    let ready = subst (λ (o : Option Prepared). IsReady (length (g.D.Disk.content c.args.disk.now)) inputs (Ok o)) c.in-Some.is c.in_ok-prepared.ensures.ready in (
+      inputs,
+      record {
+        ready = subst (λ (n : ℕ). IsReady n inputs (Ok (Some p))) (sym keeps.size) ready;
+        inside = subst (λ (n : ℕ). All (LiesInside n) inputs) (sym is) c.inputs-inputs.ensures.inside;
+        fits = omega (arith, c.if-size-gt512.false, c.size-size.ensures.value, is);
+        apart = c.inputs-inputs.ensures.apart (1536 + p.size);
+      },
+    )

@@ -11,8 +11,18 @@ use Rattle.pk_merge.proofs.left.Left.keep.Goals as goal
 pub invariant_of-self-2-clause-size : goal.invariant_of-self-2-clause-size
 invariant_of-self-2-clause-size c =
     let ks = kept_in c.args.self.now in
-    omega (arith, c.args.self.now.size, c.from.ensures, bytes_snoc ks c.args.kept, length-append ks (c.args.kept ∷ []), ap length c.in-Ok.ensures.items, ap kept_bytes c.in-Ok.ensures.items)
+    omega (
+      arith,
+      c.args.self.now.size,
+      c.from.ensures,
+      bytes_snoc ks c.args.kept,
+      length-append ks (c.args.kept ∷ []),
+      ap length c.in-Ok.ensures.items,
+      ap kept_bytes c.in-Ok.ensures.items,
+    )
 
 pub invariant_of-self-2-clause-inside : goal.invariant_of-self-2-clause-inside
 invariant_of-self-2-clause-inside c =
-    subst (All (EndBy c.args.self.now.disk_bytes)) (sym c.in-Ok.ensures.items) (All-push (EndBy c.args.self.now.disk_bytes) (kept_in c.args.self.now) c.args.kept c.args.self.now.inside c.requires)
+    subst (All (EndBy c.args.self.now.disk_bytes)) (sym c.in-Ok.ensures.items)
+    (All-push (EndBy c.args.self.now.disk_bytes) (kept_in c.args.self.now) c.args.kept
+    c.args.self.now.inside c.requires)

@@ -11,6 +11,10 @@ abbrev pub invariant-loop-i : goal.invariant-loop-i
 invariant-loop-i l = record {
   disk_bytes : l.self.disk_bytes ≡ l.fn.self.disk_bytes;
   between : KeepsBetween l.texts l.end (kept_in l.fn.self) (kept_in l.self);
-  taken : (bytes : List ℕ) (so_far docs more : List Doc) (kind : ℕ) → IsDirectoryOf l.directory docs kind → TextsStand bytes l.texts l.end docs → RiseFrom l.fn.self.last (docs ++ more) → AreKept bytes (kept_in l.fn.self) so_far
-      → AreKept bytes (kept_in l.self) (so_far ++ left_by l.dead (take l.i docs)) × RiseFrom l.self.last (drop l.i docs ++ more);
+  taken : (bytes : List ℕ) (so_far docs more : List Doc) (kind : ℕ)
+      → IsDirectoryOf l.input.directory.now docs kind
+      → TextsStand bytes l.texts l.end docs → RiseFrom l.fn.self.last (docs ++ more)
+      → AreKept bytes (kept_in l.fn.self) so_far
+      → AreKept bytes (kept_in l.self) (so_far ++ left_by l.input.dead.now (take l.i docs))
+      × RiseFrom l.self.last (drop l.i docs ++ more);
 }

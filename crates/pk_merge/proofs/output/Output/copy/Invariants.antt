@@ -16,7 +16,8 @@ invariant-loop-done g l =
       stretch : IsSameStretch l.fn.self l.self;
       writes : WritesOnly disk (places_of l.fn.self) l.fn.disk l.disk;
       count : l.self.at + l.self.filled ≡ l.fn.self.at + l.fn.self.filled + l.done;
-      given_are : disk.honest → given (disk.content l.disk) l.self ≡ given (disk.content l.fn.disk) l.fn.self ++ take l.done (take l.len (drop l.from (disk.content l.fn.disk)));
+      given_are : disk.honest → given (disk.content l.disk) l.self ≡ given (disk.content l.fn.disk) l.fn.self
+          ++ take l.done (take l.len (drop l.from (disk.content l.fn.disk)));
       buffer : length l.self.buffer.items ≡ length l.fn.self.buffer.items;
       unfailed : NoneFailed disk l.fn.disk l.disk;
     }

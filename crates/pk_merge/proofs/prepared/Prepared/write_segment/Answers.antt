@@ -13,7 +13,7 @@ use Rattle.pk_segment.specs.Indexed.{list_with, postings}
 use Rattle.pk_segment.specs.Spelling.{texts}
 use Rattle.pk_state.specs.Committed.{live_in}
 use Rattle.pk_merge.specs.declared.kept.Kept.{Kept}
-use Rattle.pk_merge.specs.Keeping.{AreKept, KeptApart}
+use Rattle.pk_merge.specs.Keeping.{AreKept, EndBy, KeptApart}
 use Rattle.pk_merge.proofs.GivenLemmas.{are_given_next, spells_stays}
 use Rattle.pk_merge.proofs.OutputLemmas.{stretch_then, writes_next}
 use Rattle.pk_merge.proofs.StreamLemmas.{all_bytes, apart_there, flushed, fresh_given, places_are, two_lengths}
@@ -25,17 +25,28 @@ write_front-requires-clause-apart g c =
     let fresh = c.over-output.ensures in
     let size = c.args.self.size in
     let start : o.start ≡ 512 * c.args.first = omega (arith, fresh.start_is, c.from-start.ensures) in
-    let end : o.end ≡ 512 * c.args.first + size = omega (arith, fresh.end_is, c.from-start.ensures, c.from.ensures) in
-    let apart = apart_there c.args.inputs.now (512 * c.args.first) (512 * c.args.first + size) o.start o.end start end c.requires.apart in
-    subst (λ (ks : List Kept). All (KeptApart o.start o.end) ks) (sym c.deref-2.ensures.value) (c.requires.ready.2 o.start o.end apart)
+    let end : o.end ≡ 512 * c.args.first + size =
+    omega (arith, fresh.end_is, c.from-start.ensures, c.from.ensures) in
+    let apart = apart_there c.requires.0 (512 * c.args.first) (512 * c.args.first + size) o.start o.end
+    start end c.requires.1.apart in
+    subst (λ (ks : List Kept). All (KeptApart o.start o.end) ks) (sym c.deref-2.ensures.value)
+    (c.requires.1.ready.2 o.start o.end apart)
+
+pub write_front-requires-clause-inside : goal.write_front-requires-clause-inside
+write_front-requires-clause-inside g c =
+    let self = c.args.self in
+    subst (λ (n : ℕ). All (EndBy n) c.deref-2.result.now) c.requires.1.ready.0
+    (subst (All (EndBy self.disk_bytes)) (sym c.deref-2.ensures.value) self.inside)
 
 pub write_index-requires-clause-walk : goal.write_index-requires-clause-walk
 write_index-requires-clause-walk g c =
-    let inside = within_given _ c.args.inputs.now c.args.self.walk.inputs.items c.requires.ready.1 c.requires.inside in
-    subst (λ (n : ℕ). WalksWithin n c.args.self.walk) (sym c.in_ok-write_front.ensures.given.writes.size) inside
+    let inside = within_given _ c.requires.0 c.args.self.walk.inputs.items c.requires.1.ready.1
+    c.requires.1.inside in
+    subst (λ (n : ℕ). WalksWithin n c.args.self.walk) (sym c.in_ok-write_front.ensures.given.writes.size)
+    inside
 
 pub returns-in_err-write_front-clause-undamaged : goal.returns-in_err-write_front-clause-undamaged
-returns-in_err-write_front-clause-undamaged g c = λ honest stored spells is.
+returns-in_err-write_front-clause-undamaged g c = λ honest inputs stored can spells is.
     let d = g.D.Disk in
     let content = d.content in
     let self = c.args.self in
@@ -44,14 +55,17 @@ returns-in_err-write_front-clause-undamaged g c = λ honest stored spells is.
     let fresh = c.over-output.ensures in
     let front = c.deref.ensures.value ∙ is.front_is in
     let long = two_lengths docs c.deref.result.now self.dictionary.items front is.dictionary_is in
-    let kept = subst (λ (ks : List Kept). AreKept (content c.args.disk.now) ks docs) (sym c.deref-2.ensures.value) is.kept in
-    let room : o.at + o.filled + length (c.deref.result.now ++ texts docs) ≤ o.end = omega (arith, long, is.size_is, fresh.at_is, fresh.end_is, fresh.none_held, c.from.ensures) in
+    let kept = subst (λ (ks : List Kept). AreKept (content c.args.disk.now) ks docs)
+    (sym c.deref-2.ensures.value) is.kept in
+    let room : o.at + o.filled + length (c.deref.result.now ++ texts docs) ≤ o.end =
+    omega (arith, long, is.size_is, fresh.at_is, fresh.end_is, fresh.none_held, c.from.ensures) in
     let cause = (c.in_err-write_front.ensures.bytes honest docs kept room).undamaged in
     let found = err_from_is_err_and c.from_residual.result c.from_residual.ensures.1 in
-    subst (λ (r : Result (Unit {0}) StreamFault). IsUndamaged r) (sym found.1) (subst (λ (x : StreamFault). IsUndamaged {T = Unit {0}} (Err x)) (sym found.2) cause)
+    subst (λ (r : Result (Unit {0}) StreamFault). IsUndamaged r) (sym found.1)
+    (subst (λ (x : StreamFault). IsUndamaged {T = Unit {0}} (Err x)) (sym found.2) cause)
 
 pub returns-in_err-write_index-clause-undamaged : goal.returns-in_err-write_index-clause-undamaged
-returns-in_err-write_index-clause-undamaged g c = λ honest stored spells is.
+returns-in_err-write_index-clause-undamaged g c = λ honest inputs stored can spells is.
     let d = g.D.Disk in
     let content = d.content in
     let self = c.args.self in
@@ -60,23 +74,48 @@ returns-in_err-write_index-clause-undamaged g c = λ honest stored spells is.
     let fresh = c.over-output.ensures in
     let front = c.deref.ensures.value ∙ is.front_is in
     let long = two_lengths docs c.deref.result.now self.dictionary.items front is.dictionary_is in
-    let kept = subst (λ (ks : List Kept). AreKept (content c.args.disk.now) ks docs) (sym c.deref-2.ensures.value) is.kept in
-    let room : o.at + o.filled + length (c.deref.result.now ++ texts docs) ≤ o.end = omega (arith, long, is.size_is, fresh.at_is, fresh.end_is, fresh.none_held, c.from.ensures) in
+    let kept = subst (λ (ks : List Kept). AreKept (content c.args.disk.now) ks docs)
+    (sym c.deref-2.ensures.value) is.kept in
+    let room : o.at + o.filled + length (c.deref.result.now ++ texts docs) ≤ o.end =
+    omega (arith, long, is.size_is, fresh.at_is, fresh.end_is, fresh.none_held, c.from.ensures) in
     let one = c.in_ok-write_front.ensures.bytes honest docs kept room in
     let given = c.in_ok-write_front.ensures.given in
     let p = c.write_front.new.output in
-    let start : p.start ≡ 512 * c.args.first = omega (arith, given.stretch.start, fresh.start_is, c.from-start.ensures) in
-    let end : p.end ≡ 512 * c.args.first + self.size = omega (arith, given.stretch.end, fresh.end_is, c.from-start.ensures, c.from.ensures) in
-    let apart = apart_there c.args.inputs.now (512 * c.args.first) (512 * c.args.first + self.size) p.start p.end start end c.requires.apart in
-    let before = apart_there c.args.inputs.now p.start p.end o.start o.end (sym given.stretch.start) (sym given.stretch.end) apart in
-    let here = spells_stays (content c.args.disk.now) (content c.write_front.new.disk) c.args.inputs.now stored o.start o.end given.writes.size (given.writes.changed honest).same before spells in
-    let enough = subst (λ (l : List ℕ). All (λ w. length (list_spelling (list_with w docs)) ≤ length l) (terms_of docs)) (sym c.deref_mut-2.ensures.value) is.enough in
+    let start : p.start ≡ 512 * c.args.first =
+    omega (arith, given.stretch.start, fresh.start_is, c.from-start.ensures) in
+    let end : p.end ≡ 512 * c.args.first + self.size =
+    omega (arith, given.stretch.end, fresh.end_is, c.from-start.ensures, c.from.ensures) in
+    let apart = apart_there inputs (512 * c.args.first) (512 * c.args.first + self.size) p.start
+    p.end start end can.apart in
+    let before = apart_there inputs p.start p.end o.start o.end (sym given.stretch.start)
+    (sym given.stretch.end) apart in
+    let here = spells_stays (content c.args.disk.now) (content c.write_front.new.disk) inputs
+    stored o.start o.end given.writes.size (given.writes.changed honest).same before spells in
+    let enough =
+    subst (λ (l : List ℕ). All (λ w. length (list_spelling (list_with w docs)) ≤ length l)
+    (terms_of docs)) (sym c.deref_mut-2.ensures.value) is.enough in
     let words = c.deref-3.ensures.value ∙ is.dictionary_is in
     let whole = two_lengths docs c.deref.result.now c.deref-3.result.now front words in
-    let more : p.at + p.filled + length (postings docs ++ c.deref-3.result.now) ≤ p.end = omega (arith, whole, is.size_is, one.count, fresh.at_is, fresh.end_is, fresh.none_held, given.stretch.end, c.from.ensures) in
-    let cause = (c.in_err-write_index.ensures.bytes honest c.args.inputs.now stored (come_start _ c.args.inputs.now stored self.walk c.requires.ready.1 here is.listed is.can self.start) apart enough more).undamaged in
-    let found = err_from_is_err_and c.from_residual-in_err-write_index.result c.from_residual-in_err-write_index.ensures.1 in
-    subst (λ (r : Result (Unit {0}) StreamFault). IsUndamaged r) (sym found.1) (subst (λ (x : StreamFault). IsUndamaged {T = Unit {0}} (Err x)) (sym found.2) cause)
+    let more : p.at + p.filled + length (postings docs ++ c.deref-3.result.now) ≤ p.end =
+    omega (
+      arith,
+      whole,
+      is.size_is,
+      one.count,
+      fresh.at_is,
+      fresh.end_is,
+      fresh.none_held,
+      given.stretch.end,
+      c.from.ensures,
+    ) in
+    let cause =
+    (c.in_err-write_index.ensures.bytes honest inputs stored
+    (come_start _ inputs stored self.walk can.ready.1 here is.listed is.can self.start)
+    apart enough more).undamaged in
+    let found = err_from_is_err_and c.from_residual-in_err-write_index.result
+    c.from_residual-in_err-write_index.ensures.1 in
+    subst (λ (r : Result (Unit {0}) StreamFault). IsUndamaged r) (sym found.1)
+    (subst (λ (x : StreamFault). IsUndamaged {T = Unit {0}} (Err x)) (sym found.2) cause)
 
 pub returns-clause-writes : goal.returns-clause-writes
 returns-clause-writes g c =
@@ -87,13 +126,16 @@ returns-clause-writes g c =
     let second = c.in_ok-write_index.ensures.given in
     let p = c.write_front.new.output in
     let q = c.write_index.new.output in
-    let both = writes_next d o p c.args.disk.now c.write_front.new.disk c.write_index.new.disk first.stretch first.writes second.writes in
-    let all = writes_next d o q c.args.disk.now c.write_index.new.disk c.flush.new.disk (stretch_then o p q first.stretch second.stretch) both c.flush.ensures.writes in
+    let both = writes_next d o p c.args.disk.now c.write_front.new.disk c.write_index.new.disk first.stretch
+    first.writes second.writes in
+    let all = writes_next d o q c.args.disk.now c.write_index.new.disk c.flush.new.disk
+    (stretch_then o p q first.stretch second.stretch) both c.flush.ensures.writes in
     subst (λ (touched : ℕ → Bool). WritesOnly d touched c.args.disk.now c.flush.new.disk)
-    (places_are o (512 * c.args.first) c.args.self.size (omega (arith, fresh.start_is, c.from-start.ensures)) (omega (arith, fresh.end_is, c.from-start.ensures, c.from.ensures))) all
+    (places_are o (512 * c.args.first) c.args.self.size (omega (arith, fresh.start_is, c.from-start.ensures))
+    (omega (arith, fresh.end_is, c.from-start.ensures, c.from.ensures))) all
 
 pub returns-clause-there : goal.returns-clause-there
-returns-clause-there g c = λ honest stored spells is.
+returns-clause-there g c = λ honest inputs stored can spells is.
     let d = g.D.Disk in
     let content = d.content in
     let self = c.args.self in
@@ -102,28 +144,65 @@ returns-clause-there g c = λ honest stored spells is.
     let fresh = c.over-output.ensures in
     let front = c.deref.ensures.value ∙ is.front_is in
     let long = two_lengths docs c.deref.result.now self.dictionary.items front is.dictionary_is in
-    let kept = subst (λ (ks : List Kept). AreKept (content c.args.disk.now) ks docs) (sym c.deref-2.ensures.value) is.kept in
-    let room : o.at + o.filled + length (c.deref.result.now ++ texts docs) ≤ o.end = omega (arith, long, is.size_is, fresh.at_is, fresh.end_is, fresh.none_held, c.from.ensures) in
+    let kept = subst (λ (ks : List Kept). AreKept (content c.args.disk.now) ks docs)
+    (sym c.deref-2.ensures.value) is.kept in
+    let room : o.at + o.filled + length (c.deref.result.now ++ texts docs) ≤ o.end =
+    omega (arith, long, is.size_is, fresh.at_is, fresh.end_is, fresh.none_held, c.from.ensures) in
     let one = c.in_ok-write_front.ensures.bytes honest docs kept room in
     let given = c.in_ok-write_front.ensures.given in
     let p = c.write_front.new.output in
-    let start : p.start ≡ 512 * c.args.first = omega (arith, given.stretch.start, fresh.start_is, c.from-start.ensures) in
-    let end : p.end ≡ 512 * c.args.first + self.size = omega (arith, given.stretch.end, fresh.end_is, c.from-start.ensures, c.from.ensures) in
-    let apart = apart_there c.args.inputs.now (512 * c.args.first) (512 * c.args.first + self.size) p.start p.end start end c.requires.apart in
-    let before = apart_there c.args.inputs.now p.start p.end o.start o.end (sym given.stretch.start) (sym given.stretch.end) apart in
-    let here = spells_stays (content c.args.disk.now) (content c.write_front.new.disk) c.args.inputs.now stored o.start o.end given.writes.size (given.writes.changed honest).same before spells in
-    let enough = subst (λ (l : List ℕ). All (λ w. length (list_spelling (list_with w docs)) ≤ length l) (terms_of docs)) (sym c.deref_mut-2.ensures.value) is.enough in
+    let start : p.start ≡ 512 * c.args.first =
+    omega (arith, given.stretch.start, fresh.start_is, c.from-start.ensures) in
+    let end : p.end ≡ 512 * c.args.first + self.size =
+    omega (arith, given.stretch.end, fresh.end_is, c.from-start.ensures, c.from.ensures) in
+    let apart = apart_there inputs (512 * c.args.first) (512 * c.args.first + self.size) p.start
+    p.end start end can.apart in
+    let before = apart_there inputs p.start p.end o.start o.end (sym given.stretch.start)
+    (sym given.stretch.end) apart in
+    let here = spells_stays (content c.args.disk.now) (content c.write_front.new.disk) inputs
+    stored o.start o.end given.writes.size (given.writes.changed honest).same before spells in
+    let enough =
+    subst (λ (l : List ℕ). All (λ w. length (list_spelling (list_with w docs)) ≤ length l)
+    (terms_of docs)) (sym c.deref_mut-2.ensures.value) is.enough in
     let words = c.deref-3.ensures.value ∙ is.dictionary_is in
     let whole = two_lengths docs c.deref.result.now c.deref-3.result.now front words in
-    let more : p.at + p.filled + length (postings docs ++ c.deref-3.result.now) ≤ p.end = omega (arith, whole, is.size_is, one.count, fresh.at_is, fresh.end_is, fresh.none_held, given.stretch.end, c.from.ensures) in
-    let two = c.in_ok-write_index.ensures.bytes honest c.args.inputs.now stored (come_start _ c.args.inputs.now stored self.walk c.requires.ready.1 here is.listed is.can self.start) apart enough more in
+    let more : p.at + p.filled + length (postings docs ++ c.deref-3.result.now) ≤ p.end =
+    omega (
+      arith,
+      whole,
+      is.size_is,
+      one.count,
+      fresh.at_is,
+      fresh.end_is,
+      fresh.none_held,
+      given.stretch.end,
+      c.from.ensures,
+    ) in
+    let two = c.in_ok-write_index.ensures.bytes honest inputs stored
+    (come_start _ inputs stored self.walk can.ready.1 here is.listed is.can self.start)
+    apart enough more in
     let q = c.write_index.new.output in
     let xs = c.deref.result.now ++ texts docs in
     let ys = postings docs ++ c.deref-3.result.now in
-    let all = are_given_next d c.args.disk.now c.write_front.new.disk c.write_index.new.disk o p q xs ys c.in_ok-write_front.field-0 (Ok c.in_ok-write_index.field-0) one two in
-    let bytes = all.given_are ∙ ap (λ (l : List ℕ). l ++ (xs ++ ys)) (fresh_given (content c.args.disk.now) _ _ o fresh) ∙ all_bytes docs c.deref.result.now c.deref-3.result.now front words in
+    let all = are_given_next d c.args.disk.now c.write_front.new.disk c.write_index.new.disk o p q xs ys
+    c.in_ok-write_front.field-0 (Ok c.in_ok-write_index.field-0) one two in
+    let bytes = all.given_are
+    ∙ ap (λ (l : List ℕ). l ++ (xs ++ ys)) (fresh_given (content c.args.disk.now) _ _ o fresh)
+    ∙ all_bytes docs c.deref.result.now c.deref-3.result.now front words in
     let same = c.in_ok-write_index.ensures.given.stretch in
-    flushed c.flush.result (content c.write_index.new.disk) (content c.flush.new.disk) _ q c.flush.new.self (512 * c.args.first) self.size
+    flushed c.flush.result (content c.write_index.new.disk) (content c.flush.new.disk) _ q c.flush.new.self
+    (512 * c.args.first) self.size
     (c.flush.ensures.given honest) c.flush.ensures.empty c.flush.ensures.count
     (omega (arith, c.flush.ensures.stretch.start, same.start, start)) bytes
-    (omega (arith, all.count, length-append xs ys, whole, is.size_is, fresh.at_is, fresh.start_is, fresh.none_held, same.start, given.stretch.start))
+    (omega (
+      arith,
+      all.count,
+      length-append xs ys,
+      whole,
+      is.size_is,
+      fresh.at_is,
+      fresh.start_is,
+      fresh.none_held,
+      same.start,
+      given.stretch.start,
+    ))
