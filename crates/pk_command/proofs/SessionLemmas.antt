@@ -1,5 +1,5 @@
 -- What became of the disk is an era of it, by which each history goes on.
-use Rattle.std.proofs.Common.{◌≡◌, ◌≤◌, ℕ, List, [], ◌∷◌, ◌++◌, length, slice_index, Option, refl, ap, subst, sym, ◌∙◌, Result, Ok, Err}
+use Rattle.std.proofs.Common.{◌≡◌, ◌≤◌, ℕ, List, [], ◌∷◌, ◌++◌, length, slice_index, Option, ap, subst, sym, ◌∙◌, Result, Ok, Err}
 use Rattle.pk_disk.specs.declared.disk.Disk.{Ghosts}
 use Rattle.pk_disk.specs.Disk.{IsImage}
 use Rattle.pk_check.specs.declared.body.Checked.{Checked}

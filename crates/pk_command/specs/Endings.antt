@@ -113,15 +113,16 @@ pub record IsNotMade {D : Type 0} (d : Ghosts D) (disk disk' : D) : Type 0 where
 
 -- what is told of a store that was made
 abbrev pub created_line : ℕ → List ℕ
-created_line units = codes "created " ++ (decimal units ++ codes " units\n")
+created_line units = codes "created " ++ decimal units ++ codes " units\n"
 
--- WHAT A CREATION CAME TO, and to which disk: of a store that was made the size is told, or could not
--- be told.
+-- WHAT A CREATION CAME TO, and to which disk: of a store that was made the size is told, or a part
+-- of that line where the output failed, and nothing else.
 abbrev pub CreationOutcome : {D : Type 0} → Ghosts D → D → D → ℕ → Option (List ℕ) → Option (List ℕ)
     → Option (List ℕ) → Option (List ℕ) → ℕ → Type 0
 CreationOutcome d disk disk' units w w' e e' status =
     ((status ≡ done) × IsMade d disk disk' × Appends w w' (created_line units) × (e' ≡ e))
-    ⊎ (((status ≡ failed) × IsMade d disk disk' × IsTold e e' output_words)
+    ⊎ (((status ≡ failed) × IsMade d disk disk' × IsTold e e' output_words
+    × SentPart w w' (created_line units))
     ⊎ ((none : IsNotMade d disk disk') × (status ≡ failed)
     × IsTold e e' (creating_words none.refused.why) × (w' ≡ w)))
 
@@ -155,18 +156,18 @@ pub record IsUnchecked {D : Type 0} (d : Ghosts D) (disk disk' : D) : Type 0 whe
 
 -- what is told of a store that was checked
 abbrev pub checked_line : Checked → List ℕ
-checked_line c = codes "ok " ++ (decimal c.documents ++ (codes " documents next "
-    ++ (decimal c.next ++ (codes " segments " ++ (decimal c.segments ++ codes "\n")))))
+checked_line c = codes "ok " ++ decimal c.documents ++ (codes " documents next " ++ decimal c.next
+    ++ (codes " segments " ++ decimal c.segments ++ codes "\n"))
 
--- WHAT A CHECK CAME TO, and to which disk: what the store has is told, or could not be told; else why
--- not.
+-- WHAT A CHECK CAME TO, and to which disk: what the store has is told, or a part of that line where
+-- the output failed, and nothing else; else why not.
 abbrev pub CheckOutcome : {D : Type 0} → Ghosts D → D → D → Option (List ℕ) → Option (List ℕ)
     → Option (List ℕ) → Option (List ℕ) → ℕ → Type 0
 CheckOutcome d disk disk' w w' e e' status =
     ((c : Checked) × (status ≡ done) × (e' ≡ e) × IsCheckOf d disk disk' (Ok c)
     × Appends w w' (checked_line c))
     ⊎ (((c : Checked) × (status ≡ failed) × IsTold e e' output_words
-    × IsCheckOf d disk disk' (Ok c))
+    × IsCheckOf d disk disk' (Ok c) × SentPart w w' (checked_line c))
     ⊎ (((why : Refusal) × (status ≡ failed) × IsTold e e' (checking_words why)
     × IsCheckOf d disk disk' (Err why) × (w' ≡ w))
     ⊎ ((none : IsUnchecked d disk disk') × (status ≡ failed)

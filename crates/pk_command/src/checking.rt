@@ -3,9 +3,10 @@
 ghost use Rattle.pk_command.specs.Endings.{CheckOutcome, FileCheckOutcome};
 
 use super::reporting::{DONE, OUTPUT, checking_reason, fail, file_reason, opening_reason};
+use super::telling::tell_checked;
 use pk_disk::Disk;
 use pk_filedisk::{FileDisk, FileSystem, RawFile};
-use pk_store::{Checked, Store};
+use pk_store::Store;
 use std::alloc::Global;
 use std::io::Write;
 
@@ -26,18 +27,11 @@ fn check_on<D: Disk + Drop, W: Write, E: Write>(
     };
     let answered = store.check(alloc);
     let disk = store.close();
-    let Checked {
-        documents,
-        next,
-        segments,
-    } = match answered {
+    let checked = match answered {
         Ok(checked) => checked,
         Err(why) => return (fail(faults, checking_reason(why)), disk),
     };
-    match writeln!(
-        output,
-        "ok {documents} documents next {next} segments {segments}"
-    ) {
+    match tell_checked(output, checked) {
         Ok(()) => (DONE, disk),
         Err(_) => (fail(faults, OUTPUT), disk),
     }

@@ -3,6 +3,7 @@
 ghost use Rattle.pk_command.specs.Endings.{CreationOutcome, FileCreationOutcome, IsOfSize};
 
 use super::reporting::{DONE, OUTPUT, creating_reason, fail, file_reason};
+use super::telling::tell_made;
 use pk_disk::Disk;
 use pk_filedisk::{FileDisk, FileSystem, RawFile};
 use pk_store::Store;
@@ -26,7 +27,7 @@ fn create_on<D: Disk, W: Write, E: Write>(
         Ok(store) => store.close(),
         Err(refused) => return (fail(faults, creating_reason(refused.why)), refused.disk),
     };
-    match writeln!(output, "created {units} units") {
+    match tell_made(output, units) {
         Ok(()) => (DONE, disk),
         Err(_) => (fail(faults, OUTPUT), disk),
     }

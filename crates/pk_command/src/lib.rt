@@ -37,6 +37,7 @@ mod command_line;
 mod creating;
 mod reporting;
 mod running;
+mod telling;
 
 ghost use Rattle.std.specs.Prelude.{map, string_bytes};
 ghost use Rattle.pk_command.specs.Endings.{CommandOutcome};

@@ -55,7 +55,7 @@ pub went_on : (w0 w1 w2 : Option (List ℕ)) (done n : ℕ) (bytes : List ℕ) �
 went_on w0 w1 w2 done n bytes h k = rw (take-add done n bytes) (appends_then w0 w1 w2 _ _ h (rw (rest_whole done bytes) at k))
 
 -- PUTTING
-stopped_before : (w0 w1 : Option (List ℕ)) (a b : List ℕ) → SentPart w0 w1 a → SentPart w0 w1 (a ++ b)
+pub stopped_before : (w0 w1 : Option (List ℕ)) (a b : List ℕ) → SentPart w0 w1 a → SentPart w0 w1 (a ++ b)
 stopped_before w0 w1 a b s = record {
   part = s.part;
   missing = s.missing ++ b;

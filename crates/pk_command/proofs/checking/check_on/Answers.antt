@@ -3,21 +3,22 @@ use Rattle.std.proofs.Common.{inl, inr, refl, Ok, Err}
 use Rattle.pk_command.proofs.SessionLemmas.{checked, none_held, unopened}
 use Rattle.pk_command.proofs.checking.check_on.Goals as goal
 
-pub returns-in-Ok-writeln : goal.returns-in-Ok-writeln
-returns-in-Ok-writeln g c = inl (
+pub returns-in-Ok-tell_checked : goal.returns-in-Ok-tell_checked
+returns-in-Ok-tell_checked g c = inl (
   c.in-Ok-answered.checked,
   refl,
   refl,
   checked g.D.Disk (λ honest x image. g.met.D.Disk.only_now x image honest) (λ honest x t image. g.met.D.Disk.counts_now x t image honest) c.args.disk c.close-disk.result c.in-Ok.store c.check-answered.new.self (Ok c.in-Ok-answered.checked) c.in-Ok.ensures c.in-Ok-answered.ensures c.close-disk.ensures,
-  c.in-Ok-writeln.ensures.bytes,
+  c.in-Ok-tell_checked.ensures,
 )
 
-pub returns-in-Err-writeln : goal.returns-in-Err-writeln
-returns-in-Err-writeln g c = inr (inl (
+pub returns-in-Err-tell_checked : goal.returns-in-Err-tell_checked
+returns-in-Err-tell_checked g c = inr (inl (
   c.in-Ok-answered.checked,
-  c.fail-in-Err-writeln.ensures.status,
-  c.fail-in-Err-writeln.ensures.told,
+  c.fail-in-Err-tell_checked.ensures.status,
+  c.fail-in-Err-tell_checked.ensures.told,
   checked g.D.Disk (λ honest x image. g.met.D.Disk.only_now x image honest) (λ honest x t image. g.met.D.Disk.counts_now x t image honest) c.args.disk c.close-disk.result c.in-Ok.store c.check-answered.new.self (Ok c.in-Ok-answered.checked) c.in-Ok.ensures c.in-Ok-answered.ensures c.close-disk.ensures,
+  c.in-Err-tell_checked.ensures,
 ))
 
 pub returns-in-Err-answered : goal.returns-in-Err-answered

@@ -3,14 +3,15 @@ use Rattle.std.proofs.Common.{inl, inr, refl}
 use Rattle.pk_command.proofs.SessionLemmas.{made, uncreated}
 use Rattle.pk_command.proofs.creating.create_on.Goals as goal
 
-pub returns-in-Ok-writeln : goal.returns-in-Ok-writeln
-returns-in-Ok-writeln g c = inl (refl, made g.D.Disk (λ honest x image. g.met.D.Disk.only_now x image honest) (λ honest x t image. g.met.D.Disk.counts_now x t image honest) c.args.disk c.close-disk.result c.in-Ok.store c.in-Ok.ensures c.close-disk.ensures, c.in-Ok-writeln.ensures.bytes, refl)
+pub returns-in-Ok-tell_made : goal.returns-in-Ok-tell_made
+returns-in-Ok-tell_made g c = inl (refl, made g.D.Disk (λ honest x image. g.met.D.Disk.only_now x image honest) (λ honest x t image. g.met.D.Disk.counts_now x t image honest) c.args.disk c.close-disk.result c.in-Ok.store c.in-Ok.ensures c.close-disk.ensures, c.in-Ok-tell_made.ensures, refl)
 
-pub returns-in-Err-writeln : goal.returns-in-Err-writeln
-returns-in-Err-writeln g c = inr (inl (
-  c.fail-in-Err-writeln.ensures.status,
+pub returns-in-Err-tell_made : goal.returns-in-Err-tell_made
+returns-in-Err-tell_made g c = inr (inl (
+  c.fail-in-Err-tell_made.ensures.status,
   made g.D.Disk (λ honest x image. g.met.D.Disk.only_now x image honest) (λ honest x t image. g.met.D.Disk.counts_now x t image honest) c.args.disk c.close-disk.result c.in-Ok.store c.in-Ok.ensures c.close-disk.ensures,
-  c.fail-in-Err-writeln.ensures.told,
+  c.fail-in-Err-tell_made.ensures.told,
+  c.in-Err-tell_made.ensures,
 ))
 
 pub returns-in-Err : goal.returns-in-Err

@@ -1,0 +1,10 @@
+-- The words and the number, and then the rest of the line.
+use Rattle.pk_command.proofs.ReportLemmas.{sent_then}
+use Rattle.pk_shell.proofs.Parts.{stopped_before, unsent_by}
+use Rattle.pk_command.proofs.telling.tell_made.Goals as goal
+
+pub returns-in_err-write_number : goal.returns-in_err-write_number
+returns-in_err-write_number g c = unsent_by c.from_residual.result _ _ _ _ c.from_residual.ensures.1 (stopped_before _ _ _ _ c.in_err-write_number.ensures)
+
+pub returns : goal.returns
+returns g c = sent_then _ _ _ c.write_all.result _ _ c.in_ok-write_number.ensures c.write_all.ensures
