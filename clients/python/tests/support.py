@@ -54,6 +54,13 @@ class Stores(unittest.TestCase):
         self.assertEqual(ran.returncode, status)
         return ran
 
+    def wait_for(self, condition):
+        """Waits until the condition holds, as long as a slow machine may need."""
+        ends = time.monotonic() + LONG
+        while not condition():
+            self.assertLess(time.monotonic(), ends)
+            time.sleep(0.01)
+
     def start(self, command, *words):
         """A process with a session of its own, which heeds an interrupt also where these tests run
         in the background of a shell, whose processes ignore it."""

@@ -388,4 +388,5 @@ class Served(Stores):
         drain.join()
         self.assertEqual(loader.returncode, 0, told)
         self.assertIn("<h2>3,009 found</h2>", page.ask("?q=NOT+xyzzy").body)
-        self.assertLessEqual(len(os.listdir(f"/proc/{server.pid}/fd")), files)
+        # A connection is closed behind its answer.
+        self.wait_for(lambda: len(os.listdir(f"/proc/{server.pid}/fd")) <= files)

@@ -6,7 +6,6 @@ import os
 import re
 import signal
 import subprocess
-import time
 
 from rubewola import Store
 
@@ -23,12 +22,6 @@ class Sharing(Stores):
         mails = (mail(f"wort{number} gleich " + f"fuell{number % 50} " * 30,
                       Message_ID=f"<{number}@x>") for number in range(first, first + count))
         return self.write(name, mbox(*mails))
-
-    def wait_for(self, condition):
-        ends = time.monotonic() + LONG
-        while not condition():
-            self.assertLess(time.monotonic(), ends)
-            time.sleep(0.01)
 
     def test_eight_searches_beside_a_load(self):
         box, rounds = self.box(), []
