@@ -1,5 +1,5 @@
 -- The steps of a search among the groups, for any bytes.
-use Rattle.std.proofs.Common.{arith, refl, sym, ap, ◌∙◌, ◌≡◌, ◌≤◌, ◌<◌, ◌+◌, ◌-◌, ◌/◌, ℕ, zero, suc, List, Ok, Err, Result}
+use Rattle.std.proofs.Common.{arith, refl, sym, ◌∙◌, ◌≡◌, ◌≤◌, ◌<◌, ◌+◌, ◌-◌, ◌/◌, ℕ, zero, suc, List, Ok, Err, Result}
 use Rattle.std.proofs.lemmas.Bool.{lt-ltb, le-ltb}
 use Rattle.pk_posting.specs.declared.source.SourceFault.{SourceFault}
 use Rattle.pk_posting.specs.declared.source.SourceFault.TheVariants as faults
@@ -75,5 +75,5 @@ pub narrowing_done : (bytes : List ℕ) (base : ℕ) (term : List ℕ) (low high
 narrowing_done bytes base term low high matched next all n h = sym n.same ∙ narrow_done n.left bytes base term low high matched next h
 
 -- the search among groups of which so much is known
-pub narrowing_init : (bytes : List ℕ) (base first : ℕ) (term : List ℕ) (low high matched next : ℕ) → base ≡ first → Narrowing bytes base term low high matched next (narrow_at (high - low) bytes first term low high matched next)
-narrowing_init bytes base first term low high matched next e = record { left = high - low; enough = omega arith; same = ap (λ (b : ℕ). narrow_at (high - low) bytes b term low high matched next) e }
+pub narrowing_init : (bytes : List ℕ) (base : ℕ) (term : List ℕ) (low high matched next : ℕ) → Narrowing bytes base term low high matched next (narrow_at (high - low) bytes base term low high matched next)
+narrowing_init bytes base term low high matched next = record { left = high - low; enough = omega arith; same = refl }

@@ -21,30 +21,30 @@ use Rattle.pk_dict.proofs.LookUpLaw.{Stood, narrow_law, scanned_law, standing_la
 
 -- what the search knows once the first term of a group was read
 abbrev pub after : Step → Between → ℕ → Search
-after (Less matched next) b group = Open (record { low = group + 1; high = b.high; matched = matched; next = next })
+after (Less matched next) b group = Open (record { low = group + 1; high = b.high; matched = matched; next = next; node = b.node })
 after (Found entry) b group = Done (First group entry)
-after Past b group = Open (record { low = b.low; high = group; matched = b.matched; next = b.next })
+after Past b group = Open (record { low = b.low; high = group; matched = b.matched; next = b.next; node = b.node })
 
 -- the groups of a dictionary of so many terms begin there
-here : (bytes : List ℕ) (es : List Item) (term : List ℕ) (terms base group : ℕ) (r : Result Step SourceFault) → length es ≡ terms → base ≡ 4 * group_count terms → group_at bytes base group term ≡ r
+here : (bytes : List ℕ) (es : List Item) (term : List ℕ) (terms group : ℕ) (r : Result Step SourceFault) → length es ≡ terms → group_at bytes (4 * group_count terms) group term ≡ r
     → group_at bytes (4 * group_count (length es)) group term ≡ r
-here bytes es term terms base group r len first is = rw (len, sym first) is
+here bytes es term terms group r len is = rw len is
 
 -- a step of a dictionary's fails by what lies below alone
-pub probe_fails : (bytes : List ℕ) (es : List Item) (term : List ℕ) (terms base group : ℕ) (e : SourceFault) → DictSpells bytes es → length es ≡ terms → base ≡ 4 * group_count terms → group < group_count terms
-    → Fails e (group_at bytes base group term) → e ≡ faults.Disk
-probe_fails bytes es term terms base group faults.Disk d len first lt fails = refl
-probe_fails bytes es term terms base group faults.Damaged d len first lt fails =
+pub probe_fails : (bytes : List ℕ) (es : List Item) (term : List ℕ) (terms group : ℕ) (e : SourceFault) → DictSpells bytes es → length es ≡ terms → group < group_count terms
+    → Fails e (group_at bytes (4 * group_count terms) group term) → e ≡ faults.Disk
+probe_fails bytes es term terms group faults.Disk d len lt fails = refl
+probe_fails bytes es term terms group faults.Damaged d len lt fails =
     let some : 16 * group < length es = omega (arith, lt, len) in
     let s = some_item (16 * group) es some in
     let g = group_law bytes es group term s.0 s.1.0 d some s.1.1 in
-    let no = sym g.step ∙ here bytes es term terms base group (Err faults.Damaged) len first fails in
+    let no = sym g.step ∙ here bytes es term terms group (Err faults.Damaged) len fails in
     absurd cc
 
 -- and if not, it says what the search knows then
-pub probe_found : (bytes : List ℕ) (es : List Item) (term : List ℕ) (terms base group : ℕ) (s : Step) (b : Between) → DictSpells bytes es → length es ≡ terms → base ≡ 4 * group_count terms → group < group_count terms
-    → group_at bytes base group term ≡ Ok s → Known bytes es term b.low b.high b.matched b.next → IsKnown bytes es term (after s b group)
-probe_found bytes es term terms base group s b d len first lt is k = by s (here bytes es term terms base group (Ok s) len first is)
+pub probe_found : (bytes : List ℕ) (es : List Item) (term : List ℕ) (terms group : ℕ) (s : Step) (b : Between) → DictSpells bytes es → length es ≡ terms → group < group_count terms
+    → group_at bytes (4 * group_count terms) group term ≡ Ok s → Known bytes es term b.low b.high b.matched b.next → IsKnown bytes es term (after s b group)
+probe_found bytes es term terms group s b d len lt is k = by s (here bytes es term terms group (Ok s) len is)
   where
     by : (s : Step) → group_at bytes (4 * group_count (length es)) group term ≡ Ok s → IsKnown bytes es term (after s b group)
     by (Less matched next) at = known_less bytes es term b.low b.high b.matched b.next group matched next d k (omega (arith, lt, len)) at

@@ -5,7 +5,8 @@ use Rattle.pk_posting.specs.declared.source.SourceFault.TheVariants as faults
 use Rattle.pk_dict.specs.declared.entry.Entry.{Entry}
 use Rattle.pk_dict.specs.declared.head.Step.{Step}
 use Rattle.pk_dict.specs.declared.head.Scan.{Scan}
-use Rattle.pk_dict.specs.Reading.{◌>>=◌, Fails, Leaves, going_on, next_at, number_at, scan_at, step_at}
+use Rattle.pk_dict.specs.Reading.{◌>>=◌, Fails, going_on, next_at, number_at, scan_at, step_at}
+use Rattle.pk_dict.specs.Scan.{Leaves}
 
 one_more : (n i : ℕ) → i < n → n - i ≡ suc (n - (i + 1))
 one_more n i h = omega arith

@@ -15,27 +15,14 @@ use Rattle.pk_dict.specs.declared.head.Standing.{Standing}
 use Rattle.pk_dict.specs.declared.head.Step.{Step}
 use Rattle.pk_dict.specs.declared.head.Step.TheVariants.{Less, Found, Past}
 use Rattle.pk_dict.specs.Dictionary.{group_count}
-use Rattle.pk_dict.specs.LookUp.{AreTold, IsSaid, IsToldAt, IsToldIn, halved, look_up_at, look_up_of, narrow_at, scanned, standing_at}
+use Rattle.pk_dict.specs.LookUp.{AreTold, IsSaid, IsToldAt, halved, look_up_at, look_up_of, narrow_at, scanned, standing_at}
 use Rattle.pk_dict.specs.Place.{bytes_at}
 use Rattle.pk_dict.specs.Reading.{◌>>=◌, Gives, group_at}
 use Rattle.pk_dict.proofs.Narrowing.{middle_of, narrow_by, narrow_done}
-use Rattle.pk_dict.proofs.Probing.{after}
 
 -- of all groups nothing has to be said
 pub told_none : (bytes : List ℕ) (terms : ℕ) (term : List ℕ) (groups matched next : ℕ) → groups ≡ group_count terms → AreTold bytes terms term 0 groups matched next
 told_none bytes terms term groups matched next e = record { under = λ h. absurd (omega arith); above = λ h. absurd (omega (arith, e, h)) }
-
--- a first term that was read says more
-pub told_more : (bytes : List ℕ) (terms : ℕ) (term : List ℕ) (base group : ℕ) (s : Step) (b : Between) → base ≡ 4 * group_count terms → group < group_count terms → group_at bytes base group term ≡ Ok s
-    → AreTold bytes terms term b.low b.high b.matched b.next → IsToldIn bytes terms term (after s b group)
-told_more bytes terms term base group s b e lt is t = by s (rw (sym e) is)
-  where
-    by : (s : Step) → group_at bytes (4 * group_count terms) group term ≡ Ok s → IsToldIn bytes terms term (after s b group)
-    by (Less matched next) at =
-        let back : group ≡ group + 1 - 1 = omega arith in
-        record { under = λ h. subst (λ (g : ℕ). group_at bytes (4 * group_count terms) g term ≡ Ok (Less matched next)) back at; above = t.above }
-    by (Found entry) at = (lt, at)
-    by Past at = record { under = t.under; above = λ h. at }
 
 -- a halving that ends has its end told
 abbrev Tells : ℕ → List ℕ → ℕ → List ℕ → Type 0
@@ -114,9 +101,9 @@ all_left zero pivots key b is e = rw is (refl, refl)
 all_left (suc n) pivots key b is e = let all : b ≡ record { low = 0; high = suc n; node = 1 } = is ∙ rw (lt-ltb 0 (suc n) (omega arith)) (rw e refl) in rw all (refl, refl)
 
 -- the search among all groups
-pub all_stand : (bytes : List ℕ) (terms : ℕ) (term : List ℕ) (groups : ℕ) (b : Between) (r : Result Standing SourceFault) → groups ≡ group_count terms → b ≡ record { low = 0; high = groups; matched = 0; next = 0 }
+pub all_stand : (bytes : List ℕ) (terms : ℕ) (term : List ℕ) (groups node : ℕ) (b : Between) (r : Result Standing SourceFault) → groups ≡ group_count terms → b ≡ record { low = 0; high = groups; matched = 0; next = 0; node = node }
     → Gives r (narrow_at (b.high - b.low) bytes (4 * group_count terms) term b.low b.high b.matched b.next) → Gives r (standing_at bytes terms term)
-all_stand bytes terms term groups b r e is gives =
+all_stand bytes terms term groups node b r e is gives =
     let whole : groups - 0 ≡ groups = omega arith in
     let all = subst (λ (b : Between). Gives r (narrow_at (b.high - b.low) bytes (4 * group_count terms) term b.low b.high b.matched b.next)) is gives in
     subst (λ (n : ℕ). Gives r (narrow_at n bytes (4 * group_count terms) term 0 n 0 0)) e

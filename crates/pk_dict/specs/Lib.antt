@@ -6,6 +6,7 @@ pub mod LookUp
 pub mod Order
 pub mod Place
 pub mod Reading
+pub mod Scan
 pub mod Search
 pub mod Source
 pub mod Windows

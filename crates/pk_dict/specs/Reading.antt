@@ -1,5 +1,5 @@
 -- What a reader finds at a place, as a function of a dictionary's bytes.
-use Rattle.std.specs.Prelude.{◌≡◌, ◌≤◌, ◌<◌, ◌+◌, ◌*◌, ℕ, zero, suc, List, length, take, drop, slice_index, Option, Some, None, Result, Ok, Err, nat_lt, nat_eq, if◌then◌else◌}
+use Rattle.std.specs.Prelude.{◌≡◌, ◌≤◌, ◌+◌, ◌*◌, ℕ, zero, suc, List, length, take, drop, slice_index, Option, Some, None, Result, Ok, Err, nat_lt, nat_eq, if◌then◌else◌}
 use Rattle.std.specs.Int.{w32, from_le_bytes}
 use Rattle.pk_vbyte.specs.declared.variable.VFault.{VFault}
 use Rattle.pk_vbyte.specs.VariableByte.{taken}
@@ -7,8 +7,6 @@ use Rattle.pk_posting.specs.declared.source.SourceFault.{SourceFault}
 use Rattle.pk_posting.specs.declared.source.SourceFault.TheVariants as faults
 use Rattle.pk_dict.specs.declared.entry.Entry.{Entry}
 use Rattle.pk_dict.specs.declared.head.Head.{Head}
-use Rattle.pk_dict.specs.declared.head.Scan.{Scan}
-use Rattle.pk_dict.specs.declared.head.Scan.TheVariants.{Open, Done}
 use Rattle.pk_dict.specs.declared.head.Step.{Step}
 use Rattle.pk_dict.specs.declared.head.Step.TheVariants.{Less, Found, Past}
 use Rattle.pk_dict.specs.Dictionary.{shared}
@@ -131,16 +129,6 @@ abbrev pub IsFrom : ℕ → Step → Type 0
 IsFrom start (Less m next) = start ≤ next
 IsFrom start (Found entry) = Unit {0}
 IsFrom start Past = Unit {0}
-
--- what is left of a scan gives what all of it gives
-abbrev pub Leaves : List ℕ → List ℕ → Result (Option Entry) SourceFault → Scan → Type 0
-Leaves bytes term all (Open left m at) = all ≡ scan_at left bytes term m at
-Leaves bytes term all (Done entry) = all ≡ Ok entry
-
--- fewer terms are left than so many, and no more is matched than the wanted term has
-abbrev pub IsFewer : ℕ → ℕ → Scan → Type 0
-IsFewer count n (Open left m at) = (left < count) × (m ≤ n)
-IsFewer count n (Done entry) = Unit {0}
 
 -- what the first term of a group is to the wanted one: the groups begin at base
 unfoldable pub group_at : List ℕ → ℕ → ℕ → List ℕ → Result Step SourceFault

@@ -50,7 +50,7 @@ ghost use Rattle.pk_dict.specs.Source.{stretches_of};
 use crate::compare::is_less;
 use crate::entry::{DictPlace, EntriesFault, Entry};
 use crate::fields::{number, offset};
-use crate::head::Standing;
+use crate::head::{GroupStart, Standing};
 use crate::look_up::{groups_of, narrow};
 use crate::steps::head;
 use pk_posting::{ByteSource, MOST_LENT, SourceFault};
@@ -118,9 +118,8 @@ fn entries_any<S: ByteSource>(
     }
     let standing = narrow(source, place, prefix)?;
     let group = first_group(standing);
-    let base = 4 * groups_of(place.terms);
-    let at = group_start(source, place, base, group)?;
-    collect(alloc, source, place, group, at, prefix)
+    let at = group_start(source, place, group)?;
+    collect(alloc, source, place, GroupStart { group, at }, prefix)
 }
 
 // The group where the first term may stand that begins with a prefix, by where the prefix stands.
@@ -133,28 +132,27 @@ fn first_group(standing: Standing) -> u32
     }
 }
 
-// The entries from a group on, which begins at a place.
+// The entries from a group on.
 fn collect<S: ByteSource>(
     alloc: Global,
     source: &mut S,
     place: DictPlace,
-    group: u32,
-    at: u32,
+    start: GroupStart,
     prefix: &[u8],
 ) -> Result<Vec<(Vec<u8>, Entry)>, EntriesFault>
     requires lies { LiesIn place (length (S.content source.old)) }
-    requires few { group < 2 ^ 28 }
+    requires few { start.group < 2 ^ 28 }
     ensures value { S.honest → ListGives result (items_from_group
-        (bytes_at (S.content source.old) place) place.terms prefix.now group at) }
+        (bytes_at (S.content source.old) place) place.terms prefix.now start.group start.at) }
     ensures left { IsListed S.honest S.content S.failures S.keeps result source.old source.new }
     ensures asks { S.honest → OnOk result (S.asked source.new ≤ S.asked source.old
-        + asks_at (place.terms - 16 * group) (bytes_at (S.content source.old) place)
-        prefix.now (16 * group) [] at) }
+        + asks_at (place.terms - 16 * start.group) (bytes_at (S.content source.old) place)
+        prefix.now (16 * start.group) [] start.at) }
 {
     let mut found = Vec::new(alloc);
     let mut term = Vec::new(alloc);
-    let mut at = at;
-    for i in 16 * group..place.terms {
+    let mut at = start.at;
+    for i in 16 * start.group..place.terms {
         let (entry, next) = next_term(source, place, i % 16 == 0, at, &mut term)?;
         at = next;
         if !keep(alloc, &mut found, prefix, &term, entry)? {
@@ -164,21 +162,21 @@ fn collect<S: ByteSource>(
     Ok(found)
 }
 
-// Where a group begins: the groups begin at `base`.
+// Where a group begins.
 #[tactic(auto, unfolding(crate::specs::Entries::start_at))]
 fn group_start<S: ByteSource>(
     source: &mut S,
     place: DictPlace,
-    base: u32,
     group: u32,
 ) -> Result<u32, SourceFault>
     requires lies { LiesIn place (length (S.content source.old)) }
     requires few { group < 2 ^ 28 }
-    ensures value { S.honest → Gives result
-        (start_at (bytes_at (S.content source.old) place) base group) }
+    ensures value { S.honest → Gives result (start_at (bytes_at (S.content source.old) place)
+        (4 * group_count place.terms) group) }
     ensures left { IsRead S.honest S.content S.asked S.failures S.keeps
         1 result source.old source.new }
 {
+    let base = 4 * groups_of(place.terms);
     let offset = offset(source, place, 4 * group)?;
     let start = match base.checked_add(offset) {
         Some(start) => start,

@@ -15,6 +15,17 @@ pub(crate) struct Head {
     pub(crate) next: u32,
 }
 
+/// The term that comes next, before it is read.
+#[derive(Clone, Copy)]
+pub(crate) struct Coming {
+    /// How many bytes it keeps of the term before, which is less than the wanted one.
+    pub(crate) kept: usize,
+    /// How many bytes the term before shares with the wanted one.
+    pub(crate) matched: usize,
+    /// Where the size of its rest stands.
+    pub(crate) at: u32,
+}
+
 /// What a term is to the wanted one.
 #[derive(Drop)]
 pub(crate) enum Step {
@@ -26,14 +37,33 @@ pub(crate) enum Step {
     Past,
 }
 
+/// The terms of a group that a scan has not come to.
+#[derive(Clone, Copy)]
+pub(crate) struct TermsLeft {
+    /// How many they are.
+    pub(crate) count: u32,
+    /// How many bytes the term before them, which is less, shares with the wanted one.
+    pub(crate) matched: usize,
+    /// Where the first of them stands.
+    pub(crate) at: u32,
+}
+
 /// How far a scan of a group's terms came.
 #[derive(Drop)]
 pub(crate) enum Scan {
-    /// So many terms are left: how many bytes the one before them shares with the wanted one, and
-    /// the place of the first of them.
-    Open(u32, usize, u32),
+    /// These are left.
+    Open(TermsLeft),
     /// It is at its end: the entry of the wanted term, if that is among the terms.
     Done(Option<Entry>),
+}
+
+/// Where a group begins.
+#[derive(Clone, Copy)]
+pub(crate) struct GroupStart {
+    /// Which group it is.
+    pub(crate) group: u32,
+    /// Where its first term stands.
+    pub(crate) at: u32,
 }
 
 /// Where a term stands among the first terms of the groups.
@@ -58,6 +88,8 @@ pub(crate) struct Between {
     pub(crate) matched: usize,
     /// The place after that first term.
     pub(crate) next: u32,
+    /// The place in a table of pivots from which on keys are kept; 0 where none are.
+    pub(crate) node: usize,
 }
 
 /// A search among the groups.

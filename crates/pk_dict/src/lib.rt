@@ -41,7 +41,7 @@
 //! The words of the contracts are in `specs`: `Dictionary` has the format, `Writer` what was
 //! added, `LookUp` and `Entries` what any bytes say of a term and of a prefix, `Dict` the same of a
 //! slice, `Windows` what windows hold, `Place` and `Source` what a source has to do with it,
-//! `Reading` and `Search` what each private step finds.
+//! `Reading`, `Scan` and `Search` what each private step finds.
 #![tactic(auto)]
 
 pub(crate) mod compare;

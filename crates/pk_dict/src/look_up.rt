@@ -27,7 +27,7 @@ ghost use Rattle.pk_posting.specs.Source.{IsLeft, IsRead};
 ghost use Rattle.pk_dict.specs.Source.{stretches_of};
 
 use crate::entry::{DictPlace, Entry};
-use crate::head::{Between, Search, Standing, Step};
+use crate::head::{Between, Search, Standing, Step, TermsLeft};
 use crate::steps::{group_step, scan};
 use pk_keys::{around, keep, key};
 use pk_posting::{ByteSource, SourceFault};
@@ -127,8 +127,12 @@ fn scan_after<S: ByteSource>(
         Standing::First(_, entry) => Ok(Some(entry)),
         Standing::After(0, _, _) => Ok(None),
         Standing::After(groups, matched, next) => {
-            let left = (place.terms - (16 * (groups - 1) + 1)).min(15);
-            scan(source, place, left, term, matched, next)
+            let left = TermsLeft {
+                count: (place.terms - (16 * (groups - 1) + 1)).min(15),
+                matched,
+                at: next,
+            };
+            scan(source, place, term, left)
         }
     }
 }
@@ -162,19 +166,19 @@ pub(crate) fn narrow<S: ByteSource>(
         high: groups_of(place.terms),
         matched: 0,
         next: 0,
+        node: 0,
     };
-    narrow_from(source, place, term, all, &mut [], 0)
+    narrow_from(source, place, term, all, &mut [])
 }
 
 // Where a term stands among the first terms of the groups, of which so much is known. The keys of
-// those that are read go to the table, where `node` is the place of what lies between.
+// those that are read go to the table.
 fn narrow_from<S: ByteSource>(
     source: &mut S,
     place: DictPlace,
     term: &[u8],
     between: Between,
     pivots: &mut [u64],
-    node: usize,
 ) -> Result<Standing, SourceFault>
     requires lies { LiesIn place (length (S.content source.old)) }
     requires amid { IsAmid (group_count place.terms) (length term.now) between }
@@ -187,16 +191,15 @@ fn narrow_from<S: ByteSource>(
     ensures asks { (k : ℕ) → between.high - between.low ≤ 2 ^ k → S.asked source.new
         ≤ S.asked source.old + (k + 1) * (6 + stretches_of (length term.now)) }
 {
-    let base = 4 * groups_of(place.terms);
     let mut low = between.low;
     let mut high = between.high;
     let mut matched = between.matched;
     let mut next = between.next;
-    let mut node = node;
+    let mut node = between.node;
     while low < high {
         let middle = low + (high - low) / 2;
         let mut seen = 0;
-        let step = group_step(source, place, base, middle, term, &mut seen)?;
+        let step = group_step(source, place, middle, term, &mut seen)?;
         keep(pivots, node, seen);
         match step {
             Step::Found(entry) => return Ok(Standing::First(middle, entry)),
@@ -246,8 +249,7 @@ fn probe<S: ByteSource>(
     if group < between.low || between.high <= group {
         return Ok(Search::Open(between));
     }
-    let base = 4 * groups_of(place.terms);
-    match group_step(source, place, base, group, term, &mut 0)? {
+    match group_step(source, place, group, term, &mut 0)? {
         Step::Found(entry) => Ok(Search::Done(Standing::First(group, entry))),
         Step::Past => Ok(Search::Open(Between {
             high: group,
@@ -293,11 +295,12 @@ fn stand_near<S: ByteSource>(
         high: groups,
         matched: 0,
         next: 0,
+        node: bounds.node,
     });
     let search = probe(source, place, term, bounds.high, search)?;
     let search = probe(source, place, term, bounds.low.wrapping_sub(1), search)?;
     match search {
         Search::Done(standing) => Ok(standing),
-        Search::Open(between) => { narrow_from(source, place, term, between, pivots, bounds.node) }
+        Search::Open(between) => narrow_from(source, place, term, between, pivots),
     }
 }

@@ -13,22 +13,20 @@ ghost use Rattle.std.specs.Prelude.{
   IfSome,
 };
 ghost use Rattle.pk_dict.specs.Reading.{
-  IsFewer,
   IsFrom,
   IsPieceAt,
   IsWithin,
-  Leaves,
   compared_at,
   head_at,
   next_at,
   number_at,
-  scan_at,
   step_at,
 };
+ghost use Rattle.pk_dict.specs.Scan.{IsFewer, Leaves, scan_left};
 
 use crate::compare::shared_front;
 use crate::entry::Entry;
-use crate::head::{Head, Scan, Step};
+use crate::head::{Coming, Head, Scan, Step, TermsLeft};
 use pk_keys::key;
 use pk_posting::ListPlace;
 use pk_vbyte::take;
@@ -126,26 +124,20 @@ fn compared_in(piece: &[u8], start: u32, head: Head, term: &[u8], matched: usize
     Step::Less(matched, head.next)
 }
 
-/// What the term at a place is to the wanted one, as `step` says it, where the piece that begins
-/// at `start` has all of the term and no damage.
+/// What the term that comes next is to the wanted one, where the piece that begins at `start` has
+/// all of the term and no damage.
 #[inline(always)]
 #[tactic(auto, unfolding(crate::specs::Reading::step_at))]
-pub(crate) fn step_in(
-    piece: &[u8],
-    start: u32,
-    at: u32,
-    term: &[u8],
-    kept: usize,
-    matched: usize,
-) -> Option<Step>
+pub(crate) fn step_in(piece: &[u8], start: u32, term: &[u8], coming: Coming) -> Option<Step>
     requires short { start + length piece.now < 2 ^ 32 }
-    requires after { start ≤ at }
-    requires within { matched ≤ length term.now }
-    ensures value { (bytes : List ℕ) → IsPieceAt bytes start piece.now
-        → IfSome result (λ s. step_at bytes term.now kept matched at ≡ Ok s) }
+    requires after { start ≤ coming.at }
+    requires within { coming.matched ≤ length term.now }
+    ensures value { (bytes : List ℕ) → IsPieceAt bytes start piece.now → IfSome result
+        (λ s. step_at bytes term.now coming.kept coming.matched coming.at ≡ Ok s) }
     ensures matched { IfSome result (IsWithin (length term.now)) }
     ensures next { IfSome result (IsFrom start) }
 {
+    let Coming { kept, matched, at } = coming;
     let head = head_in(piece, start, at)?;
     if matched < kept {
         return Some(Step::Less(matched, head.next));
@@ -174,35 +166,40 @@ fn next_in(piece: &[u8], start: u32, at: u32, term: &[u8], matched: usize) -> Op
     ensures next { IfSome result (IsFrom start) }
 {
     let (kept, at) = number_in(piece, start, at)?;
-    step_in(piece, start, at, term, kept as usize, matched)
+    let coming = Coming {
+        kept: kept as usize,
+        matched,
+        at,
+    };
+    step_in(piece, start, term, coming)
 }
 
-/// How far the scan of the next terms of a group comes, where the piece that begins at `start` has
-/// them whole; None where it has not even the first of them.
+/// How far the scan of the next terms of a group comes, where the piece that begins with the first
+/// of them has them whole; None where it has not even that one.
 #[tactic(auto, unfolding(crate::specs::Reading::scan_at))]
-pub(crate) fn scan_in(
-    piece: &[u8],
-    start: u32,
-    count: u32,
-    term: &[u8],
-    matched: usize,
-    at: u32,
-) -> Option<Scan>
-    requires short { start + length piece.now < 2 ^ 32 }
-    requires after { start ≤ at }
-    requires within { matched ≤ length term.now }
-    ensures value { (bytes : List ℕ) → IsPieceAt bytes start piece.now
-        → IfSome result (Leaves bytes term.now (scan_at count bytes term.now matched at)) }
-    ensures fewer { IfSome result (IsFewer count (length term.now)) }
+pub(crate) fn scan_in(piece: &[u8], term: &[u8], left: TermsLeft) -> Option<Scan>
+    requires short { left.at + length piece.now < 2 ^ 32 }
+    requires within { left.matched ≤ length term.now }
+    ensures value { (bytes : List ℕ) → IsPieceAt bytes left.at piece.now
+        → IfSome result (Leaves bytes term.now (scan_left bytes term.now left)) }
+    ensures fewer { IfSome result (IsFewer left.count (length term.now)) }
 {
-    let mut matched = matched;
-    let mut at = at;
+    let TermsLeft {
+        count,
+        mut matched,
+        mut at,
+    } = left;
+    let start = at;
     for done in 0..count {
         let Some(step) = next_in(piece, start, at, term, matched) else {
             if done == 0 {
                 return None;
             }
-            return Some(Scan::Open(count - done, matched, at));
+            return Some(Scan::Open(TermsLeft {
+                count: count - done,
+                matched,
+                at,
+            }));
         };
         match step {
             Step::Less(now, next) => {

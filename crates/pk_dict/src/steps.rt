@@ -1,13 +1,12 @@
 //! One term against the wanted one, and the terms of a group.
 
 ghost use Rattle.std.specs.Prelude.{◌≡◌, ◌≤◌, ◌<◌, ◌+◌, ◌*◌, ◌^◌, ℕ, List, length, IfOk, MatchResult, Ok};
+ghost use Rattle.pk_dict.specs.Dictionary.{group_count};
 ghost use Rattle.pk_dict.specs.Place.{LiesIn, bytes_at};
 ghost use Rattle.pk_dict.specs.Reading.{
   Fails,
   Gives,
-  IsFewer,
   IsWithin,
-  Leaves,
   apart_at,
   compared_at,
   going_on,
@@ -18,13 +17,15 @@ ghost use Rattle.pk_dict.specs.Reading.{
   scan_at,
   step_at,
 };
+ghost use Rattle.pk_dict.specs.Scan.{IsFewer, Leaves, scan_left};
 ghost use Rattle.pk_posting.specs.Source.{IsRead};
 ghost use Rattle.pk_dict.specs.Source.{stretches_of};
 
 use crate::compare::shared_with;
 use crate::entry::{DictPlace, Entry};
 use crate::fields::{byte, entry, number, offset};
-use crate::head::{Head, Scan, Step};
+use crate::head::{Coming, Head, Scan, Step, TermsLeft};
+use crate::look_up::groups_of;
 use crate::near::{key_in, scan_in, step_in};
 use crate::windows::WINDOW;
 use pk_posting::{ByteSource, SourceFault};
@@ -142,56 +143,69 @@ fn apart<S: ByteSource>(
     Err(SourceFault::Damaged)
 }
 
-// What a term is to the wanted one, where the size of its rest and the place of that were read at
-// any place.
+// What a term is to the wanted one, read part by part.
 #[tactic(auto, unfolding(crate::specs::Reading::step_at))]
 fn far_step<S: ByteSource>(
     source: &mut S,
     place: DictPlace,
     term: &[u8],
-    kept: usize,
-    matched: usize,
+    coming: Coming,
+) -> Result<Step, SourceFault>
+    requires lies { LiesIn place (length (S.content source.old)) }
+    requires within { coming.matched ≤ length term.now }
+    ensures value { S.honest → Gives result (step_at (bytes_at (S.content source.old) place)
+        term.now coming.kept coming.matched coming.at) }
+    ensures matched { IfOk result (IsWithin (length term.now)) }
+    ensures left { IsRead S.honest S.content S.asked S.failures S.keeps
+        (5 + stretches_of (length term.now)) result source.old source.new }
+{
+    let head = head(source, place, coming.at)?;
+    if coming.matched < coming.kept {
+        return Ok(Step::Less(coming.matched, head.next));
+    }
+    if coming.kept < coming.matched {
+        return apart(source, place, head.rest, coming.kept, term);
+    }
+    compared(source, place, head, term, coming.matched)
+}
+
+// What the first term of a group is to the wanted one, where the size of its rest and the place of
+// that were read at any place.
+#[tactic(auto, unfolding(crate::specs::Reading::step_at))]
+fn far_first<S: ByteSource>(
+    source: &mut S,
+    place: DictPlace,
+    term: &[u8],
     size: u32,
     rest: u32,
 ) -> Result<Step, SourceFault>
-    requires lies { LiesIn place (length (S.content source.old)) }
-    requires within { matched ≤ length term.now }
+    requires { LiesIn place (length (S.content source.old)) }
     ensures value { S.honest → (at : ℕ)
         → number_at (bytes_at (S.content source.old) place) at ≡ Ok (size, rest)
-        → Gives result (step_at (bytes_at (S.content source.old) place) term.now kept matched at) }
+        → Gives result (step_at (bytes_at (S.content source.old) place) term.now 0 0 at) }
     ensures matched { IfOk result (IsWithin (length term.now)) }
     ensures left { IsRead S.honest S.content S.asked S.failures S.keeps
         (4 + stretches_of (length term.now)) result source.old source.new }
 {
     let head = head_after(source, place, size, rest)?;
-    if matched < kept {
-        return Ok(Step::Less(matched, head.next));
-    }
-    if kept < matched {
-        return apart(source, place, head.rest, kept, term);
-    }
-    compared(source, place, head, term, matched)
+    compared(source, place, head, term, 0)
 }
 
-// What the term at a place is to the wanted one: it keeps bytes of the term before, which is less
-// and shares `matched` bytes with the wanted one.
+// What the first term of the group at a place is to the wanted one.
 //
 // A short piece mostly has all of the term; only where it has not, more is asked for. The key of
-// what the piece has of the rest goes to `seen`.
+// what the piece has of the term goes to `seen`.
 #[tactic(auto, unfolding(crate::specs::Reading::step_at))]
-pub(crate) fn step<S: ByteSource>(
+fn first_step<S: ByteSource>(
     source: &mut S,
     place: DictPlace,
     term: &[u8],
-    kept: usize,
-    matched: usize,
     at: u32,
     seen: &mut u64,
 ) -> Result<Step, SourceFault>
-    requires lies { LiesIn place (length (S.content source.old)) }
-    requires within { matched ≤ length term.now }
+    requires { LiesIn place (length (S.content source.old)) }
     ensures value { S.honest → Gives result
-        (step_at (bytes_at (S.content source.old) place) term.now kept matched at) }
+        (step_at (bytes_at (S.content source.old) place) term.now 0 0 at) }
     ensures matched { IfOk result (IsWithin (length term.now)) }
     ensures left { IsRead S.honest S.content S.asked S.failures S.keeps
         (5 + stretches_of (length term.now)) result source.old source.new }
@@ -201,13 +215,18 @@ pub(crate) fn step<S: ByteSource>(
     }
     let piece = source.bytes(place.at + at, (place.bytes - at).min(NEAR))?;
     *seen = key_in(piece);
-    if let Some(step) = step_in(piece, at, at, term, kept, matched) {
+    let first = Coming {
+        kept: 0,
+        matched: 0,
+        at,
+    };
+    if let Some(step) = step_in(piece, at, term, first) {
         return Ok(step);
     }
     let Ok((size, taken)) = take(piece) else {
         return Err(SourceFault::Damaged);
     };
-    far_step(source, place, term, kept, matched, size, at + taken as u32)
+    far_first(source, place, term, size, at + taken as u32)
 }
 
 // How a scan goes on after a term, where so many are left.
@@ -217,7 +236,11 @@ fn went(step: Step, left: u32) -> Scan
     ensures fewer { (count n : ℕ) → left < count → IsWithin n step → IsFewer count n result }
 {
     match step {
-        Step::Less(matched, next) => Scan::Open(left, matched, next),
+        Step::Less(matched, next) => Scan::Open(TermsLeft {
+            count: left,
+            matched,
+            at: next,
+        }),
         Step::Found(entry) => Scan::Done(Some(entry)),
         Step::Past => Scan::Done(None),
     }
@@ -230,36 +253,38 @@ fn went(step: Step, left: u32) -> Scan
 fn scan_on<S: ByteSource>(
     source: &mut S,
     place: DictPlace,
-    count: u32,
     term: &[u8],
-    matched: usize,
-    at: u32,
+    left: TermsLeft,
 ) -> Result<Scan, SourceFault>
     requires lies { LiesIn place (length (S.content source.old)) }
-    requires some { 0 < count }
-    requires within { matched ≤ length term.now }
+    requires some { 0 < left.count }
+    requires within { left.matched ≤ length term.now }
     ensures value { S.honest → MatchResult result
         (Leaves (bytes_at (S.content source.old) place) term.now
-        (scan_at count (bytes_at (S.content source.old) place) term.now matched at))
-        (λ e. Fails e
-        (scan_at count (bytes_at (S.content source.old) place) term.now matched at)) }
-    ensures fewer { IfOk result (IsFewer count (length term.now)) }
+        (scan_left (bytes_at (S.content source.old) place) term.now left))
+        (λ e. Fails e (scan_left (bytes_at (S.content source.old) place) term.now left)) }
+    ensures fewer { IfOk result (IsFewer left.count (length term.now)) }
     ensures left { IsRead S.honest S.content S.asked S.failures S.keeps
         (6 + stretches_of (length term.now)) result source.old source.new }
 {
+    let at = left.at;
     if place.bytes < at {
         return Err(SourceFault::Damaged);
     }
     let piece = source.bytes(place.at + at, (place.bytes - at).min(PIECE))?;
-    if let Some(scan) = scan_in(piece, at, count, term, matched, at) {
+    if let Some(scan) = scan_in(piece, term, left) {
         return Ok(scan);
     }
     let Ok((kept, taken)) = take(piece) else {
         return Err(SourceFault::Damaged);
     };
-    let start = at + taken as u32;
-    let step = step(source, place, term, kept as usize, matched, start, &mut 0)?;
-    Ok(went(step, count - 1))
+    let coming = Coming {
+        kept: kept as usize,
+        matched: left.matched,
+        at: at + taken as u32,
+    };
+    let step = far_step(source, place, term, coming)?;
+    Ok(went(step, left.count - 1))
 }
 
 // The wanted term among the next terms of a group, piece by piece.
@@ -267,56 +292,48 @@ fn scan_on<S: ByteSource>(
 pub(crate) fn scan<S: ByteSource>(
     source: &mut S,
     place: DictPlace,
-    count: u32,
     term: &[u8],
-    matched: usize,
-    at: u32,
+    left: TermsLeft,
 ) -> Result<Option<Entry>, SourceFault>
     requires lies { LiesIn place (length (S.content source.old)) }
-    requires within { matched ≤ length term.now }
+    requires within { left.matched ≤ length term.now }
     ensures value { S.honest → Gives result
-        (scan_at count (bytes_at (S.content source.old) place) term.now matched at) }
+        (scan_left (bytes_at (S.content source.old) place) term.now left) }
     ensures left { IsRead S.honest S.content S.asked S.failures S.keeps
-        (count * (6 + stretches_of (length term.now))) result source.old source.new }
+        (left.count * (6 + stretches_of (length term.now))) result source.old source.new }
 {
-    let mut left = count;
-    let mut matched = matched;
-    let mut at = at;
-    while left > 0 {
-        match scan_on(source, place, left, term, matched, at)? {
-            Scan::Open(now, shared, next) => {
-                left = now;
-                matched = shared;
-                at = next;
-            }
+    let mut left = left;
+    while left.count > 0 {
+        match scan_on(source, place, term, left)? {
+            Scan::Open(now) => left = now,
             Scan::Done(entry) => return Ok(entry),
         }
     }
     Ok(None)
 }
 
-// What the first term of a group is to the wanted one: the groups begin at `base`. The key of the
-// first term goes to `seen`, as `step` says.
+// What the first term of a group is to the wanted one. The key of the first term goes to `seen`,
+// as `first_step` says.
 #[tactic(auto, unfolding(crate::specs::Reading::group_at))]
 pub(crate) fn group_step<S: ByteSource>(
     source: &mut S,
     place: DictPlace,
-    base: u32,
     group: u32,
     term: &[u8],
     seen: &mut u64,
 ) -> Result<Step, SourceFault>
     requires lies { LiesIn place (length (S.content source.old)) }
     requires few { group < 2 ^ 28 }
-    ensures value { S.honest → Gives result
-        (group_at (bytes_at (S.content source.old) place) base group term.now) }
+    ensures value { S.honest → Gives result (group_at (bytes_at (S.content source.old) place)
+        (4 * group_count place.terms) group term.now) }
     ensures matched { IfOk result (IsWithin (length term.now)) }
     ensures left { IsRead S.honest S.content S.asked S.failures S.keeps
         (6 + stretches_of (length term.now)) result source.old source.new }
 {
+    let base = 4 * groups_of(place.terms);
     let offset = offset(source, place, 4 * group)?;
     match base.checked_add(offset) {
-        Some(start) => step(source, place, term, 0, 0, start, seen),
+        Some(start) => first_step(source, place, term, start, seen),
         None => Err(SourceFault::Damaged),
     }
 }

@@ -1,12 +1,16 @@
 -- How much of a row is begun, word by word.
-use Rattle.std.proofs.Common.{◌≡◌, ℕ, ◌+◌, ◌<◌, ◌≤◌, Bool, true, false, not, ◌&&◌, ◌||◌, List, [], ◌∷◌, ◌++◌, suc, zero, length, map, take, drop, get_or, refl, sym, ap, subst, ◌∙◌, arith, append_assoc, append-nil, take_all, length-append, length-take, nat_lt, Bor}
+use Rattle.std.proofs.Common.{◌≡◌, ℕ, ◌+◌, ◌<◌, ◌≤◌, Bool, true, false, not, ◌&&◌, ◌||◌, List, [], ◌∷◌, ◌++◌, suc, zero, length, map, take, drop, get_or, refl, sym, ap, subst, ◌∙◌, arith, append_assoc, append-nil, take_all, length-append, length-take, nat_lt, Bor, IsAscii, slice_range}
+use Rattle.std.specs.Char.{to_ascii_lowercase}
 use Rattle.std.specs.List.{starts_with}
 use Rattle.std.specs.Str.{bytes_eq}
 use Rattle.std.proofs.lemmas.Bool.{ltb-false, ltb-true}
 use Rattle.std.proofs.lemmas.List.{map-append, take_more}
 use Rattle.std.proofs.lemmas.Slice.Eq.{bytes_eq-Decides}
 use Rattle.pk_model.specs.Tree.{stand_in}
+use Rattle.pk_model.specs.Words.{folded, words_of}
 use Rattle.pk_model.proofs.TreeLemmas.{phrase}
+use Rattle.pk_pieces.specs.Pieces.{words_from}
+use Rattle.pk_pieces.proofs.CallerLemmas.{folded_part}
 use Rattle.pk_words.specs.Rows.{Continues, IsShorter, AreShorter, texts}
 
 and_false : (b : Bool) → (b && false) ≡ false
@@ -119,6 +123,25 @@ pub ended : (row : List (List ℕ)) (a n : ℕ) (all xs ys : List (List ℕ)) �
 ended row a n all xs ys e full f =
     let whole = all_read row a xs ys (subst (λ k. Continues row a xs k) full f) in
     subst (λ ws. Continues row a ws n) (sym e) (subst (λ k. Continues row a (xs ++ ys) k) (sym full) whole)
+
+-- ---- the words of a part in ASCII
+-- those before a place are read
+pub record IsReadTo (row : List (List ℕ)) (part bytes : List ℕ) (begun at left : ℕ) : Type 0 where
+  pub done : List (List ℕ)
+  pub split : words_of part ≡ done ++ map folded (words_from bytes at)
+  pub read : Continues row begun done left
+
+-- one more is read, out of the part that was folded whole
+pub word_read : (row : List (List ℕ)) (part bytes word : List ℕ) (begun at start end left more : ℕ) → IsAscii part → bytes ≡ part → word ≡ slice_range (map to_ascii_lowercase part) start end
+    → words_from bytes at ≡ slice_range bytes start end ∷ words_from bytes end → Continues row left (word ∷ []) more → IsReadTo row part bytes begun at left → IsReadTo row part bytes begun end more
+word_read row part bytes word begun at start end left more ascii whole cut words step r =
+    let same : word ≡ folded (slice_range bytes start end) = cut ∙ folded_part part start end ascii ∙ ap (λ s. folded (slice_range s start end)) (sym whole) in
+    record {
+      done = r.done ++ word ∷ [];
+      split = r.split ∙ ap (λ ws. r.done ++ map folded ws) words ∙ ap (λ w. r.done ++ w ∷ map folded (words_from bytes end)) (sym same)
+          ∙ sym (append_assoc r.done (word ∷ []) (map folded (words_from bytes end)));
+      read = more_read row begun left more r.done (word ∷ []) r.read step;
+    }
 
 -- a list around one of its items
 around : {X : Type 0} (xs : List X) (n : ℕ) (x : X) → n < length xs → x ≡ get_or xs n x → xs ≡ (take n xs ++ x ∷ []) ++ drop (n + 1) xs

@@ -103,7 +103,15 @@ fn after_part(
     if part.is_ascii() {
         return after_ascii(row, table, piece, begun, part);
     }
-    after_others(row, table, piece, begun, part)
+    let mut left = begun;
+    'words: for word in part.unicode_words() {
+        fold_into(piece, word)?;
+        left = after(row, table, left, piece.as_str());
+        if left == row.len() {
+            return Ok(left);
+        }
+    }
+    Ok(left)
 }
 
 /// The same of a part in ASCII. It is folded at once, and each word, folded, is a slice of that.
@@ -132,31 +140,6 @@ fn after_ascii(
             return Ok(left);
         }
         at = end;
-    }
-    Ok(left)
-}
-
-/// The same of any part.
-fn after_others(
-    row: &[&str],
-    table: &[usize],
-    piece: &mut String,
-    begun: usize,
-    part: &str,
-) -> Result<usize, AllocError>
-    requires within { begun < length row.now }
-    requires table { IsTable (texts row.now) table.now }
-    ensures within { IfOk result (λ left. left ≤ length row.now) }
-    ensures continues { IfOk result (λ left.
-        Continues (texts row.now) begun (words_of part.now) left) }
-{
-    let mut left = begun;
-    'words: for word in part.unicode_words() {
-        fold_into(piece, word)?;
-        left = after(row, table, left, piece.as_str());
-        if left == row.len() {
-            return Ok(left);
-        }
     }
     Ok(left)
 }

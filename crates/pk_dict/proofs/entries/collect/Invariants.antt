@@ -11,7 +11,7 @@ invariant-loop-i g l = record {
   kept : g.S.ByteSource.keeps l.fn.source l.source;
   failures : g.S.ByteSource.failures l.source ≡ g.S.ByteSource.failures l.fn.source;
   value : g.S.ByteSource.honest → collect_at (l.place.terms - l.i) (bytes_at (g.S.ByteSource.content l.fn.source) l.place) l.prefix l.i l.term.items l.at (items_from l.found.items)
-      ≡ items_from_group (bytes_at (g.S.ByteSource.content l.fn.source) l.place) l.place.terms l.prefix l.group l.fn.at;
+      ≡ items_from_group (bytes_at (g.S.ByteSource.content l.fn.source) l.place) l.place.terms l.prefix l.fn.start.group l.fn.start.at;
   asks : g.S.ByteSource.honest → g.S.ByteSource.asked l.source + asks_at (l.place.terms - l.i) (bytes_at (g.S.ByteSource.content l.fn.source) l.place) l.prefix l.i l.term.items l.at
-      ≤ g.S.ByteSource.asked l.fn.source + asks_at (l.place.terms - 16 * l.group) (bytes_at (g.S.ByteSource.content l.fn.source) l.place) l.prefix (16 * l.group) [] l.fn.at;
+      ≤ g.S.ByteSource.asked l.fn.source + asks_at (l.place.terms - 16 * l.fn.start.group) (bytes_at (g.S.ByteSource.content l.fn.source) l.place) l.prefix (16 * l.fn.start.group) [] l.fn.start.at;
 }

@@ -22,8 +22,7 @@ returns-clause-asks g c h es d len =
     let same = ap (λ (l : List ℕ). bytes_at l c.args.place) (c.in_ok-standing.ensures.left.same h) in
     let then = ap (λ (l : List ℕ). bytes_at l c.args.place) (c.in_ok-at.ensures.left.same h) in
     let starts : start_at first (4 * group_count terms) (group_of s) ≡ Ok at =
-    ap (λ (l : List ℕ). start_at l (4 * group_count terms) (group_of s)) (sym same) ∙ ap (λ (k : ℕ). start_at second (4 * k) (group_of s)) (sym c.groups_of-base.ensures)
-    ∙ ap (start_at second (4 * c.groups_of-base.result)) (sym c.first_group-group.ensures) ∙ c.in_ok-at.ensures.value h in
+    ap (λ (l : List ℕ). start_at l (4 * group_count terms) (group_of s)) (sym same) ∙ ap (start_at second (4 * group_count terms)) (sym c.first_group-group.ensures) ∙ c.in_ok-at.ensures.value h in
     let there = ap (λ (l : List ℕ). asks_at (terms - 16 * group) l prefix (16 * group) [] at) (then ∙ same) ∙ ap (λ (k : ℕ). asks_at (terms - 16 * k) first prefix (16 * k) [] at) c.first_group-group.ensures in
     on_ok_then c.collect.result _ _ (c.collect.ensures.asks h) (λ asks k m few short.
     omega (

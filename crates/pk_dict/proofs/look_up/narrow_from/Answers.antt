@@ -2,6 +2,7 @@
 use Rattle.std.proofs.Common.{arith, refl, ap, subst, ◌∙◌, ◌≡◌, ◌+◌, ◌-◌, ◌*◌, ◌/◌, ℕ, List, length, Ok}
 use Rattle.std.proofs.lemmas.Result.{err_from_is_err_and}
 use Rattle.pk_dict.specs.declared.head.Step.TheVariants.{Less, Found, Past}
+use Rattle.pk_dict.specs.Dictionary.{group_count}
 use Rattle.pk_dict.specs.Place.{bytes_at}
 use Rattle.pk_dict.specs.Reading.{Fails, IsWithin, group_at}
 use Rattle.pk_dict.proofs.Halving.{first_left, step_left, all_asks, last_ask}
@@ -18,14 +19,14 @@ loop-low-init g c = record {
   order = c.requires.amid.order;
   most = c.requires.amid.most;
   within = c.requires.amid.within;
-  narrowing = λ h. narrowing_init _ _ _ _ _ _ _ _ (omega (arith, c.groups_of-base.ensures));
+  narrowing = λ h. narrowing_init _ _ _ _ _ _ _;
 }
 
 pub returns-in_err-step-clause-value : goal.returns-in_err-step-clause-value
 returns-in_err-step-clause-value g c h =
     let p = err_from_is_err_and c.from_residual.result c.from_residual.ensures.1 in
     rw (p.1, p.2) (narrowing_fails _ _ _ c.loop-low.low c.loop-low.high _ _ c.in_err-step.field-0.0 _ (c.loop-low.invariant.narrowing h) (omega arith)
-    (subst (λ (l : List ℕ). Fails c.in_err-step.field-0.0 (group_at (bytes_at l c.args.place) (4 * c.groups_of-base.result) (c.loop-low.low + (c.loop-low.high - c.loop-low.low) / 2) c.args.term.now)) (c.loop-low.invariant.same h) (c.in_err-step.ensures.value h)))
+    (subst (λ (l : List ℕ). Fails c.in_err-step.field-0.0 (group_at (bytes_at l c.args.place) (4 * group_count c.args.place.terms) (c.loop-low.low + (c.loop-low.high - c.loop-low.low) / 2) c.args.term.now)) (c.loop-low.invariant.same h) (c.in_err-step.ensures.value h)))
 
 pub returns-in_err-step-clause-asks : goal.returns-in_err-step-clause-asks
 returns-in_err-step-clause-asks g c k h =
@@ -34,7 +35,7 @@ returns-in_err-step-clause-asks g c k h =
 pub returns-in-Found-clause-value : goal.returns-in-Found-clause-value
 returns-in-Found-clause-value g c h =
     narrowing_found _ _ _ c.loop-low.low c.loop-low.high _ _ _ _ (c.loop-low.invariant.narrowing h) (omega arith)
-    (subst (λ (l : List ℕ). group_at (bytes_at l c.args.place) (4 * c.groups_of-base.result) (c.loop-low.low + (c.loop-low.high - c.loop-low.low) / 2) c.args.term.now ≡ Ok (Found c.in-Found.entry)) (c.loop-low.invariant.same h)
+    (subst (λ (l : List ℕ). group_at (bytes_at l c.args.place) (4 * group_count c.args.place.terms) (c.loop-low.low + (c.loop-low.high - c.loop-low.low) / 2) c.args.term.now ≡ Ok (Found c.in-Found.entry)) (c.loop-low.invariant.same h)
     (c.in_ok-step.ensures.value h ∙ ap Ok c.in-Found.is))
 
 pub returns-in-Found-clause-asks : goal.returns-in-Found-clause-asks
@@ -54,7 +55,7 @@ loop-low-preserved-in-Past g c =
       most = omega arith;
       within = c.loop-low.invariant.within;
       narrowing = λ h. narrowing_past _ _ _ c.loop-low.low c.loop-low.high _ _ _ (c.loop-low.invariant.narrowing h) (omega arith)
-          (subst (λ (l : List ℕ). group_at (bytes_at l c.args.place) (4 * c.groups_of-base.result) (c.loop-low.low + (c.loop-low.high - c.loop-low.low) / 2) c.args.term.now ≡ Ok Past) (c.loop-low.invariant.same h)
+          (subst (λ (l : List ℕ). group_at (bytes_at l c.args.place) (4 * group_count c.args.place.terms) (c.loop-low.low + (c.loop-low.high - c.loop-low.low) / 2) c.args.term.now ≡ Ok Past) (c.loop-low.invariant.same h)
           (c.in_ok-step.ensures.value h ∙ ap Ok c.in-Past.is));
     }
 
@@ -71,7 +72,7 @@ loop-low-preserved g c =
       most = omega arith;
       within = subst (IsWithin (length c.args.term.now)) c.in-Less.is c.in_ok-step.ensures.matched;
       narrowing = λ h. narrowing_less _ _ _ c.loop-low.low c.loop-low.high _ _ _ _ _ (c.loop-low.invariant.narrowing h) (omega arith)
-          (subst (λ (l : List ℕ). group_at (bytes_at l c.args.place) (4 * c.groups_of-base.result) (c.loop-low.low + (c.loop-low.high - c.loop-low.low) / 2) c.args.term.now ≡ Ok (Less c.in-Less.now c.in-Less.after)) (c.loop-low.invariant.same h)
+          (subst (λ (l : List ℕ). group_at (bytes_at l c.args.place) (4 * group_count c.args.place.terms) (c.loop-low.low + (c.loop-low.high - c.loop-low.low) / 2) c.args.term.now ≡ Ok (Less c.in-Less.now c.in-Less.after)) (c.loop-low.invariant.same h)
           (c.in_ok-step.ensures.value h ∙ ap Ok c.in-Less.is));
     }
 

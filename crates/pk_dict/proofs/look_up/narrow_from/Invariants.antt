@@ -18,7 +18,7 @@ invariant-loop-low g l = record {
   order : l.low ≤ l.high;
   most : l.high ≤ group_count l.place.terms;
   within : l.matched ≤ length l.term;
-  narrowing : g.S.ByteSource.honest → Narrowing (bytes_at (g.S.ByteSource.content l.fn.source) l.place) l.base l.term l.low l.high l.matched l.next
+  narrowing : g.S.ByteSource.honest → Narrowing (bytes_at (g.S.ByteSource.content l.fn.source) l.place) (4 * group_count l.place.terms) l.term l.low l.high l.matched l.next
       (narrow_at (l.fn.between.high - l.fn.between.low) (bytes_at (g.S.ByteSource.content l.fn.source) l.place) (4 * group_count l.place.terms) l.term l.fn.between.low l.fn.between.high l.fn.between.matched l.fn.between.next);
 }
 

@@ -56,7 +56,7 @@ returns-in-Open-clause-unknown g c = λ h e.
     let first = same_search _ _ _ refl (c.in_ok-search.ensures.past _ refl (omega (arith, all.1))) in
     let both = same_search _ _ _ refl (c.in_ok-search-2.ensures.past _ first (omega (arith, all.0))) in
     let content = c.in_ok-search-2.ensures.left.same h ∙ c.in_ok-search.ensures.left.same h in
-    all_stand (bytes_at (g.S.ByteSource.content c.args.source.now) place) place.terms term c.groups_of-groups.result b _ c.groups_of-groups.ensures (same_between _ _ (sym c.in-Open.is ∙ both))
+    all_stand (bytes_at (g.S.ByteSource.content c.args.source.now) place) place.terms term c.groups_of-groups.result _ b _ c.groups_of-groups.ensures (same_between _ _ (sym c.in-Open.is ∙ both))
     (subst (λ (l : List ℕ). Gives c.narrow_from.result (narrow_at (b.high - b.low) (bytes_at l place) (4 * group_count place.terms) term b.low b.high b.matched b.next)) content (c.narrow_from.ensures.value h))
 
 pub returns-in-Open-clause-told : goal.returns-in-Open-clause-told

@@ -9,4 +9,4 @@ pub returns-then-term-kept-clause-value : goal.returns-then-term-kept-clause-val
 unfolding step_at apart_at
 returns-then-term-kept-clause-value c bytes p =
     let b = byte_near bytes c.args.start c.in_ok-head.head.rest c.args.piece.now p c.in_ok-head.ensures.inside.0 (omega (arith, c.if-from-piece.true)) in
-    rw (c.in_ok-head.ensures.value bytes p) (rw (le-ltb _ _ c.if-matched-kept.false) (rw (lt-ltb c.args.kept c.args.matched (omega (arith, c.if-matched-kept.false, c.if-matched-kept-2.false))) (rw b (rw (lt-ltb _ _ c.if-term-kept.true) refl))))
+    rw (c.in_ok-head.ensures.value bytes p) (rw (le-ltb _ _ c.if-matched-kept.false) (rw (lt-ltb c.args.coming.kept c.args.coming.matched (omega (arith, c.if-matched-kept.false, c.if-matched-kept-2.false))) (rw b (rw (lt-ltb _ _ c.if-term-kept.true) refl))))
