@@ -61,4 +61,4 @@ pub use disk::{Disk, DiskFault};
 pub use fault::FaultDisk;
 pub use lossy::LossyDisk;
 pub use memory::MemoryDisk;
-pub use units::{Extent, FIRST_UNIT, MAX_UNITS, UNIT, units_in};
+pub use units::{Extent, FIRST_UNIT, LEAST_UNITS, MAX_UNITS, UNIT, units_in};

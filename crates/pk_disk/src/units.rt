@@ -5,6 +5,9 @@ ghost use Rattle.pk_disk.specs.Units.{IsFitted, end_of, lies_within, overlap, st
 /// The bytes of a unit.
 pub const UNIT: u64 = 512;
 
+/// The fewest units of a disk that holds a store.
+pub const LEAST_UNITS: u32 = 64;
+
 /// The most units that are used of a disk; bytes past them are never touched.
 pub const MAX_UNITS: u64 = 2_147_483_648;
 

@@ -1,17 +1,16 @@
 //! The disk in a file.
 
-ghost use Rattle.std.specs.Prelude.{◌≡◌, ◌≤◌, ◌*◌, ◌^◌, length, replicate, IfErr, IfOk, IsTrue, false};
+ghost use Rattle.std.specs.Prelude.{◌≡◌, ◌≤◌, ◌*◌, length, replicate, IfErr, IfOk, IsTrue, false};
 ghost use Rattle.pk_disk.specs.Disk.{nowhere};
+ghost use Rattle.pk_disk.specs.Sizes.{least_units, most_units};
 ghost use Rattle.pk_filedisk.specs.File.{IsDiskLength, IsOfMake, IsOfOpening};
+ghost use Rattle.pk_filedisk.specs.Length.{OpensByLength};
 
 use crate::fault::FileFault;
 use crate::raw::RawFile;
 use crate::system::FileSystem;
 use crate::whole::{read_whole, write_whole};
-use pk_disk::{Disk, DiskFault, MAX_UNITS, UNIT};
-
-/// The fewest units of a disk in a file.
-const LEAST_UNITS: u64 = 64;
+use pk_disk::{Disk, DiskFault, LEAST_UNITS, MAX_UNITS, UNIT};
 
 /// A file as a disk. Over an honest file it is honest. Its length is read once, as it is made or
 /// opened. The file is locked until the disk is dropped. After a sync that failed each later one
@@ -41,8 +40,8 @@ impl<F: RawFile + Drop> FileDisk<F> {
         path: &str,
         units: u64,
     ) -> Result<FileDisk<F>, FileFault>
-        requires least { 64 ≤ units }
-        requires most { units ≤ 2 ^ 31 }
+        requires least { least_units ≤ units }
+        requires most { units ≤ most_units }
         ensures size { IfOk result
             (λ d. length (⟦<FileDisk<F> as Disk>⟧.content d) ≡ units * 512) }
         ensures zeros { F.honest → IfOk result
@@ -69,10 +68,12 @@ impl<F: RawFile + Drop> FileDisk<F> {
     ///
     /// `Missing` where there is nothing at the path, `BadLength` where the file is not 64 to 2^31
     /// whole units long, or `Disk`, also where another opening of the file holds a lock.
-    #[tactic(auto, using(crate::proofs::ResizedLemmas::length_resized))]
+    #[tactic(auto, using(crate::proofs::ResizedLemmas::length_resized, crate::specs::Resized::resized_same))]
     pub fn on<S: FileSystem<File = F>>(system: &S, path: &str) -> Result<FileDisk<F>, FileFault>
         ensures size { IfOk result
             (λ d. IsDiskLength (length (⟦<FileDisk<F> as Disk>⟧.content d))) }
+        ensures length { F.honest → OpensByLength ⟦<FileDisk<F> as Disk>⟧.content
+            (S.may_hold system.now path.now) result }
         ensures closed { F.honest → IfOk result
             (λ d. ⟦<FileDisk<F> as Disk>⟧.is_open d ≡ nowhere) }
         ensures reads { IfOk result (λ d. ⟦<FileDisk<F> as Disk>⟧.failed_reads d ≡ 0) }
@@ -86,7 +87,7 @@ impl<F: RawFile + Drop> FileDisk<F> {
         let Ok(len) = file.len() else {
             return Err(FileFault::Disk);
         };
-        if len % UNIT != 0 || len / UNIT < LEAST_UNITS || len / UNIT > MAX_UNITS {
+        if len % UNIT != 0 || len / UNIT < u64::from(LEAST_UNITS) || len / UNIT > MAX_UNITS {
             return Err(FileFault::BadLength);
         }
         Ok(FileDisk::of_file(file, len))

@@ -161,6 +161,9 @@ impl<'a> FakeFiles<'a> {
 impl<'a> FileSystem for FakeFiles<'a> {
     type File = NotedFile<'a, MemoryFile>;
 
+    // Each file is empty.
+    ghost may_hold = { λ _ _ bytes. bytes ≡ [] };
+
     fn create(&self, path: &str) -> Result<NotedFile<'a, MemoryFile>, FileFault> {
         if self.system.note("make", path).is_err() {
             return match self.system.fault {
