@@ -2,11 +2,11 @@
 
 ghost use Rattle.std.specs.Prelude.{IfOk};
 ghost use Rattle.pk_check.specs.Holding.{ChecksBodyAs, IsOfBody};
-ghost use Rattle.pk_disk.specs.Frames.{KeepsDisk};
 ghost use Rattle.pk_manifest.specs.Current.{HasBody, units_of_disk};
 ghost use Rattle.pk_manifest.specs.Sound.{IsBody};
 ghost use Rattle.pk_manifest.specs.Spelling.{view};
 ghost use Rattle.pk_manifest.specs.declared.half.Half.{Half};
+ghost use Rattle.pk_segment.specs.OnlyRead.{ReadsDisk};
 ghost use Rattle.pk_segment.specs.Reading.{CountsReads};
 
 use crate::entries::check_entries;
@@ -41,8 +41,7 @@ pub fn check_body<D: Disk>(
         → HasBody (D.content disk.old) half (view body.now)
         → ChecksBodyAs (D.content disk.old) result }
     ensures body { IfOk result (IsOfBody (view body.now)) }
-    ensures keeps { KeepsDisk D.Disk disk.old disk.new }
-    ensures reads { CountsReads (D.failed_reads disk.old) (D.failed_reads disk.new) result }
+    ensures left { ReadsDisk D.Disk CountsReads result disk.old disk.new }
 {
     let documents = check_entries(alloc, disk, &body.entries, body.next_number)?;
     Ok(Checked {

@@ -5,6 +5,7 @@ ghost use Rattle.std.specs.Prelude.{length, take, drop, IfErr, IfOk, IsTrue};
 ghost use Rattle.pk_posting.specs.Posting.{IsPosting};
 ghost use Rattle.pk_posting.specs.Source.{IsLeft};
 ghost use Rattle.pk_posting.specs.Spelling.{spelling};
+ghost use Rattle.pk_segment.specs.OnlyRead.{ReadsSource};
 ghost use Rattle.pk_segment.specs.Reading.{CountsReads, IsNoDamage};
 
 use pk_posting::{ByteSource, MOST_LENT, SourceFault, encode_into, length_of};
@@ -57,10 +58,7 @@ pub(crate) fn is_list_there<S: ByteSource>(
         ↔ (take (length (spelling list.now)) (drop at (S.content source.old))
         ≡ spelling list.now)) }
     ensures undamaged { IfErr result IsNoDamage }
-    ensures content { S.honest → S.content source.new ≡ S.content source.old }
-    ensures size { length (S.content source.new) ≡ length (S.content source.old) }
-    ensures keeps { S.keeps source.old source.new }
-    ensures faults { CountsReads (S.failures source.old) (S.failures source.new) result }
+    ensures left { ReadsSource S.ByteSource CountsReads result source.old source.new }
 {
     let bytes = length_of(list);
     room.resize(bytes as usize, 0)?;

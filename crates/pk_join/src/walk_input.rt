@@ -1,21 +1,8 @@
 //! An input of a walk: a segment's words with their lists, and how far the walk has come in them.
 
-ghost use Rattle.std.specs.Prelude.{
-  ◌≡◌,
-  ◌≤◌,
-  ◌<◌,
-  ◌+◌,
-  ◌++◌,
-  ℕ,
-  List,
-  Some,
-  length,
-  slice_get,
-  IfOk,
-  MatchResult,
-};
+ghost use Rattle.std.specs.Prelude.{◌≡◌, ◌≤◌, ◌<◌, ◌+◌, ◌++◌, ℕ, List, Some, length, slice_get};
+ghost use Rattle.std.specs.Prelude.{IfOk, MatchResult};
 ghost use Rattle.std.specs.Option.{option_map};
-ghost use Rattle.pk_disk.specs.Frames.{KeepsDisk};
 ghost use Rattle.pk_disk.specs.Units.{extent_bytes, start_of};
 ghost use Rattle.pk_join.specs.Ahead.{HoldsNone, HoldsOf, ahead_room, bytes_ahead};
 ghost use Rattle.pk_join.specs.Joining.{MayJoin, joined_in};
@@ -23,6 +10,7 @@ ghost use Rattle.pk_join.specs.Keys.{HasKey};
 ghost use Rattle.pk_join.specs.Listed.{AreListsOf, room_for, words_in};
 ghost use Rattle.pk_posting.specs.Source.{CountsFaults};
 ghost use Rattle.pk_segment.specs.Indexed.{list_with};
+ghost use Rattle.pk_segment.specs.OnlyRead.{ReadsDisk};
 ghost use Rattle.pk_segment.specs.Spelling.{SegmentSpells};
 ghost use Rattle.pk_state.specs.Committed.{Stored, live_of};
 
@@ -149,8 +137,7 @@ impl Input {
         ensures stands { StandsAs self.old self.new }
         ensures room { list.new.joined.room ≡ list.old.joined.room }
         ensures made { length list.new.made.items ≡ length list.old.made.items }
-        ensures keeps { KeepsDisk D.Disk disk.old disk.new }
-        ensures faults { CountsFaults (D.failed_reads disk.old) (D.failed_reads disk.new) result }
+        ensures left { ReadsDisk D.Disk CountsFaults result disk.old disk.new }
     {
         match &self.lists {
             InputLists::Stored {

@@ -20,7 +20,6 @@ ghost use Rattle.std.specs.Prelude.{
   slice_index,
 };
 ghost use Rattle.std.specs.Option.{option_map};
-ghost use Rattle.pk_disk.specs.Frames.{KeepsDisk};
 ghost use Rattle.pk_join.specs.Inputs.{SpellsInputs};
 ghost use Rattle.pk_join.specs.Joining.{joined_in, room_in};
 ghost use Rattle.pk_join.specs.Listed.{words_in};
@@ -51,6 +50,7 @@ ghost use Rattle.pk_join.specs.Walking.{
 ghost use Rattle.pk_join.specs.declared.input.MergeInput.{MergeInput};
 ghost use Rattle.pk_posting.specs.Source.{CountsFaults};
 ghost use Rattle.pk_segment.specs.Indexed.{list_with};
+ghost use Rattle.pk_segment.specs.OnlyRead.{ReadsDisk};
 ghost use Rattle.pk_state.specs.Committed.{Stored, live_in};
 
 use crate::joined::WordList;
@@ -222,8 +222,7 @@ fn join_noted<D: Disk>(
     ensures stand { StandAs inputs.old inputs.new }
     ensures room { room_in list.new.joined ≡ room_in list.old.joined }
     ensures made { length list.new.made.items ≡ length list.old.made.items }
-    ensures keeps { KeepsDisk D.Disk disk.old disk.new }
-    ensures faults { CountsFaults (D.failed_reads disk.old) (D.failed_reads disk.new) result }
+    ensures left { ReadsDisk D.Disk CountsFaults result disk.old disk.new }
 {
     list.joined.clear();
     for k in 0..found.len() {
@@ -267,8 +266,7 @@ pub(crate) fn next_word<D: Disk>(
         < to_come (lists_of inputs.old) (heads_of inputs.old) (length (lists_of inputs.old)))) }
     ensures room { room_in list.new.joined ≡ room_in list.old.joined }
     ensures made { length list.new.made.items ≡ length list.old.made.items }
-    ensures keeps { KeepsDisk D.Disk disk.old disk.new }
-    ensures faults { CountsFaults (D.failed_reads disk.old) (D.failed_reads disk.new) result }
+    ensures left { ReadsDisk D.Disk CountsFaults result disk.old disk.new }
 {
     'words: while let Some(count) = note_heads(inputs, keys, found) {
         let noted = &found[..count];

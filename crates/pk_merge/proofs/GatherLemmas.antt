@@ -1,5 +1,5 @@
 -- What was gathered: its length, one document more, and what is left of several.
-use Rattle.std.proofs.Common.{◌≡◌, ◌⊎◌, inl, inr, ℕ, ◌+◌, ◌*◌, ◌<◌, ◌≤◌, List, [], ◌∷◌, ◌++◌, length, take, drop, true, false, sym, ap, subst, ◌∙◌, append_assoc, append-nil, arith, Result, Ok, Err, Vec, Global}
+use Rattle.std.proofs.Common.{◌≡◌, ◌⊎◌, inl, inr, ℕ, ◌+◌, ◌<◌, ◌≤◌, List, [], ◌∷◌, ◌++◌, length, take, drop, true, false, sym, ap, subst, ◌∙◌, append_assoc, append-nil, arith, Result, Ok, Err, Vec, Global}
 use Rattle.std.specs.Prelude.{All, Option}
 use Rattle.std.specs.List.Sorted.{IsStrictlyIncreasing}
 use Rattle.std.proofs.lemmas.Grind.{flat_map-append}
@@ -9,17 +9,21 @@ use Rattle.pk_model.specs.declared.documents.Document.{Document}
 use Rattle.pk_model.specs.Collection.{Doc, numbers_of}
 use Rattle.pk_model.specs.Views.{doc_of}
 use Rattle.pk_model.proofs.CollectionLemmas.{increasing-snoc}
+use Rattle.pk_segment.specs.declared.building.BuildFault.{BuildFault}
+use Rattle.pk_segment.specs.declared.building.BuildFault.TheVariants as building
+use Rattle.pk_segment.specs.Building.{BuildFails}
 use Rattle.pk_segment.specs.declared.fault.ReadFault.{ReadFault}
 use Rattle.pk_segment.specs.declared.fault.ReadFault.TheVariants as reading
 use Rattle.pk_segment.specs.Spelling.{docs_of, longest, segment_length, texts}
 use Rattle.pk_segment.specs.Reading.{IsNoDamage}
+use Rattle.pk_segment.proofs.PlanLemmas.{front_of}
 use Rattle.pk_segment.proofs.SegmentLemmas.{parts_of, length_texts_cons}
 use Rattle.pk_state.specs.Committed.{lists}
 use Rattle.pk_merge.specs.declared.fault.MergeFault.{MergeFault}
 use Rattle.pk_merge.specs.declared.fault.MergeFault.TheVariants.{TooLarge, Damaged, Disk, Memory, NotWritten}
 use Rattle.pk_merge.specs.declared.gathered.Gathered.{Gathered}
 use Rattle.pk_merge.specs.Gathering.{BuildsAs, FailsInMemory, GathersAs, KeepsAs, RiseFrom, docs_in, left_by}
-use Rattle.pk_merge.specs.Merging.{CountsMerge, MergeFails, MergedAs, merge_of}
+use Rattle.pk_merge.specs.Merging.{CountsMerge, MergeFails, MergedAs, built_of, merge_of}
 use Rattle.pk_merge.proofs.RiseLemmas.{rise_next}
 
 -- LENGTHS
@@ -28,14 +32,7 @@ length_texts : (xs ys : List Doc) → length (texts (xs ++ ys)) ≡ length (text
 length_texts xs ys = ap length (flat_map-append (λ (d : Doc). d.text) xs ys)
     ∙ length-append (texts xs) (texts ys)
 
--- in kind 1 nothing stands behind the texts
-pub front_of : (docs : List Doc) → segment_length docs 1 ≡ 24 + 12 * length docs + length (texts docs)
-front_of docs = parts_of docs 1 ∙ nothing (24 + 12 * length docs + length (texts docs))
-  where
-    nothing : (n : ℕ) → n + 0 + 0 ≡ n
-    nothing n = omega arith
-
--- and in no kind less
+-- in no kind a segment is shorter than in kind 1
 pub no_shorter : (docs : List Doc) (kind : ℕ) → segment_length docs 1 ≤ segment_length docs kind
 no_shorter docs kind = omega (arith, front_of docs, parts_of docs kind)
 
@@ -194,6 +191,11 @@ pub merged_all : (docs : List Doc) (kind : ℕ) (g : Gathered) (r : Result (Opti
 merged_all docs kind g (Ok bytes) all built = subst (λ (ds : List Doc). BuildsAs ds kind (Ok bytes)) all built
 merged_all docs kind g (Err fault) all built =
     fails_built docs kind fault (subst (λ (ds : List Doc). FailsInMemory ds kind fault) all built)
+
+-- an index that can't be made is of a segment that can't
+pub fails_planned : (docs : List Doc) (x : BuildFault) → BuildFails docs 2 x → MergeFails docs 2 (built_of x)
+fails_planned docs building.TooLarge fault = fault
+fails_planned docs building.Memory fault = tt
 
 -- no count rose where the documents were too many bytes, or memory was refused
 pub counts_memory : {T : Type 0} (before now : ℕ) (r : Result T MergeFault) (x : MergeFault) → r ≡ Err x

@@ -4,9 +4,10 @@ use Rattle.std.specs.Prelude.{All, OnOk}
 use Rattle.std.proofs.lemmas.List.{take-append-drop, take_more}
 use Rattle.std.proofs.lemmas.List.Elements.{All-push}
 use Rattle.pk_model.specs.Collection.{Doc}
-use Rattle.pk_model.specs.Terms.{terms_of}
-use Rattle.pk_segment.specs.Indexed.{dictionary, postings}
+use Rattle.pk_segment.specs.declared.header.Header.{Header}
+use Rattle.pk_segment.specs.Planning.{IsHeaderOf}
 use Rattle.pk_segment.specs.Spelling.{directory, directory_entry, header, header_in, le32, segment_length, texts}
+use Rattle.pk_segment.proofs.PlanLemmas.{front_of, header_same}
 use Rattle.pk_segment.proofs.SegmentLemmas.{length_texts_cons}
 use Rattle.pk_state.specs.Committed.{lists}
 use Rattle.pk_merge.specs.declared.fault.MergeFault.{MergeFault}
@@ -17,7 +18,7 @@ use Rattle.pk_merge.specs.Gathering.{RiseFrom, left_by}
 use Rattle.pk_merge.specs.Keeping.{AreKept, IsKept, KeepsBetween, KeptApart, kept_bytes, kept_directory}
 use Rattle.pk_merge.specs.Left.{KeepsOneAs, TakesAs, kept_in}
 use Rattle.pk_merge.specs.Merging.{MergeFails}
-use Rattle.pk_merge.proofs.GatherLemmas.{front_of, front_one}
+use Rattle.pk_merge.proofs.GatherLemmas.{front_one}
 use Rattle.pk_merge.proofs.RiseLemmas.{rise_next}
 
 -- ---- lengths
@@ -170,9 +171,7 @@ directory_next ks i at d lt is =
     ∙ ap (λ (n : ℕ). kept_directory 0 (take i ks) ++ (le32 k.number ++ le32 n ++ le32 k.len)) e
 
 -- the numbers of the header are those of the documents
-pub front_same : (docs : List Doc) (count text_bytes lists words terms : ℕ) (ds : List ℕ)
-    → count ≡ length docs → text_bytes ≡ length (texts docs) → lists ≡ length (postings docs)
-    → words ≡ length (dictionary docs)
-    → terms ≡ length (terms_of docs) → ds ≡ directory 0 docs → header 2 count text_bytes lists words terms
-    ++ ds ≡ header_in docs 2 ++ directory 0 docs
-front_same docs count text_bytes lists words terms ds c t p g m d = rw (c, t, p, g, m, d) refl
+pub front_same : (docs : List Doc) (h : Header) (ds : List ℕ) → IsHeaderOf docs h → ds ≡ directory 0 docs
+    → header h.kind h.count h.texts h.postings h.dictionary h.terms ++ ds ≡ header_in docs 2 ++ directory 0 docs
+front_same docs h ds is same = ap (λ (l : List ℕ). l ++ ds) (header_same docs h is)
+    ∙ ap (λ (l : List ℕ). header_in docs 2 ++ l) same

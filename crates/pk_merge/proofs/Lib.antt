@@ -1,4 +1,5 @@
 -- The lemma pages.
+pub mod CountLemmas
 pub mod GatherLemmas
 pub mod GivenLemmas
 pub mod InputLemmas

@@ -4,14 +4,19 @@ use Rattle.std.specs.Prelude.{All, OnOk}
 use Rattle.std.proofs.lemmas.List.Elements.{All-head, All-tail}
 use Rattle.pk_disk.specs.Disk.{in_range}
 use Rattle.pk_join.specs.declared.input.MergeInput.{MergeInput}
+use Rattle.pk_join.specs.Inputs.{LiesInside}
+use Rattle.pk_join.proofs.ComeLemmas.{within_given}
 use Rattle.pk_model.specs.Collection.{Doc}
 use Rattle.pk_replace.specs.declared.stream.StreamFault.{StreamFault}
 use Rattle.pk_segment.specs.Indexed.{dictionary, postings}
 use Rattle.pk_segment.specs.Spelling.{directory, header_in, segment_length, segment_spelling, texts}
 use Rattle.pk_segment.proofs.SegmentLemmas.{in_parts, length_segment}
 use Rattle.pk_merge.specs.declared.kept.Kept.{Kept}
+use Rattle.pk_merge.specs.declared.lists.Lists.{Lists}
+use Rattle.pk_merge.specs.declared.lists.Lists.TheVariants.{Packed, Walked}
 use Rattle.pk_merge.specs.declared.output.Output.{Output}
 use Rattle.pk_merge.specs.Keeping.{AreKept, EndBy, KeptApart}
+use Rattle.pk_merge.specs.Lists.{AreOfInputs, AreWithin}
 use Rattle.pk_merge.specs.Output.{IsFresh, LiesApart, count_given, given, places_of}
 use Rattle.pk_merge.proofs.TextLemmas.{text_stays}
 
@@ -87,3 +92,10 @@ pub apart_there : (is : List MergeInput) (start end start' end' : ℕ) → start
     → All (LiesApart start end) is → All (LiesApart start' end') is
 apart_there is start end start' end' s e apart = subst (λ (n : ℕ). All (LiesApart n end') is) (sym s)
     (subst (λ (n : ℕ). All (LiesApart start n) is) (sym e) apart)
+
+-- what is walked through lies where its inputs do
+pub lists_within : (size : ℕ) (inputs : List MergeInput) (lists : Lists) → AreOfInputs inputs lists
+    → All (LiesInside size) inputs → AreWithin size lists
+lists_within size inputs (Packed bytes) are inside = tt
+lists_within size inputs (Walked walk encoded) are inside =
+    within_given size inputs walk.inputs.items are.0 inside

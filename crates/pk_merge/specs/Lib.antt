@@ -1,9 +1,11 @@
 -- The definitions that the contracts cite.
 pub mod Choosing
+pub mod Counting
 pub mod Gathering
 pub mod Inputs
 pub mod Keeping
 pub mod Left
+pub mod Lists
 pub mod Merging
 pub mod Planned
 pub mod Output

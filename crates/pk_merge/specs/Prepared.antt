@@ -1,37 +1,28 @@
 -- A merge that is prepared.
-use Rattle.std.specs.Prelude.{◌≡◌, ◌≤◌, ◌+◌, ◌*◌, ℕ, List, [], ◌++◌, length, All, Option, Some, None, Result, Ok, Err}
+use Rattle.std.specs.Prelude.{◌≡◌, ◌≤◌, ◌+◌, ◌*◌, ℕ, List, [], ◌++◌, All, Option, Some, None, Result, Ok, Err}
 use Rattle.pk_join.specs.declared.input.MergeInput.{MergeInput}
 use Rattle.pk_join.specs.Inputs.{LiesInside}
-use Rattle.pk_join.specs.Walk.{walk_lists, walk_room}
-use Rattle.pk_join.specs.WalkInput.{HaveExtentsOf}
-use Rattle.pk_join.specs.Walking.{AreListed, CanHold}
 use Rattle.pk_merge.specs.declared.fault.MergeFault.{MergeFault}
 use Rattle.pk_merge.specs.declared.prepared.Prepared.{Prepared}
 use Rattle.pk_merge.specs.Keeping.{AreKept, StayApart}
+use Rattle.pk_merge.specs.Lists.{AreOfInputs, GiveLists}
 use Rattle.pk_merge.specs.Merging.{MergeFails}
 use Rattle.pk_merge.specs.Output.{LiesApart}
 use Rattle.pk_model.specs.Collection.{Doc}
-use Rattle.pk_model.specs.Terms.{terms_of}
-use Rattle.pk_posting.specs.Spelling.{spelling as list_spelling}
-use Rattle.pk_segment.specs.Indexed.{dictionary, list_with}
+use Rattle.pk_segment.specs.Indexed.{dictionary}
 use Rattle.pk_segment.specs.declared.segment.Segment.{Segment}
 use Rattle.pk_segment.specs.Opened.{IsSegmentOf}
-use Rattle.pk_segment.specs.Spelling.{directory, header_in, longest, segment_length}
+use Rattle.pk_segment.specs.Spelling.{AreDocuments, directory, header_in, longest, segment_length}
 use Rattle.pk_state.specs.Committed.{Stored, live_in}
 
 -- What is prepared is the merge of these inputs, on a disk of these bytes.
 pub record IsPrepared (bytes : List ℕ) (inputs : List MergeInput) (stored : List Stored)
     (p : Prepared) : Type 0 where
-  pub listed : AreListed inputs (walk_lists p.walk) stored
+  pub are : AreDocuments (live_in stored)
   pub kept : AreKept bytes p.documents.items (live_in stored)
-  pub can : CanHold stored (walk_room p.walk)
+  pub lists_are : GiveLists inputs stored p.lists
   pub dictionary_is : p.dictionary.items ≡ dictionary (live_in stored)
   pub front_is : p.front.items ≡ header_in (live_in stored) 2 ++ directory 0 (live_in stored)
-  pub enough : All (λ w. length (list_spelling (list_with w (live_in stored)))
-      ≤ length p.encoded.items) (terms_of (live_in stored))
-  -- and no more than the longest list needs
-  pub no_more : (n : ℕ) → All (λ w. length (list_spelling (list_with w (live_in stored))) ≤ n)
-      (terms_of (live_in stored)) → length p.encoded.items ≤ n
   pub size_is : p.size ≡ segment_length (live_in stored) 2
   pub fits : p.size ≤ longest
 
@@ -58,8 +49,7 @@ PreparesAs bytes inputs stored (Err fault) = MergeFails (live_in stored) 2 fault
 abbrev pub IsReady : ℕ → List MergeInput → Result (Option Prepared) MergeFault → Type 0
 IsReady bytes inputs (Ok None) = Unit {0}
 IsReady bytes inputs (Ok (Some p)) =
-    (p.disk_bytes ≡ bytes) × HaveExtentsOf inputs p.walk.inputs.items
-    × StayApart inputs p.documents.items
+    (p.disk_bytes ≡ bytes) × AreOfInputs inputs p.lists × StayApart inputs p.documents.items
 IsReady bytes inputs (Err fault) = Unit {0}
 
 -- What is prepared can be written from a unit on, on a disk of so many bytes: it was prepared there

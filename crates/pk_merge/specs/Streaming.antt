@@ -119,13 +119,11 @@ merge_still bytes bytes' inputs p stored agree is =
     record {
       spells = spelled_still bytes bytes' inputs stored agree is.behind is.spells;
       prepared = record {
-        listed = was.listed;
+        are = was.are;
         kept = kept_still bytes bytes' p.documents.items (live_in stored) agree apart was.kept;
-        can = was.can;
+        lists_are = was.lists_are;
         dictionary_is = was.dictionary_is;
         front_is = was.front_is;
-        enough = was.enough;
-        no_more = was.no_more;
         size_is = was.size_is;
         fits = was.fits;
       };

@@ -54,6 +54,7 @@ pub(crate) struct Left {
 }
 
 impl Left {
+    ghost use Rattle.pk_merge.specs.Counting.{count_to};
     ghost use Rattle.pk_merge.specs.Gathering.{RiseFrom, left_by};
     ghost use Rattle.pk_merge.specs.Keeping.{AreKept, KeepsBetween, TextsStand};
     ghost use Rattle.pk_merge.specs.Left.{IsNoDisk, KeepsOneAs, TakesAs, kept_in};
@@ -119,6 +120,9 @@ impl Left {
             (drop (i + 1) docs ++ more) self.new result }
         ensures between { OnOk result
             (KeepsBetween texts end (kept_in self.old) (kept_in self.new)) }
+        ensures one_more { OnOk result
+            (length (kept_in self.old) + count_to self.old.last input.now.dead.now + 1
+            ≤ length (kept_in self.new) + count_to self.new.last input.now.dead.now) }
         ensures cause { IfErr result IsNoDisk }
         ensures disk_bytes { self.new.disk_bytes ≡ self.old.disk_bytes }
     {
@@ -156,6 +160,9 @@ impl Left {
             → TakesAs bytes so_far (left_by input.now.dead.now docs) more self.new result }
         ensures between { OnOk result
             (KeepsBetween texts end (kept_in self.old) (kept_in self.new)) }
+        ensures enough { OnOk result
+            (entries_in input.now.directory.now + length (kept_in self.old)
+            ≤ length (kept_in self.new) + length input.now.dead.now) }
         ensures cause { IfErr result IsNoDisk }
         ensures disk_bytes { self.new.disk_bytes ≡ self.old.disk_bytes }
     {

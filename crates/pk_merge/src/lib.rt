@@ -22,13 +22,18 @@
 //!
 //! `prepare` reads the directories and the dictionaries (of inputs of kind 1 the texts), and goes
 //! through the words of all inputs side by side (pk_join): the least at their heads is next.
-//! Its list is joined from those of the inputs without the dead numbers, and only its length and
-//! its entry are kept. So the exact length is known, and all memory taken, before the first write.
+//! Its list is joined from those of the inputs without the dead numbers, and packed. So the exact
+//! length is known, and all memory taken, before the first write.
 //!
-//! `merge_into` then writes header and directory and the texts, goes through the words a second
-//! time, which gives the posting lists, and writes the dictionary: in writes of 65,536 bytes, the
-//! last one perhaps shorter. It takes no memory. It writes no position outside the segment's place,
-//! whatever it reads and answers, and its bytes are those of `merged`.
+//! The packed lists are kept as long as all of them have at most 33,554,432 bytes: then one walk is
+//! enough, and the tables of words are let go before anything is written. Once they have more, or
+//! where memory for them is refused, they are let go, and only their lengths are kept.
+//!
+//! `merge_into` then writes header and directory, the texts, the posting lists and the dictionary:
+//! in writes of 65,536 bytes, the last one perhaps shorter. Where the lists were let go it goes
+//! through the words a second time, and joins each list again. It takes no memory. It writes no
+//! position outside the segment's place, whatever it reads and answers, and its bytes are those of
+//! `merged`.
 //!
 //! Texts are read in spans: the next ones at once, as many as stand within 65,536 bytes from the
 //! first one's place on, with what was deleted between them. So some hundred short texts are one
@@ -44,12 +49,14 @@
 //! | an input of kind 2 | 32,768 bytes to read ahead, past 2,048 inputs its share of 64 MiB |
 //! | each deleted number | 4 bytes, and one for each number up to the next one, at most 64 |
 //! | the dictionary | its bytes |
-//! | the longest posting list | its bytes |
+//! | the posting lists, up to 33,554,432 bytes of them | their bytes, and up to as many to grow |
+//! | where they have more, the longest of them | its bytes |
 //! | the texts that are read at once | 65,536 bytes |
 //! | what is to be written | 65,536 bytes |
 //!
 //! It keeps no texts (of an input of kind 1 one at a time), and of inputs of kind 2 no lists but
-//! the one that is joined.
+//! the one that is joined. What it takes for terms, inputs and deleted numbers it lets go where the
+//! new lists are kept.
 //!
 //! # What is refused
 //!
@@ -67,12 +74,14 @@
 //!
 //! Where the words are: `specs/Merging` has what a merge answers (what inputs spell is in pk_join's
 //! `specs/Inputs`), `specs/Gathering` what stands in memory on the way, `specs/Choosing` what is
-//! chosen, `specs/Prepared` what is prepared, `specs/Keeping` where the texts stand that are kept,
-//! `specs/Spans` which of them are read at once, `specs/Output` what was given to be written,
-//! `specs/Streaming` what `MergeWriter` promises. Lemma pages: `RiseLemmas` on the order of the
-//! numbers, `GatherLemmas` on what was gathered, `LiveLemmas` on the documents that are left,
-//! `SpanLemmas` on texts that are read at once, `GivenLemmas` and `StreamLemmas` on what is given
-//! part after part; pk_join's `TermWalkLemmas` on the walk through the words.
+//! chosen, `specs/Prepared` what is prepared, `specs/Lists` its posting lists, `specs/Counting` how
+//! many documents are left at the least, whatever the bytes are, `specs/Keeping` where the texts
+//! stand that are kept, `specs/Spans` which of them are read at once, `specs/Output` what was given
+//! to be written, `specs/Streaming` what `MergeWriter` promises. Lemma pages: `RiseLemmas` on the
+//! order of the numbers, `CountLemmas` on their count, `GatherLemmas` on what was gathered,
+//! `LiveLemmas` on the documents that are left, `SpanLemmas` on texts that are read at once,
+//! `GivenLemmas` and `StreamLemmas` on what is given part after part; pk_join's `TermWalkLemmas` on
+//! the walk through the words.
 #![tactic(auto)]
 
 mod choosing;
@@ -81,6 +90,7 @@ mod front;
 mod gathered;
 mod kept;
 mod left;
+mod lists;
 mod merge_writer;
 mod merging;
 mod output;
@@ -90,7 +100,6 @@ mod preparing;
 mod reading;
 mod streaming;
 mod texts;
-mod word_plan;
 mod writing;
 
 pub use choosing::choose;

@@ -1,39 +1,42 @@
 //! The index of a merge, planned by going through the words of all inputs.
 
-ghost use Rattle.std.specs.Prelude.{[], List, length, IfOk};
+ghost use Rattle.std.specs.Prelude.{◌≡◌, [], List, length, IfOk};
 ghost use Rattle.pk_disk.specs.Frames.{KeepsDisk};
 ghost use Rattle.pk_join.specs.Walk.{HasCome, IsSameWalk, WalksWithin};
 ghost use Rattle.pk_join.specs.declared.input.MergeInput.{MergeInput};
 ghost use Rattle.pk_merge.specs.Merging.{CountsMerge};
-ghost use Rattle.pk_merge.specs.Planned.{IsWritten, PlansWordsAs};
+ghost use Rattle.pk_merge.specs.Planned.{PlansWordsAs};
 ghost use Rattle.pk_model.specs.Terms.{terms_of};
+ghost use Rattle.pk_segment.specs.Planning.{HasEntries};
 ghost use Rattle.pk_state.specs.Committed.{Stored, live_in};
 
 use crate::fault::MergeFault;
-use crate::word_plan::WordPlan;
+use crate::lists::MOST_KEPT_LISTS;
 use pk_disk::Disk;
 use pk_join::Walk;
+use pk_segment::IndexWriter;
 use std::alloc::Global;
 
-/// The index of the documents that the inputs leave. It reads the posting lists once, and keeps
-/// those of one word.
+/// The index of the documents that the inputs leave. It reads the posting lists once, and packs
+/// them anew, as long as they are few bytes.
 pub(crate) fn plan_words<D: Disk>(
     alloc: Global,
     disk: &mut D,
     walk: &mut Walk,
-) -> Result<WordPlan, MergeFault>
+) -> Result<IndexWriter, MergeFault>
     requires { WalksWithin (length (D.content disk.old)) walk.old }
     ensures planned { D.honest → (inputs : List MergeInput) (stored : List Stored)
         → HasCome (D.content disk.old) inputs stored walk.old [] (terms_of (live_in stored))
         → PlansWordsAs (live_in stored) result }
-    ensures written { IfOk result IsWritten }
+    ensures entries { IfOk result HasEntries }
+    ensures most_kept { IfOk result (λ index. index.most_kept ≡ MOST_KEPT_LISTS) }
     ensures same { IsSameWalk walk.old walk.new }
     ensures keeps { KeepsDisk D.Disk disk.old disk.new }
     ensures reads { CountsMerge (D.failed_reads disk.old) (D.failed_reads disk.new) result }
 {
-    let mut plan = WordPlan::new(alloc);
+    let mut index = IndexWriter::new(alloc, MOST_KEPT_LISTS);
     'words: while walk.next(disk)? {
-        plan.add(walk.word(), walk.numbers())?;
+        index.add(walk.word(), walk.numbers())?;
     }
-    Ok(plan)
+    Ok(index)
 }

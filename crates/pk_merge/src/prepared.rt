@@ -1,28 +1,25 @@
 //! A merge that is prepared: all that it needs to be written, and its memory.
 
 ghost use Rattle.std.specs.Prelude.{◌≤◌, ◌<◌, ◌^◌, length, All};
-ghost use Rattle.pk_join.specs.Walk.{IsAtStart};
 ghost use Rattle.pk_merge.specs.Keeping.{EndBy};
 ghost use Rattle.pk_merge.specs.declared.texts.TheConstants.{SPAN_BYTES};
 ghost use Rattle.pk_segment.specs.Spelling.{longest};
 
 use crate::kept::Kept;
-use pk_join::Walk;
+use crate::lists::Lists;
 use pk_posting::SliceSource;
 use pk_segment::Segment;
 
-/// A merge that is prepared: how long its segment is, and all that is written but the texts and the
-/// posting lists.
+/// A merge that is prepared: how long its segment is, and all that is written but the texts, and
+/// but the posting lists where they are many bytes.
 #[derive(Drop)]
 pub struct Prepared {
     // The documents that are left.
     pub(crate) documents: Vec<Kept>,
     // How many bytes the disk has.
     pub(crate) disk_bytes: u64,
-    // The walk through the words of the inputs, before the first one.
-    pub(crate) walk: Walk,
-    // Where the list of a word is spelled.
-    pub(crate) encoded: Vec<u8>,
+    // The posting lists.
+    pub(crate) lists: Lists,
     // Where the texts that are read at once stand.
     pub(crate) room: Vec<u8>,
     // Where bytes are held until they are written.
@@ -33,7 +30,6 @@ pub struct Prepared {
     pub(crate) dictionary: Vec<u8>,
     // How many bytes the segment has.
     pub(crate) size: u32,
-    ghost start: { IsAtStart walk },
     ghost some: { 0 < length buffer.items },
     ghost room_for_texts: { SPAN_BYTES ≤ length room.items },
     ghost inside: { All (EndBy disk_bytes) documents.items },

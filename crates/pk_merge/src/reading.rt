@@ -14,17 +14,19 @@ ghost use Rattle.std.specs.Prelude.{
   IfOk,
   OnOk,
 };
+ghost use Rattle.std.specs.List.Sorted.{IsStrictlyIncreasing};
 ghost use Rattle.pk_disk.specs.Frames.{KeepsDisk};
 ghost use Rattle.pk_disk.specs.Units.{extent_bytes, start_of};
 ghost use Rattle.pk_join.specs.Inputs.{HasKind, LiesInside, SpellsInputs};
 ghost use Rattle.pk_join.specs.WalkInput.{HaveExtentsOf, IsBefore};
+ghost use Rattle.pk_merge.specs.Counting.{count_said, counts_said, numbers_listed};
 ghost use Rattle.pk_merge.specs.Gathering.{RiseFrom};
 ghost use Rattle.pk_merge.specs.Inputs.{ReadsAs};
 ghost use Rattle.pk_merge.specs.Keeping.{AreKept, KeepsBetween, StayApart};
 ghost use Rattle.pk_merge.specs.Left.{kept_in};
 ghost use Rattle.pk_merge.specs.Merging.{CountsMerge};
 ghost use Rattle.pk_merge.specs.ReadAll.{ReadsAllAs};
-ghost use Rattle.pk_model.specs.Collection.{Doc};
+ghost use Rattle.pk_model.specs.Collection.{Doc, numbers_of};
 ghost use Rattle.pk_segment.specs.Spelling.{SegmentSpells};
 ghost use Rattle.pk_state.specs.Committed.{Stored, all_in};
 
@@ -55,6 +57,9 @@ fn read_from<S: ByteSource>(
         → ReadsAs input.now.kind bytes so_far docs input.now.dead.now more left.new result }
     ensures between { OnOk result (KeepsBetween start (start + length (S.content source.old))
         (kept_in left.old) (kept_in left.new)) }
+    ensures enough { S.honest → OnOk result
+        (count_said (S.content source.old) + length (kept_in left.old)
+        ≤ length (kept_in left.new) + length input.now.dead.now) }
     ensures disk_bytes { left.new.disk_bytes ≡ left.old.disk_bytes }
     ensures keeps { S.keeps source.old source.new }
     ensures faults { CountsMerge (S.failures source.old) (S.failures source.new) result }
@@ -96,6 +101,9 @@ pub(crate) fn read_input<D: Disk>(
     ensures between { OnOk result (KeepsBetween (start_of input.now.extent)
         (start_of input.now.extent + input.now.extent.bytes)
         (kept_in left.old) (kept_in left.new)) }
+    ensures enough { D.honest → OnOk result
+        (count_said (extent_bytes (D.content disk.old) input.now.extent)
+        + length (kept_in left.old) ≤ length (kept_in left.new) + length input.now.dead.now) }
     ensures disk_bytes { left.new.disk_bytes ≡ left.old.disk_bytes }
     ensures keeps { KeepsDisk D.Disk disk.old disk.new }
     ensures reads { CountsMerge (D.failed_reads disk.old) (D.failed_reads disk.new) result }
@@ -111,31 +119,30 @@ pub(crate) fn read_all<D: Disk>(
     alloc: Global,
     disk: &mut D,
     inputs: &[MergeInput],
-    left: &mut Left,
-) -> Result<Vec<Input>, MergeFault>
+) -> Result<(Vec<Input>, Left), MergeFault>
     requires kinds { All HasKind inputs.now }
     requires inside { All (LiesInside (length (D.content disk.old))) inputs.now }
-    requires disk_bytes { left.old.disk_bytes ≡ length (D.content disk.old) }
-    ensures read { D.honest → (so_far : List Doc) (stored : List Stored)
+    ensures read { D.honest → (stored : List Stored)
         → SpellsInputs (D.content disk.old) inputs.now stored
-        → RiseFrom left.old.last (all_in stored)
-        → AreKept (D.content disk.old) (kept_in left.old) so_far
-        → ReadsAllAs (D.content disk.old) so_far inputs.now stored left.new result }
-    ensures apart { StayApart inputs.now (kept_in left.old)
-        → OnOk result (StayApart inputs.now (kept_in left.new)) }
-    ensures extents { IfOk result (λ v. HaveExtentsOf inputs.now v.items) }
-    ensures before { IfOk result (λ v. All IsBefore v.items) }
-    ensures disk_bytes { left.new.disk_bytes ≡ left.old.disk_bytes }
+        → IsStrictlyIncreasing (numbers_of (all_in stored))
+        → ReadsAllAs (D.content disk.old) inputs.now stored result }
+    ensures apart { IfOk result (λ r. StayApart inputs.now (kept_in r.1)) }
+    ensures enough { D.honest → IfOk result (λ r. counts_said (D.content disk.old) inputs.now
+        ≤ length (kept_in r.1) + numbers_listed inputs.now) }
+    ensures extents { IfOk result (λ r. HaveExtentsOf inputs.now r.0.items) }
+    ensures before { IfOk result (λ r. All IsBefore r.0.items) }
+    ensures disk_bytes { IfOk result (λ r. r.1.disk_bytes ≡ length (D.content disk.old)) }
     ensures keeps { KeepsDisk D.Disk disk.old disk.new }
     ensures reads { CountsMerge (D.failed_reads disk.old) (D.failed_reads disk.new) result }
 {
+    let mut left = Left::new(alloc, disk.len());
     let mut read = Vec::with_capacity(alloc, inputs.len())?;
     for input in inputs {
-        let lists = read_input(alloc, disk, input, left)?;
+        let lists = read_input(alloc, disk, input, &mut left)?;
         let before = Input::new(alloc, input.extent, lists, inputs.len())?;
         let Ok(()) = read.push(before) else {
             return Err(MergeFault::Memory);
         };
     }
-    Ok(read)
+    Ok((read, left))
 }

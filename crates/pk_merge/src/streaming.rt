@@ -8,7 +8,6 @@ ghost use Rattle.std.specs.Prelude.{
   ◌*◌,
   ◌++◌,
   List,
-  [],
   length,
   take,
   drop,
@@ -18,28 +17,25 @@ ghost use Rattle.std.specs.Prelude.{
 };
 ghost use Rattle.pk_disk.specs.Disk.{in_range};
 ghost use Rattle.pk_join.specs.Inputs.{SpellsInputs};
-ghost use Rattle.pk_join.specs.Walk.{HasCome, WalksWithin};
 ghost use Rattle.pk_join.specs.declared.input.MergeInput.{MergeInput};
 ghost use Rattle.pk_merge.specs.Keeping.{AreKept, EndBy, KeptApart};
+ghost use Rattle.pk_merge.specs.Lists.{AreOfInputs, AreWithin, GiveLists};
 ghost use Rattle.pk_merge.specs.Output.{AreGiven, IsGiven, LiesApart};
 ghost use Rattle.pk_merge.specs.Prepared.{CanMerge, CanWrite, IsPrepared};
 ghost use Rattle.pk_model.specs.Collection.{Doc};
-ghost use Rattle.pk_model.specs.Terms.{terms_of};
-ghost use Rattle.pk_posting.specs.Spelling.{spelling as list_spelling};
 ghost use Rattle.pk_replace.specs.Cause.{IsCause, IsUndamaged};
 ghost use Rattle.pk_replace.specs.Writing.{WritesOnly};
-ghost use Rattle.pk_segment.specs.Indexed.{list_with, postings};
+ghost use Rattle.pk_segment.specs.Indexed.{postings};
 ghost use Rattle.pk_segment.specs.Spelling.{segment_spelling, texts};
 ghost use Rattle.pk_state.specs.Committed.{Stored, live_in};
 
 use crate::fault::MergeFault;
 use crate::kept::Kept;
+use crate::lists::Lists;
 use crate::output::Output;
 use crate::prepared::Prepared;
 use crate::texts::{SPAN_BYTES, write_texts};
-use crate::writing::write_lists;
 use pk_disk::{Disk, UNIT};
-use pk_join::Walk;
 use pk_replace::StreamFault;
 
 // Gives header, directory and texts.
@@ -67,25 +63,23 @@ fn write_front<D: Disk>(
 // Gives posting lists and dictionary.
 fn write_index<D: Disk>(
     disk: &mut D,
-    walk: &mut Walk,
-    encoded: &mut [u8],
+    lists: Lists,
     dictionary: &[u8],
     output: &mut Output,
 ) -> Result<(), StreamFault>
-    requires walk { WalksWithin (length (D.content disk.old)) walk.old }
+    requires within { AreWithin (length (D.content disk.old)) lists }
     requires stretch { output.old.end ≤ length (D.content disk.old) }
     ensures given { IsGiven D.Disk disk.old disk.new output.old output.new result }
     ensures bytes { D.honest → (inputs : List MergeInput) (stored : List Stored)
-        → HasCome (D.content disk.old) inputs stored walk.old [] (terms_of (live_in stored))
+        → GiveLists inputs stored lists → AreOfInputs inputs lists
+        → SpellsInputs (D.content disk.old) inputs stored
         → All (LiesApart output.old.start output.old.end) inputs
-        → All (λ w. length (list_spelling (list_with w (live_in stored))) ≤ length encoded.old)
-        (terms_of (live_in stored))
         → output.old.at + output.old.filled
         + length (postings (live_in stored) ++ dictionary.now) ≤ output.old.end
         → AreGiven D.Disk disk.old disk.new output.old output.new
         (postings (live_in stored) ++ dictionary.now) result }
 {
-    write_lists(disk, walk, encoded, output)?;
+    lists.write(disk, output)?;
     output.offer(disk, dictionary)
 }
 
@@ -113,9 +107,7 @@ impl Prepared {
         let mut output = Output::over(self.buffer, start, start + u64::from(self.size));
         let mut room = self.room;
         write_front(disk, &self.front, &self.documents, &mut room, &mut output)?;
-        let mut walk = self.walk;
-        let mut encoded = self.encoded;
-        write_index(disk, &mut walk, &mut encoded, &self.dictionary, &mut output)?;
+        write_index(disk, self.lists, &self.dictionary, &mut output)?;
         output.flush(disk)
     }
 

@@ -2,6 +2,7 @@ pub mod DirectoryLemmas
 pub mod BegunLemmas
 pub mod IndexLemmas
 pub mod ListingLemmas
+pub mod OnlyReadLemmas
 pub mod OpeningLemmas
 pub mod PlanLemmas
 pub mod SegmentLemmas

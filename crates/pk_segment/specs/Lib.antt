@@ -3,6 +3,7 @@ pub mod Directory
 pub mod Fields
 pub mod Indexed
 pub mod Listing
+pub mod OnlyRead
 pub mod Opened
 pub mod Planning
 pub mod Reading

@@ -17,6 +17,8 @@ ghost use Rattle.pk_segment.specs.Spelling.{
   texts,
 };
 
+use crate::directory::Entry;
+use crate::front::{put_entry, put_header};
 use crate::header::Header;
 use crate::indexing::{IndexPlan, index_of};
 use pk_index::Index;
@@ -168,19 +170,6 @@ pub(crate) fn put_front(
     put_texts(out, documents)
 }
 
-#[tactic(auto, unfolding(crate::specs::Spelling::header))]
-fn put_header(out: &mut Vec<u8>, h: Header) -> Result<(), AllocError>
-    ensures { OnOk result (out.new.items
-        ≡ out.old.items ++ header h.kind h.count h.texts h.postings h.dictionary h.terms) }
-{
-    put_u32(out, h.kind)?;
-    put_u32(out, h.count)?;
-    put_u32(out, h.texts)?;
-    put_u32(out, h.postings)?;
-    put_u32(out, h.dictionary)?;
-    put_u32(out, h.terms)
-}
-
 // The directory; its numbers are those of the documents, which have 32 bits.
 fn put_directory(out: &mut Vec<u8>, documents: &[Document]) -> Result<(), AllocError>
     requires { length (texts (docs_of documents.now)) < 2 ^ 32 }
@@ -190,22 +179,31 @@ fn put_directory(out: &mut Vec<u8>, documents: &[Document]) -> Result<(), AllocE
 {
     let mut at = 0;
     for d in documents {
-        put_entry(out, d, at)?;
+        put_document(out, d, at)?;
         at += d.text.len() as u32;
     }
     Ok(())
 }
 
+// The number of a document; it has 32 bits.
+pub(crate) fn number_of(document: &Document) -> u32
+    ensures value { result ≡ document.now.number.0 }
+    ensures small { document.now.number.0 < 2 ^ 32 }
+{
+    document.number.0
+}
+
+// The entry of a document whose text begins at an offset.
 #[tactic(auto, unfolding(crate::specs::Spelling::directory_entry))]
-fn put_entry(out: &mut Vec<u8>, d: &Document, at: u32) -> Result<(), AllocError>
+fn put_document(out: &mut Vec<u8>, d: &Document, at: u32) -> Result<(), AllocError>
     requires { length (doc_of d.now).text < 2 ^ 32 }
     ensures spelled { OnOk result (out.new.items
         ≡ out.old.items ++ directory_entry at (doc_of d.now)) }
     ensures number { d.now.number.0 < 2 ^ 32 }
 {
-    put_u32(out, d.number.0)?;
-    put_u32(out, at)?;
-    put_u32(out, d.text.len() as u32)
+    let number = number_of(d);
+    let len = d.text.len() as u32;
+    put_entry(out, Entry { number, at, len })
 }
 
 fn put_texts(out: &mut Vec<u8>, documents: &[Document]) -> Result<(), AllocError>
@@ -215,11 +213,4 @@ fn put_texts(out: &mut Vec<u8>, documents: &[Document]) -> Result<(), AllocError
         out.extend_from_slice(d.text.as_bytes())?;
     }
     Ok(())
-}
-
-#[tactic(auto, unfolding(crate::specs::Spelling::le32))]
-fn put_u32(out: &mut Vec<u8>, n: u32) -> Result<(), AllocError>
-    ensures { OnOk result (out.new.items ≡ out.old.items ++ le32 n) }
-{
-    out.extend_from_slice(&n.to_le_bytes())
 }

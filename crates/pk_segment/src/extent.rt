@@ -21,6 +21,7 @@ ghost use Rattle.pk_disk.proofs.FrameLemmas.{keeps_disk_none, keeps_disk_then};
 ghost use Rattle.pk_disk.specs.Frames.{KeepsDisk};
 ghost use Rattle.pk_disk.specs.Units.{extent_bytes, start_of};
 ghost use Rattle.pk_posting.specs.Source.{CountsFaults, full_count};
+ghost use Rattle.pk_segment.specs.OnlyRead.{ReadsDisk};
 
 use pk_disk::{Disk, DiskFault, Extent, UNIT};
 use pk_posting::{ByteSource, MOST_LENT, SourceFault};
@@ -55,7 +56,8 @@ impl<'a, D: Disk> ExtentSource<'a, D> {
         }
     }
 
-    /// Turns it to another extent of its disk, whose bytes are its own from now on. Nothing is read.
+    /// Turns it to another extent of its disk, whose bytes are its own from now on. Nothing is
+    /// read.
     pub fn turn_to(&mut self, extent: Extent)
         requires { start_of extent + extent.bytes ≤ length (D.content self.old.disk.now) }
         ensures disk { self.new.disk.now ≡ self.old.disk.now }
@@ -71,12 +73,9 @@ impl<'a, D: Disk> ExtentSource<'a, D> {
     fn fill(&mut self, at: u32, n: u32) -> Result<(), SourceFault>
         requires { n ≤ 4096 }
         ensures same_reference { self.new.disk.ghost_name ≡ self.old.disk.ghost_name }
-        ensures keeps { KeepsDisk D.Disk self.old.disk.now self.new.disk.now }
-        ensures size { length (D.content self.new.disk.now) ≡ length (D.content self.old.disk.now) }
+        ensures left { ReadsDisk D.Disk CountsFaults result self.old.disk.now self.new.disk.now }
         ensures extent { self.new.extent ≡ self.old.extent }
         ensures asked { self.new.asked ≡ min (self.old.asked + 1) full_count }
-        ensures faults { CountsFaults (D.failed_reads self.old.disk.now)
-            (D.failed_reads self.new.disk.now) result }
         ensures not_full { OnOk result (D.failed_reads self.new.disk.now < full_count) }
         ensures inside { IsOk result → at + n ≤ self.old.extent.bytes }
         ensures damaged { IsErrOf result SourceFault.Damaged ↔ (self.old.extent.bytes < at + n) }
@@ -132,9 +131,7 @@ fn read_front<D: Disk>(
 ) -> Result<(), SourceFault>
     requires room { n ≤ length buffer.old }
     requires inside { at + n ≤ length (D.content disk.old) }
-    ensures keeps { KeepsDisk D.Disk disk.old disk.new }
-    ensures size { length (D.content disk.new) ≡ length (D.content disk.old) }
-    ensures faults { CountsFaults (D.failed_reads disk.old) (D.failed_reads disk.new) result }
+    ensures left { ReadsDisk D.Disk CountsFaults result disk.old disk.new }
     ensures not_full { OnOk result (D.failed_reads disk.new < full_count) }
     ensures cause { IfErr result (λ e. e ≡ SourceFault.Disk) }
     ensures value { D.honest → OnOk result

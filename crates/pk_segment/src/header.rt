@@ -11,7 +11,7 @@ ghost use Rattle.std.specs.Prelude.{
   IsOk,
   IsErrOf,
 };
-ghost use Rattle.pk_posting.specs.Source.{CountsFaults};
+ghost use Rattle.pk_posting.specs.Source.{IsRead};
 ghost use Rattle.pk_segment.specs.Fields.{IsHeader, header_field, is_sound, number_at};
 
 use pk_posting::{ByteSource, SourceFault};
@@ -34,7 +34,7 @@ pub struct Header {
 }
 
 impl Header {
-    // Whether it is of that kind, has a document, and its lengths add up to so many bytes.
+    /// Whether it is of that kind, has a document, and its lengths add up to so many bytes.
     pub fn is_sound(self, bytes: u32, kind: u32) -> bool
         ensures { result ≡ is_sound bytes kind self }
     {
@@ -55,11 +55,8 @@ pub fn header_of<S: ByteSource>(source: &mut S) -> Result<Header, SourceFault>
     ensures value { S.honest → IfOk result (IsHeader (header_field (S.content source.old))) }
     ensures inside { IsOk result → 24 ≤ length (S.content source.old) }
     ensures damaged { IsErrOf result SourceFault.Damaged ↔ (length (S.content source.old) < 24) }
-    ensures content { S.honest → S.content source.new ≡ S.content source.old }
-    ensures size { length (S.content source.new) ≡ length (S.content source.old) }
-    ensures asked { S.asked source.new ≤ S.asked source.old + 1 }
-    ensures keeps { S.keeps source.old source.new }
-    ensures faults { CountsFaults (S.failures source.old) (S.failures source.new) result }
+    ensures left { IsRead S.honest S.content S.asked S.failures S.keeps
+        1 result source.old source.new }
 {
     let field = source.bytes(0, 24)?;
     Ok(Header {

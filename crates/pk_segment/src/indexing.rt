@@ -1,14 +1,11 @@
 //! The segment of kind 2: the documents with their index.
 
-ghost use Rattle.std.specs.Prelude.{◌≡◌, ◌≤◌, ◌<◌, ◌+◌, ◌*◌, ◌^◌, ◌++◌, List, All, length, IfOk, IsOk, OnOk};
+ghost use Rattle.std.specs.Prelude.{◌≡◌, ◌≤◌, ◌<◌, ◌^◌, List, All, length, IfOk, IsOk};
 ghost use Rattle.std.specs.List.Sorted.{IsStrictlyIncreasing};
 ghost use Rattle.pk_index.specs.Index.{Keeps};
 ghost use Rattle.pk_index.specs.Terms.{AreRows};
 ghost use Rattle.pk_model.specs.Collection.{Doc, numbers_of};
-ghost use Rattle.pk_posting.specs.Posting.{IsPosting};
-ghost use Rattle.pk_posting.specs.Spelling.{spelling as list_spelling};
-ghost use Rattle.pk_segment.specs.Planning.{IsIndexPlan, PlansIndexAs, PlansListsAs};
-ghost use Rattle.pk_segment.specs.Indexed.{postings};
+ghost use Rattle.pk_segment.specs.Planning.{IndexesAs, IsIndexPlan, PlansIndexAs, size_in};
 ghost use Rattle.pk_segment.specs.Spelling.{
   AreDocuments,
   SegmentSpells,
@@ -17,13 +14,12 @@ ghost use Rattle.pk_segment.specs.Spelling.{
   segment_length,
 };
 
-use crate::building::{BuildFault, plain_size, put_front};
+use crate::building::{BuildFault, number_of, plain_size, put_front};
 use crate::header::Header;
-use pk_dict::DictWriter;
+use crate::index_writer::IndexWriter;
 use pk_index::{Index, Row, both_into};
 use pk_model::Document;
 use pk_model::limits::MAX_SEGMENT_BYTES;
-use pk_posting::{ListPlace, encode_into, length_of};
 use std::alloc::{AllocError, Global};
 
 /// The index of documents.
@@ -36,14 +32,6 @@ pub(crate) fn index_of(alloc: Global, documents: &[Document]) -> Result<Index, A
         index.add(alloc, document.number.0, document.text.as_str())?;
     }
     Ok(index)
-}
-
-// The number of a document; it has 32 bits.
-fn number_of(document: &Document) -> u32
-    ensures value { result ≡ document.now.number.0 }
-    ensures small { document.now.number.0 < 2 ^ 32 }
-{
-    document.number.0
 }
 
 // The numbers of documents; they have 32 bits.
@@ -61,63 +49,33 @@ fn numbers_in(alloc: Global, documents: &[Document]) -> Result<Vec<u32>, AllocEr
 /// What a segment of kind 2 is going to have, before it is put together.
 #[derive(Drop)]
 pub(crate) struct IndexPlan {
-    // How many words its documents have,
-    terms: usize,
-    // their dictionary,
-    writer: DictWriter,
-    // and their posting lists, end to end.
-    lists: Vec<u8>,
-    // How many bytes the header, the directory and the texts have,
-    plain: u32,
-    // and how many the segment.
-    size: u32,
+    // Its header,
+    header: Header,
+    // and its index.
+    index: IndexWriter,
 }
 
-// The dictionary of the words of documents, and their posting lists, end to end.
-fn plan_lists(
+// The index of documents, by the rows of the words that they have, with room for one list.
+fn index_rows(
     alloc: Global,
     documents: &[Document],
     live: &[u32],
     rows: &[Row],
     list: &mut [u32],
-) -> Result<(DictWriter, Vec<u8>), BuildFault>
+) -> Result<IndexWriter, BuildFault>
     requires are { AreDocuments (docs_of documents.now) }
     requires fits { segment_length (docs_of documents.now) 1 ≤ longest }
     requires live { live.now ≡ numbers_of (docs_of documents.now) }
     requires rows { AreRows rows.now (docs_of documents.now) }
     requires room { length live.now ≤ length list.old }
-    ensures planned { PlansListsAs (docs_of documents.now) result }
-    ensures room { length list.new ≡ length list.old }
+    ensures { IndexesAs (docs_of documents.now) result }
 {
-    let mut writer = DictWriter::new(alloc);
-    let mut lists = Vec::new(alloc);
+    let mut writer = IndexWriter::new(alloc, MAX_SEGMENT_BYTES);
     for row in rows {
         let count = both_into(live, row.list, list);
-        let at = lists.len() as u32;
-        let bytes = length_of(&list[..count]);
-        let place = ListPlace { at, bytes };
-        if bytes > MAX_SEGMENT_BYTES - at {
-            return Err(BuildFault::TooLarge);
-        }
-        if !writer.may_add(row.word.as_bytes(), count as u32, place) {
-            return Err(BuildFault::TooLarge);
-        }
-        writer.add(row.word.as_bytes(), count as u32, place)?;
-        put_list(&mut lists, &list[..count], bytes)?;
+        writer.add(row.word.as_bytes(), &list[..count])?;
     }
-    Ok((writer, lists))
-}
-
-// Puts a posting list of so many bytes behind the bytes.
-fn put_list(out: &mut Vec<u8>, list: &[u32], bytes: u32) -> Result<(), AllocError>
-    requires posting { IsPosting list.now }
-    requires bytes { bytes ≡ length (list_spelling list.now) }
-    ensures { OnOk result (out.new.items ≡ out.old.items ++ list_spelling list.now) }
-{
-    let at = out.len();
-    out.resize(at + bytes as usize, 0)?;
-    encode_into(list, &mut out[at..]);
-    Ok(())
+    Ok(writer)
 }
 
 impl IndexPlan {
@@ -133,30 +91,22 @@ impl IndexPlan {
         requires index { Keeps index.now (docs_of documents.now) }
         ensures { PlansIndexAs (docs_of documents.now) result }
     {
-        let plain = plain_size(documents)?;
+        let front = plain_size(documents)?;
         let live = numbers_in(alloc, documents)?;
         let rows = index.rows(alloc, &live)?;
         let mut list = vec![in alloc; 0u32; live.len()]?;
-        let (writer, lists) = plan_lists(alloc, documents, &live, &rows, &mut list)?;
-        let size = u64::from(plain) + lists.len() as u64 + writer.size() as u64;
-        if size > u64::from(MAX_SEGMENT_BYTES) {
-            return Err(BuildFault::TooLarge);
-        }
-        Ok(IndexPlan {
-            terms: rows.len(),
-            writer,
-            lists,
-            plain,
-            size: size as u32,
-        })
+        let index = index_rows(alloc, documents, &live, &rows, &mut list)?;
+        let header = index.header(documents.len() as u32, front)?;
+        Ok(IndexPlan { header, index })
     }
 
     /// How many bytes the segment has.
     pub(crate) fn size(&self) -> u32
+        requires { size_in self.now.header ≤ longest }
         ensures { (docs : List Doc) → IsIndexPlan docs self.now
             → (result ≡ segment_length docs 2) × (segment_length docs 2 ≤ longest) }
     {
-        self.size
+        self.header.size()
     }
 
     /// The bytes of the segment, in memory that is taken once.
@@ -164,27 +114,14 @@ impl IndexPlan {
         requires plan { IsIndexPlan (docs_of documents.now) self }
         ensures { IfOk result (λ v. SegmentSpells v.items (docs_of documents.now) 2) }
     {
-        let IndexPlan {
-            terms,
-            writer,
-            lists,
-            plain,
-            size,
-        } = self;
-        let count = documents.len() as u32;
-        let postings = lists.len() as u32;
-        let header = Header {
-            kind: 2,
-            count,
-            texts: plain - 24 - 12 * count,
-            postings,
-            dictionary: size - plain - postings,
-            terms: terms as u32,
+        let IndexPlan { header, mut index } = self;
+        let Some(lists) = index.take_lists() else {
+            return Err(AllocError);
         };
-        let mut out = Vec::with_capacity(alloc, size as usize)?;
+        let mut out = Vec::with_capacity(alloc, header.size() as usize)?;
         put_front(&mut out, header, documents)?;
         out.extend_from_slice(&lists)?;
-        let dictionary = writer.finish(alloc)?;
+        let dictionary = index.finish(alloc)?;
         out.extend_from_slice(&dictionary)?;
         Ok(out)
     }

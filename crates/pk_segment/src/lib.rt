@@ -22,9 +22,9 @@
 //! All fields are of 32 bits, lowest byte first. Numbers are at least 1 and rise strictly. The
 //! length is 24 + 12c + T + P + G, at most 1,073,741,824.
 //!
-//! The terms are the words that occur in the documents, folded, rising by their bytes. A term's list
-//! has the numbers of the documents that hold it (pk_posting), and the dictionary says how many
-//! these are and where the list lies (pk_dict): an inverted index (Manning, Raghavan, Schütze,
+//! The terms are the words that occur in the documents, folded, rising by their bytes. The list of
+//! a term has the numbers of the documents that hold it (pk_posting), and the dictionary says how
+//! many these are and where the list lies (pk_dict): an inverted index (Manning, Raghavan, Schütze,
 //! Introduction to Information Retrieval, 2008, chapter 1).
 //!
 //! # What is read
@@ -44,25 +44,34 @@
 //! others it returns. `open`, `contains`, `directory` and `numbers` go by the header and the
 //! directory alone, whatever else the bytes are (`DirectorySpells`); `list_of` and `terms` by these
 //! and the index, whatever bytes the texts are (`IndexSpells`). `Disk` is answered exactly where a
-//! read failed. A refused call changed nothing but the counts, and may be made again. Of the disk
-//! below each reader's clause `keeps` tells, through the source, that it was only read.
+//! read failed. A refused call changed nothing but the counts, and may be made again. That the
+//! source was only read, and the disk below, each reader's clause `left` tells.
+//!
+//! # What is written
 //!
 //! `build` cuts texts into words only where no index of them is at hand; `build_indexed` takes one
 //! (pk_index). The lengths of all lists are known before the segment's memory is taken, once.
 //!
+//! `IndexWriter` makes the index word by word, and then the header; `put_header` and `put_entry`
+//! write the bytes before the texts. A merge, which has no documents in memory, writes by them what
+//! `build` would.
+//!
 //! Where the words are: `specs/Spelling` has the spelling, `specs/Indexed` the index behind the
-//! texts, `specs/Listing` what is answered of words, `specs/Planning` what is known before writing, `specs/Opened` and `specs/Reading` what the
-//! readers answer, `specs/Directory` what a directory in memory says; what is kept of a disk is
-//! `KeepsDisk` of pk_disk. Lemma pages: `SegmentLemmas` reads a spelling again, field by
-//! field, `DirectoryLemmas` a directory, `IndexLemmas` and `ListingLemmas` the index, `PlanLemmas`
-//! serves its writing, `ReadLemmas` and `OpeningLemmas` the readers.
+//! texts, `specs/Listing` what is answered of words, `specs/Planning` what is known before writing,
+//! `specs/Opened` and `specs/Reading` what the readers answer, `specs/OnlyRead` what they leave of
+//! a source or a disk, `specs/Directory` what a directory in memory says. Lemma pages:
+//! `SegmentLemmas` reads a spelling again, field by field, `DirectoryLemmas` a directory,
+//! `IndexLemmas` and `ListingLemmas` the index, `PlanLemmas` serves its writing, `ReadLemmas` and
+//! `OpeningLemmas` the readers, `OnlyReadLemmas` calls one after the other.
 #![tactic(auto)]
 
 mod building;
 mod directory;
 mod extent;
 mod fault;
+mod front;
 mod header;
+mod index_writer;
 mod indexing;
 pub mod laws;
 mod listing;
@@ -70,7 +79,10 @@ mod segment;
 mod stretch;
 
 pub use building::{BuildFault, build, build_indexed, size_of};
-pub use directory::Directory;
+pub use directory::{Directory, Entry};
 pub use extent::ExtentSource;
 pub use fault::ReadFault;
+pub use front::{put_entry, put_header};
+pub use header::Header;
+pub use index_writer::IndexWriter;
 pub use segment::Segment;

@@ -1,10 +1,11 @@
 //! What a segment of kind 2 says of its words: the dictionary, and where the posting lists are.
 
-ghost use Rattle.std.specs.Prelude.{◌≡◌, ◌≤◌, ◌+◌, ◌*◌, List, length};
+ghost use Rattle.std.specs.Prelude.{◌≤◌, ◌+◌, ◌*◌, List, length};
 ghost use Rattle.pk_dict.specs.Source.{stretches_of};
 ghost use Rattle.pk_model.specs.Collection.{Doc};
-ghost use Rattle.pk_posting.specs.Source.{CountsFaults};
+ghost use Rattle.pk_posting.specs.Source.{IsRead};
 ghost use Rattle.pk_segment.specs.Listing.{BegunAs, ListedAs, PlacedAs, TermsAs};
+ghost use Rattle.pk_segment.specs.OnlyRead.{ReadsSource};
 ghost use Rattle.pk_segment.specs.Opened.{IsSegmentOf};
 ghost use Rattle.pk_segment.specs.Reading.{CountsReads};
 ghost use Rattle.pk_segment.specs.Spelling.{IndexSpells};
@@ -21,11 +22,8 @@ impl Segment {
     pub fn dictionary<S: ByteSource>(&self, source: &mut S) -> Result<DictPlace, SourceFault>
         ensures place { S.honest → (docs : List Doc) → IndexSpells (S.content source.old) docs
             → IsSegmentOf self.now docs → PlacedAs docs result }
-        ensures content { S.honest → S.content source.new ≡ S.content source.old }
-        ensures size { length (S.content source.new) ≡ length (S.content source.old) }
-        ensures asked { S.asked source.new ≤ S.asked source.old + 1 }
-        ensures keeps { S.keeps source.old source.new }
-        ensures faults { CountsFaults (S.failures source.old) (S.failures source.new) result }
+        ensures left { IsRead S.honest S.content S.asked S.failures S.keeps
+            1 result source.old source.new }
     {
         let header = header_of(source)?;
         let Some(at) = self.postings().checked_add(header.postings) else {
@@ -50,12 +48,9 @@ impl Segment {
     ) -> Result<Option<Entry>, ReadFault>
         ensures listed { S.honest → (docs : List Doc) → IndexSpells (S.content source.old) docs
             → IsSegmentOf self.now docs → ListedAs docs word.now result }
-        ensures content { S.honest → S.content source.new ≡ S.content source.old }
-        ensures size { length (S.content source.new) ≡ length (S.content source.old) }
+        ensures left { ReadsSource S.ByteSource CountsReads result source.old source.new }
         ensures asked { S.asked source.new
             ≤ S.asked source.old + 1 + 44 * (6 + stretches_of (length word.now)) }
-        ensures keeps { S.keeps source.old source.new }
-        ensures faults { CountsReads (S.failures source.old) (S.failures source.new) result }
     {
         let place = self.dictionary(source)?;
         let mut long = [0; MOST_LENT];
@@ -73,10 +68,7 @@ impl Segment {
     ) -> Result<Vec<(Vec<u8>, Entry)>, ReadFault>
         ensures terms { S.honest → (docs : List Doc) → IndexSpells (S.content source.old) docs
             → IsSegmentOf self.now docs → TermsAs docs result }
-        ensures content { S.honest → S.content source.new ≡ S.content source.old }
-        ensures size { length (S.content source.new) ≡ length (S.content source.old) }
-        ensures keeps { S.keeps source.old source.new }
-        ensures faults { CountsReads (S.failures source.old) (S.failures source.new) result }
+        ensures left { ReadsSource S.ByteSource CountsReads result source.old source.new }
     {
         self.entries_of(alloc, source, &[])
     }
@@ -92,10 +84,7 @@ impl Segment {
     ) -> Result<Vec<(Vec<u8>, Entry)>, ReadFault>
         ensures entries { S.honest → (docs : List Doc) → IndexSpells (S.content source.old) docs
             → IsSegmentOf self.now docs → BegunAs docs prefix.now result }
-        ensures content { S.honest → S.content source.new ≡ S.content source.old }
-        ensures size { length (S.content source.new) ≡ length (S.content source.old) }
-        ensures keeps { S.keeps source.old source.new }
-        ensures faults { CountsReads (S.failures source.old) (S.failures source.new) result }
+        ensures left { ReadsSource S.ByteSource CountsReads result source.old source.new }
     {
         let place = self.dictionary(source)?;
         let mut long = [0; MOST_LENT];

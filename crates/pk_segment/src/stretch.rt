@@ -12,6 +12,7 @@ ghost use Rattle.std.specs.Prelude.{
   IfOk,
   IsErrOf,
 };
+ghost use Rattle.pk_segment.specs.OnlyRead.{ReadsSource};
 ghost use Rattle.pk_segment.specs.Reading.{CountsReads, asks_for};
 
 use crate::fault::ReadFault;
@@ -31,11 +32,8 @@ pub fn stretch<S: ByteSource>(
     ensures len { IfOk result (λ out. length out.items ≡ len) }
     ensures damaged { IsErrOf result ReadFault.Damaged
         → length (S.content source.old) < at + len }
-    ensures content { S.honest → S.content source.new ≡ S.content source.old }
-    ensures size { length (S.content source.new) ≡ length (S.content source.old) }
+    ensures left { ReadsSource S.ByteSource CountsReads result source.old source.new }
     ensures asked { S.asked source.new ≤ S.asked source.old + asks_for len }
-    ensures keeps { S.keeps source.old source.new }
-    ensures faults { CountsReads (S.failures source.old) (S.failures source.new) result }
 {
     let mut out = Vec::with_capacity(alloc, len as usize)?;
     let mut done = 0;

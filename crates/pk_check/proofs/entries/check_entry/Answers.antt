@@ -21,8 +21,8 @@ returns-in_err-left-clause-checked g c = λ honest.
     let e = c.args.entry in
     let seg = c.in_ok-numbers.ensures.checked honest in
     let found = err_from_is_err_and c.from_residual-in_err-left.result c.from_residual-in_err-left.ensures.1 in
-    let none = c.in_err-left.ensures.left honest seg.documents (c.deref.ensures.value ∙ seg.numbers_are) seg.spelled.are.rising in
-    let here = subst (λ (b : List ℕ). DeletionFailsAs b e.dead seg.documents c.in_err-left.field-0.0) (c.check_extent.ensures.keeps.read honest).bytes none in
+    let none = c.in_err-left.ensures.deletes honest seg.documents (c.deref.ensures.value ∙ seg.numbers_are) seg.spelled.are.rising in
+    let here = subst (λ (b : List ℕ). DeletionFailsAs b e.dead seg.documents c.in_err-left.field-0.0) (c.check_extent.ensures.left.keeps.read honest).bytes none in
     subst (λ (r : Result CheckedEntry ReadFault). ChecksEntryAs bytes e c.args.low c.args.next r) (sym (found.1 ∙ ap Err found.2))
     (entry_fails bytes e c.args.low c.args.next c.in_ok-numbers.numbers.items seg c.in_err-left.field-0.0 here)
 
@@ -32,7 +32,7 @@ returns-clause-checked g c = λ honest.
     let e = c.args.entry in
     let numbers = c.in_ok-numbers.numbers in
     let seg = c.in_ok-numbers.ensures.checked honest in
-    let many = c.in_ok-left.ensures.left honest seg.documents (c.deref.ensures.value ∙ seg.numbers_are) seg.spelled.are.rising in
-    let here = subst (λ (b : List ℕ). LeavesMany b e.dead seg.documents c.in_ok-left.left) (c.check_extent.ensures.keeps.read honest).bytes many in
+    let many = c.in_ok-left.ensures.deletes honest seg.documents (c.deref.ensures.value ∙ seg.numbers_are) seg.spelled.are.rising in
+    let here = subst (λ (b : List ℕ). LeavesMany b e.dead seg.documents c.in_ok-left.left) (c.check_extent.ensures.left.keeps.read honest).bytes many in
     entry_is bytes e c.args.low c.args.next numbers.items seg c.index.result.now c.index-last.result.now (c.len.result - 1)
     c.index.ensures c.index-last.ensures (omega (arith, c.len.ensures, numbers.ok)) c.in_ok-left.left here (omega (arith, c.if-index-low.false)) (omega (arith, c.if-last-next.false))

@@ -1,13 +1,14 @@
 -- Up to each place before which just the first of those noted lie, what the inputs leave is joined.
-use Rattle.std.proofs.Common.{◌≡◌, ℕ, List, Some, length, take}
+use Rattle.std.proofs.Common.{◌≡◌, ℕ, List, Ok, Some, length, take}
 use Rattle.std.specs.Prelude.{All}
-use Rattle.pk_disk.specs.Frames.{KeepsDisk}
 use Rattle.pk_join.specs.declared.input.MergeInput.{MergeInput}
 use Rattle.pk_join.specs.Inputs.{SpellsInputs}
 use Rattle.pk_join.specs.Joining.{joined_in}
 use Rattle.pk_join.specs.WalkInput.{HaveExtentsOf, Holds, StandAs, heads_of, lists_of}
 use Rattle.pk_join.specs.Walking.{AreListed, CanHold, IsAtHeads, least_of}
+use Rattle.pk_posting.specs.Source.{CountsFaults}
 use Rattle.pk_segment.specs.Indexed.{list_with}
+use Rattle.pk_segment.specs.OnlyRead.{ReadsDisk}
 use Rattle.pk_state.specs.Committed.{Stored, live_in}
 use Rattle.pk_join.proofs.JoinNoted.{IsGap}
 use Rattle.pk_join.proofs.walking.join_noted.Given as goal
@@ -16,8 +17,7 @@ abbrev pub invariant-loop-k : goal.invariant-loop-k
 invariant-loop-k g l =
     let disk = g.D.Disk in
     record {
-      keeps : KeepsDisk disk l.fn.disk l.disk;
-      reads : disk.failed_reads l.disk ≡ disk.failed_reads l.fn.disk;
+      left : ReadsDisk disk CountsFaults (Ok (tt {0})) l.fn.disk l.disk;
       room : l.list.joined.room ≡ l.fn.list.joined.room;
       made : length l.list.made.items ≡ length l.fn.list.made.items;
       stand : StandAs l.fn.inputs l.inputs;

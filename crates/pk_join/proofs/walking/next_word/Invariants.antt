@@ -1,12 +1,13 @@
 -- The inputs leave nothing of the words that were passed here, so as many terms are to come.
-use Rattle.std.proofs.Common.{◌≡◌, ◌≤◌, List, ℕ, length}
+use Rattle.std.proofs.Common.{◌≡◌, ◌≤◌, List, ℕ, Ok, length}
 use Rattle.std.specs.Prelude.{All}
-use Rattle.pk_disk.specs.Frames.{KeepsDisk}
 use Rattle.pk_join.specs.declared.input.MergeInput.{MergeInput}
 use Rattle.pk_join.specs.Inputs.{SpellsInputs}
 use Rattle.pk_join.specs.Joining.{room_in}
 use Rattle.pk_join.specs.WalkInput.{HaveExtentsOf, Holds, extents_of, heads_of, keys_of, lists_of}
 use Rattle.pk_join.specs.Walking.{AreListed, CanHold, Walks, to_come}
+use Rattle.pk_posting.specs.Source.{CountsFaults}
+use Rattle.pk_segment.specs.OnlyRead.{ReadsDisk}
 use Rattle.pk_state.specs.Committed.{Stored}
 use Rattle.pk_join.proofs.walking.next_word.Given as goal
 
@@ -17,8 +18,7 @@ abbrev pub invariant-words : goal.invariant-words
 invariant-words g l =
     let disk = g.D.Disk in
     record {
-      keeps : KeepsDisk disk l.fn.disk l.disk;
-      reads : disk.failed_reads l.disk ≡ disk.failed_reads l.fn.disk;
+      left : ReadsDisk disk CountsFaults (Ok (tt {0})) l.fn.disk l.disk;
       room : room_in l.list.joined ≡ room_in l.fn.list.joined;
       made : length l.list.made.items ≡ length l.fn.list.made.items;
       found : length l.found ≡ length l.fn.found;

@@ -8,8 +8,8 @@ use Rattle.pk_merge.proofs.front.front_of.Goals as goal
 
 pub returns-clause-long : goal.returns-clause-long
 returns-clause-long c =
-    let n = c.args.counts in
-    let head = header 2 n.documents n.texts n.postings n.dictionary n.terms in
+    let h = c.args.h in
+    let head = header h.kind h.count h.texts h.postings h.dictionary h.terms in
     let entries = kept_directory 0 c.args.documents.now in
     omega (
       arith,
@@ -18,7 +18,6 @@ returns-clause-long c =
       ap length c.in_ok-front.ensures.items,
       length-append c.in_ok-front.front.items head,
       length-append c.put_header.new.out.items entries,
-      length_header 2 n.documents n.texts n.postings
-          n.dictionary n.terms,
+      length_header h.kind h.count h.texts h.postings h.dictionary h.terms,
       length_kept_directory 0 c.args.documents.now,
     )

@@ -30,14 +30,14 @@ pub loop-i-init : goal.loop-i-init
 loop-i-init g c =
     let content = g.S.ByteSource.content in
     record {
-      same = λ h. c.directory.ensures.content h ∙ c.«open».ensures.content h;
-      kept = g.met.S.ByteSource.keeps_then _ _ _ c.«open».ensures.keeps c.directory.ensures.keeps;
-      failures = c.in_ok-directory.ensures.faults.ok ∙ c.in_ok-segment.ensures.faults.ok;
+      same = λ h. c.directory.ensures.left.same h ∙ c.«open».ensures.left.same h;
+      kept = g.met.S.ByteSource.keeps_then _ _ _ c.«open».ensures.left.kept c.directory.ensures.left.kept;
+      failures = c.in_ok-directory.ensures.left.faults.ok ∙ c.in_ok-segment.ensures.left.faults.ok;
       ready = λ h docs is.
           let before = directory_of (content c.args.source.now) docs c.args.kind is in
           let of = c.in_ok-segment.ensures.directory h docs before c.len-bytes.ensures in
           let after = subst (λ (x : List ℕ). DirectorySpells x docs c.args.kind)
-          (sym (c.in_ok-segment.ensures.content h)) before in
+          (sym (c.in_ok-segment.ensures.left.same h)) before in
           (of, c.in_ok-directory.ensures.directory h docs c.args.kind after of);
       left = λ h docs more is rise. sym (append-nil (docs_in c.args.gathered.now));
       rise = λ h docs more is rise. rise;

@@ -12,13 +12,14 @@ words-init g c = record {
   keeps = keeps_disk_none _ _;
   reads = refl;
   same = same_walk_none c.args.walk.now;
-  written = c.new-plan.ensures.written;
+  entries = c.new-index.ensures.entries;
+  most_kept = c.new-index.ensures.most_kept;
   come =
       λ honest inputs stored come. (
         [],
         terms_of (live_in stored),
         come,
-        c.new-plan.ensures.planned (live_in stored),
+        c.new-index.ensures.words (live_in stored),
       );
 }
 

@@ -4,7 +4,8 @@ use Rattle.pk_disk.specs.Frames.{KeepsDisk}
 use Rattle.pk_join.specs.declared.input.MergeInput.{MergeInput}
 use Rattle.pk_join.specs.Walk.{HasCome, IsSameWalk, words_to_come}
 use Rattle.pk_model.specs.Terms.{terms_of}
-use Rattle.pk_merge.specs.Planned.{HasPlanned, IsWritten}
+use Rattle.pk_merge.specs.declared.lists.TheConstants.{MOST_KEPT_LISTS}
+use Rattle.pk_segment.specs.Planning.{HasEntries, HasWords}
 use Rattle.pk_state.specs.Committed.{Stored, live_in}
 use Rattle.pk_merge.proofs.planning.plan_words.Given as goal
 
@@ -18,9 +19,10 @@ invariant-words g l =
       keeps : KeepsDisk disk l.fn.disk l.disk;
       reads : disk.failed_reads l.disk ≡ disk.failed_reads l.fn.disk;
       same : IsSameWalk l.fn.walk l.walk;
-      written : IsWritten l.plan;
+      entries : HasEntries l.index;
+      most_kept : l.index.most_kept ≡ MOST_KEPT_LISTS;
       come : disk.honest → (inputs : List MergeInput) (stored : List Stored)
           → HasCome (disk.content l.fn.disk) inputs stored l.fn.walk [] (terms_of (live_in stored))
           → (xs : List (List ℕ)) × (ys : List (List ℕ)) × HasCome (disk.content l.disk) inputs stored l.walk
-          xs ys × HasPlanned l.plan xs (live_in stored);
+          xs ys × HasWords l.index xs (live_in stored);
     }

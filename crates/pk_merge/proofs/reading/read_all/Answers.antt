@@ -1,13 +1,15 @@
 -- One input after the other.
-use Rattle.std.proofs.Common.{◌∙◌, ◌∷◌, ◌++◌, [], ◌<◌, ◌+◌, List, ℕ, length, take, drop, refl, sym, subst, arith}
+use Rattle.std.proofs.Common.{◌∙◌, ◌∷◌, ◌++◌, [], ◌<◌, ◌≤◌, ◌+◌, List, ℕ, length, take, drop, refl, sym, ap, subst, arith}
 use Rattle.std.specs.Prelude.{All}
 use Rattle.std.proofs.lemmas.List.{take_all}
-use Rattle.std.proofs.lemmas.List.Elements.{All-push}
+use Rattle.std.proofs.lemmas.List.Elements.{All-nil, All-push}
 use Rattle.std.proofs.lemmas.Result.{err_from_is_err_and}
-use Rattle.pk_disk.proofs.FrameLemmas.{keeps_disk_then}
+use Rattle.pk_disk.specs.Units.{extent_bytes}
+use Rattle.pk_disk.proofs.FrameLemmas.{keeps_disk_none, keeps_disk_then}
 use Rattle.pk_join.specs.declared.input.MergeInput.{MergeInput}
 use Rattle.pk_join.specs.declared.lists.InputLists.{InputLists}
-use Rattle.pk_join.specs.WalkInput.{HaveExtentsOf, IsBefore, lists_of}
+use Rattle.pk_join.specs.declared.walk_input.Input.{Input}
+use Rattle.pk_join.specs.WalkInput.{HaveExtentsOf, IsBefore, extents_of, lists_of}
 use Rattle.pk_join.specs.Inputs.{SpellsInputs}
 use Rattle.pk_join.specs.Listed.{AreListsOf}
 use Rattle.pk_join.specs.Walking.{AreListed, stored_at}
@@ -16,18 +18,21 @@ use Rattle.pk_join.proofs.WalkLemmas.{inputs_more, listed_snoc}
 use Rattle.pk_model.specs.Collection.{Doc}
 use Rattle.pk_state.specs.Committed.{Stored, all_in, live_in}
 use Rattle.pk_merge.specs.declared.fault.MergeFault.{MergeFault}
+use Rattle.pk_merge.specs.Counting.{count_said, counts_said, numbers_listed}
 use Rattle.pk_merge.specs.Gathering.{RiseFrom, left_by}
-use Rattle.pk_merge.specs.Keeping.{AreKept}
+use Rattle.pk_merge.specs.declared.kept.Kept.{Kept}
+use Rattle.pk_merge.specs.Keeping.{AreKept, StayApart}
 use Rattle.pk_merge.specs.Left.{kept_in}
 use Rattle.pk_merge.specs.Merging.{MergeFails}
 use Rattle.pk_merge.specs.Output.{LiesApart}
+use Rattle.pk_merge.proofs.CountLemmas.{counts_next, numbers_next}
 use Rattle.pk_merge.proofs.GatherLemmas.{fails_longer, left_next, left_on}
-use Rattle.pk_merge.proofs.InputLemmas.{all_on, live_here}
+use Rattle.pk_merge.proofs.InputLemmas.{all_on, live_here, rise_all}
 use Rattle.pk_merge.proofs.ReadLemmas.{pushed_extents, pushed_lists}
 use Rattle.pk_merge.proofs.reading.read_all.Goals as goal
 
 pub returns-in_err-lists-clause-read : goal.returns-in_err-lists-clause-read
-returns-in_err-lists-clause-read g c = λ honest so_far stored spells rise are.
+returns-in_err-lists-clause-read g c = λ honest stored spells rising.
     let content = g.D.Disk.content in
     let inv = c.loop-input.invariant in
     let i = c.loop-input.input-index in
@@ -45,20 +50,40 @@ returns-in_err-lists-clause-read g c = λ honest so_far stored spells rise are.
     let here = subst (λ (b : List ℕ). SpellsInputs b c.args.inputs.now stored) (sym same) spells in
     let input = input_at (content c.loop-input.disk) c.args.inputs.now stored i x here c.loop-input-test.true
     c.input-item.is in
-    let known = inv.read honest so_far stored spells rise are in
+    let known = inv.read honest stored spells rising in
     let next = subst (λ (ds : List Doc). RiseFrom c.loop-input.left.last ds) (all_on stored i lt) known.2 in
-    let before = so_far ++ live_in (take i stored) in
+    let before = live_in (take i stored) in
     let kept = subst (λ (b : List ℕ). AreKept b (kept_in c.loop-input.left) before) (sym same) known.1 in
     let part = left_by dead s.documents in
     let fault = c.in_err-lists.ensures.read honest before s.documents (all_in (drop (i + 1) stored))
     input.segment next kept in
-    let on = left_on live_in live_append stored i s so_far before part (take_stored stored i lt)
+    let on = left_on live_in live_append stored i s [] before part (take_stored stored i lt)
     (live_here dead s input.dead) refl in
     let found = err_from_is_err_and c.from_residual-in_err-lists.result
     c.from_residual-in_err-lists.ensures.1 in
-    rw found.1 (subst (λ (y : MergeFault). MergeFails (so_far ++ live_in stored) 1 y) (sym found.2)
-    (fails_longer (before ++ part) (live_in (drop (i + 1) stored)) (so_far ++ live_in stored)
+    rw found.1 (subst (λ (y : MergeFault). MergeFails (live_in stored) 1 y) (sym found.2)
+    (fails_longer (before ++ part) (live_in (drop (i + 1) stored)) (live_in stored)
     c.in_err-lists.field-0.0 on fault))
+
+pub loop-input-init : goal.loop-input-init
+loop-input-init g c =
+    let content = g.D.Disk.content c.args.disk.now in
+    let none = c.new-left.ensures.documents in
+    record {
+      keeps = keeps_disk_none _ _;
+      reads = refl;
+      disk_bytes = c.new-left.ensures.disk_bytes ∙ c.len.ensures;
+      apart = subst (StayApart c.args.inputs.now) (sym none) (λ start end all k d within. absurd (omega (arith, within)));
+      enough = λ honest. omega arith;
+      extents = ap extents_of (sym c.in_ok-read.ensures.items);
+      before = subst (All IsBefore) (sym c.in_ok-read.ensures.items) (All-nil IsBefore);
+      read = λ honest stored spells rising. (
+        subst (λ (is : List Input). AreListed [] (lists_of is) []) (sym c.in_ok-read.ensures.items) tt,
+        subst (λ (ks : List Kept). AreKept content ks []) (sym none) tt,
+        subst (λ (n : ℕ). RiseFrom n (all_in stored)) (sym c.new-left.ensures.last)
+            (rise_all content c.args.inputs.now stored spells rising),
+      );
+    }
 
 pub loop-input-preserved : goal.loop-input-preserved
 loop-input-preserved g c =
@@ -71,16 +96,30 @@ loop-input-preserved g c =
       keeps = keeps_disk_then _ _ _ _ inv.keeps c.read_input.ensures.keeps;
       reads = c.in_ok-lists.ensures.reads.ok ∙ inv.reads;
       disk_bytes = c.read_input.ensures.disk_bytes ∙ inv.disk_bytes;
-      apart = λ before start end all. c.in_ok-lists.ensures.between start end
+      apart = λ start end all. c.in_ok-lists.ensures.between start end
           (subst (LiesApart start end) (sym c.input-item.is) (all i x c.loop-input-test.true))
-          (inv.apart before start end all);
+          (inv.apart start end all);
+      enough = λ honest.
+          let more = inputs_more c.args.inputs.now i x c.loop-input-test.true c.input-item.is in
+          let before = take i c.args.inputs.now in
+          omega (
+            arith,
+            inv.enough honest,
+            ap (counts_said (content c.args.disk.now)) more,
+            counts_next (content c.args.disk.now) before x,
+            ap numbers_listed more,
+            numbers_next before x,
+            subst (λ (b : List ℕ). count_said (extent_bytes b x.extent) + length (kept_in c.loop-input.left)
+                ≤ length (kept_in c.read_input.new.left) + length x.dead.now) (inv.keeps.read honest).bytes
+                (c.in_ok-lists.ensures.enough honest),
+          );
       extents = pushed_extents c.args.inputs.now i x c.loop-input.read.items c.push.new.self.items y
           c.loop-input-test.true c.input-item.is c.in-Ok.ensures.items c.in_ok-before.ensures.extent
           inv.extents;
       before = subst (All IsBefore) (sym c.in-Ok.ensures.items)
           (All-push IsBefore c.loop-input.read.items y inv.before
           (record { head = c.in_ok-before.ensures.start; ahead = c.in_ok-before.ensures.none }));
-      read = λ honest so_far stored spells rise are.
+      read = λ honest stored spells rising.
           let s = stored_at stored i in
           let dead = x.dead.now in
           let lt : i < length stored =
@@ -94,16 +133,16 @@ loop-input-preserved g c =
           let here = subst (λ (b : List ℕ). SpellsInputs b c.args.inputs.now stored) (sym same) spells in
           let input = input_at (content c.loop-input.disk) c.args.inputs.now stored i x here
           c.loop-input-test.true c.input-item.is in
-          let known = inv.read honest so_far stored spells rise are in
+          let known = inv.read honest stored spells rising in
           let next = subst (λ (ds : List Doc). RiseFrom c.loop-input.left.last ds) (all_on stored i lt)
           known.2 in
-          let before = so_far ++ live_in (take i stored) in
+          let before = live_in (take i stored) in
           let kept = subst (λ (b : List ℕ). AreKept b (kept_in c.loop-input.left) before) (sym same)
           known.1 in
           let part = left_by dead s.documents in
           let has = c.in_ok-lists.ensures.read honest before s.documents (all_in (drop (i + 1) stored))
           input.segment next kept in
-          let all = left_next live_in live_append stored i s so_far before part (take_stored stored i lt)
+          let all = left_next live_in live_append stored i s [] before part (take_stored stored i lt)
           (live_here dead s input.dead) refl in
           let listed = subst (AreListsOf c.in_ok-lists.lists x.kind s.documents) input.dead has.listed in
           let more = listed_snoc (take i c.args.inputs.now) (lists_of c.loop-input.read.items) (take i stored)
@@ -119,24 +158,24 @@ loop-input-preserved g c =
                 (lists_of c.loop-input.read.items ++ c.in_ok-lists.lists ∷ []))
                 (sym (take_stored stored i lt)) more)),
             subst (λ (b : List ℕ). AreKept b (kept_in c.read_input.new.left)
-                (so_far ++ live_in (take (i + 1) stored))) same
+                (live_in (take (i + 1) stored))) same
                 (subst (AreKept (content c.loop-input.disk) (kept_in c.read_input.new.left)) all has.kept),
             has.rise,
           );
     }
 
 pub returns-clause-read : goal.returns-clause-read
-returns-clause-read g c = λ honest so_far stored spells rise are.
+returns-clause-read g c = λ honest stored spells rising.
     let content = g.D.Disk.content in
     let i = c.loop-input.input-index in
-    let known = c.loop-input.invariant.read honest so_far stored spells rise are in
+    let known = c.loop-input.invariant.read honest stored spells rising in
     let long = inputs_long (content c.args.disk.now) c.args.inputs.now stored spells in
     let all = take_all i stored (omega (arith, c.loop-input-test.false, long)) in
     let each = take_all i c.args.inputs.now (omega (arith, c.loop-input-test.false)) in (
       subst (λ (is : List MergeInput). AreListed is (lists_of c.loop-input.read.items) stored) each
           (subst (AreListed (take i c.args.inputs.now) (lists_of c.loop-input.read.items)) all known.0),
       subst (λ (ss : List Stored). AreKept (content c.args.disk.now) (kept_in c.loop-input.left)
-          (so_far ++ live_in ss)) all known.1,
+          (live_in ss)) all known.1,
     )
 
 pub returns-clause-extents : goal.returns-clause-extents
@@ -144,3 +183,14 @@ returns-clause-extents g c =
     let i = c.loop-input.input-index in
     subst (λ (is : List MergeInput). HaveExtentsOf is c.loop-input.read.items)
     (take_all i c.args.inputs.now (omega (arith, c.loop-input-test.false))) c.loop-input.invariant.extents
+
+pub returns-clause-enough : goal.returns-clause-enough
+returns-clause-enough g c = λ honest.
+    let i = c.loop-input.input-index in
+    let each = take_all i c.args.inputs.now (omega (arith, c.loop-input-test.false)) in
+    omega (
+      arith,
+      c.loop-input.invariant.enough honest,
+      ap (counts_said (g.D.Disk.content c.args.disk.now)) each,
+      ap numbers_listed each,
+    )

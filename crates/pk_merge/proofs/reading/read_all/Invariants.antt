@@ -1,12 +1,14 @@
 -- The inputs so far were read, and the documents of the others rise.
-use Rattle.std.proofs.Common.{◌≡◌, ◌++◌, List, take, drop}
+use Rattle.std.proofs.Common.{◌≡◌, ◌≤◌, ◌+◌, List, length, take, drop}
 use Rattle.std.specs.Prelude.{All}
+use Rattle.std.specs.List.Sorted.{IsStrictlyIncreasing}
 use Rattle.pk_disk.specs.Frames.{KeepsDisk}
 use Rattle.pk_join.specs.Inputs.{SpellsInputs}
 use Rattle.pk_join.specs.WalkInput.{HaveExtentsOf, IsBefore, lists_of}
 use Rattle.pk_join.specs.Walking.{AreListed}
-use Rattle.pk_model.specs.Collection.{Doc}
+use Rattle.pk_model.specs.Collection.{numbers_of}
 use Rattle.pk_state.specs.Committed.{Stored, all_in, live_in}
+use Rattle.pk_merge.specs.Counting.{counts_said, numbers_listed}
 use Rattle.pk_merge.specs.Gathering.{RiseFrom}
 use Rattle.pk_merge.specs.Keeping.{AreKept, StayApart}
 use Rattle.pk_merge.specs.Left.{kept_in}
@@ -18,14 +20,15 @@ invariant-loop-input g l =
     record {
       keeps : KeepsDisk disk l.fn.disk l.disk;
       reads : disk.failed_reads l.disk ≡ disk.failed_reads l.fn.disk;
-      disk_bytes : l.left.disk_bytes ≡ l.fn.left.disk_bytes;
-      apart : StayApart l.inputs (kept_in l.fn.left) → StayApart l.inputs (kept_in l.left);
+      disk_bytes : l.left.disk_bytes ≡ length (disk.content l.fn.disk);
+      apart : StayApart l.inputs (kept_in l.left);
+      enough : disk.honest → counts_said (disk.content l.fn.disk) (take l.input-index l.inputs)
+          ≤ length (kept_in l.left) + numbers_listed (take l.input-index l.inputs);
       extents : HaveExtentsOf (take l.input-index l.inputs) l.read.items;
       before : All IsBefore l.read.items;
-      read : disk.honest → (so_far : List Doc) (stored : List Stored)
-          → SpellsInputs (disk.content l.fn.disk) l.inputs stored → RiseFrom l.fn.left.last (all_in stored)
-          → AreKept (disk.content l.fn.disk) (kept_in l.fn.left) so_far
+      read : disk.honest → (stored : List Stored) → SpellsInputs (disk.content l.fn.disk) l.inputs stored
+          → IsStrictlyIncreasing (numbers_of (all_in stored))
           → AreListed (take l.input-index l.inputs) (lists_of l.read.items) (take l.input-index stored)
-          × AreKept (disk.content l.fn.disk) (kept_in l.left) (so_far ++ live_in (take l.input-index stored))
+          × AreKept (disk.content l.fn.disk) (kept_in l.left) (live_in (take l.input-index stored))
           × RiseFrom l.left.last (all_in (drop l.input-index stored));
     }

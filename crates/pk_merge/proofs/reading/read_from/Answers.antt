@@ -30,7 +30,7 @@ returns-in_err-take_all-clause-read g c = λ honest bytes so_far docs more part 
     let before = directory_of content docs c.args.input.now.kind is in
     let of = c.in_ok-segment.ensures.directory honest docs before c.len-bytes.ensures in
     let after = subst (λ (x : List ℕ). DirectorySpells x docs c.args.input.now.kind)
-    (sym (c.in_ok-segment.ensures.content honest)) before in
+    (sym (c.in_ok-segment.ensures.left.same honest)) before in
     let dir = c.in_ok-directory.ensures.directory honest docs c.args.input.now.kind after of in
     let texts : c.saturating_add-texts.result ≡ c.args.start + (24 + 12 * length docs) =
     omega (
@@ -59,10 +59,10 @@ returns-in_err-lists-clause-read g c = λ honest bytes so_far docs more part is 
     let before = directory_of content docs c.args.input.now.kind is in
     let of = c.in_ok-segment.ensures.directory honest docs before c.len-bytes.ensures in
     let after = subst (λ (x : List ℕ). DirectorySpells x docs c.args.input.now.kind)
-    (sym (c.in_ok-segment.ensures.content honest)) before in
+    (sym (c.in_ok-segment.ensures.left.same honest)) before in
     let dir = c.in_ok-directory.ensures.directory honest docs c.args.input.now.kind after of in
     let here = subst (λ (x : List ℕ). SegmentSpells x docs c.args.input.now.kind)
-    (sym (c.in_ok-directory.ensures.content honest ∙ c.in_ok-segment.ensures.content honest)) is in
+    (sym (c.in_ok-directory.ensures.left.same honest ∙ c.in_ok-segment.ensures.left.same honest)) is in
     let cause = c.in_err-lists.ensures.listed honest docs here of dir in
     let found = err_from_is_err_and c.from_residual-in_err-lists.result
     c.from_residual-in_err-lists.ensures.1 in
@@ -76,7 +76,7 @@ returns-clause-read g c = λ honest bytes so_far docs more part is rise are.
     let before = directory_of content docs c.args.input.now.kind is in
     let of = c.in_ok-segment.ensures.directory honest docs before c.len-bytes.ensures in
     let after = subst (λ (x : List ℕ). DirectorySpells x docs c.args.input.now.kind)
-    (sym (c.in_ok-segment.ensures.content honest)) before in
+    (sym (c.in_ok-segment.ensures.left.same honest)) before in
     let dir = c.in_ok-directory.ensures.directory honest docs c.args.input.now.kind after of in
     let texts : c.saturating_add-texts.result ≡ c.args.start + (24 + 12 * length docs) =
     omega (
@@ -95,7 +95,7 @@ returns-clause-read g c = λ honest bytes so_far docs more part is rise are.
     let taken = c.in_ok-take_all.ensures.taken bytes so_far docs more c.args.input.now.kind dir stand rise
     are in
     let here = subst (λ (x : List ℕ). SegmentSpells x docs c.args.input.now.kind)
-    (sym (c.in_ok-directory.ensures.content honest ∙ c.in_ok-segment.ensures.content honest)) is in
+    (sym (c.in_ok-directory.ensures.left.same honest ∙ c.in_ok-segment.ensures.left.same honest)) is in
     record { listed = c.in_ok-lists.ensures.listed honest docs here of dir; kept = taken.0; rise = taken.1 }
 
 pub returns-clause-between : goal.returns-clause-between
@@ -106,3 +106,14 @@ returns-clause-between g c =
     c.args.start (c.args.start + length content)
     (omega (arith, c.saturating_add-texts.ensures, c.ranges.start.fits))
     (omega (arith, c.from-2.ensures, c.len-bytes.ensures)) c.in_ok-take_all.ensures.between
+
+pub returns-clause-enough : goal.returns-clause-enough
+returns-clause-enough g c = λ honest.
+    let opened = c.in_ok-segment.ensures.opened honest in
+    omega (
+      arith,
+      opened.count_is,
+      opened.read.count_is,
+      c.in_ok-directory.ensures.len,
+      c.in_ok-take_all.ensures.enough,
+    )

@@ -14,7 +14,7 @@ loop-d-preserved c = record {
   numbers =
       let lt : c.loop-d.d-index < length c.args.documents.now = omega arith in
       All-more (λ (d : Document). d.number.0 < 2 ^ 32) c.args.documents.now c.loop-d.d-index c.d-item.result lt c.loop-d.invariant.numbers
-      (subst (λ (d : Document). d.number.0 < 2 ^ 32) c.d-item.is c.put_entry.ensures.number);
+      (subst (λ (d : Document). d.number.0 < 2 ^ 32) c.d-item.is c.put_document.ensures.number);
 }
 
 pub returns-clause-numbers : goal.returns-clause-numbers

@@ -1,5 +1,5 @@
 -- One more part.
-use Rattle.std.proofs.Common.{◌∙◌, ap, take, drop, length, ◌+◌, List, ℕ, arith}
+use Rattle.std.proofs.Common.{◌∙◌, ap, take, drop, length, ◌+◌, List, ℕ, arith, rules}
 use Rattle.std.proofs.lemmas.List.{length-append}
 use Rattle.pk_segment.proofs.Window.{stretch_more}
 use Rattle.pk_segment.proofs.stretch.stretch.Goals as goal
@@ -10,13 +10,10 @@ loop-done-preserved g c =
     let n = c.min-n.result in
     let once = c.bytes.follows.holds-at-none in
     record {
-      same = λ h. once.same h ∙ c.loop-done.invariant.same h;
-      size = once.size ∙ c.loop-done.invariant.size;
-      kept = g.met.S.ByteSource.keeps_then _ _ _ c.loop-done.invariant.kept once.kept;
-      failures = (rw c.in_ok-part.was at once.faults.ok) ∙ c.loop-done.invariant.failures;
+      left = search rules;
       within = omega (arith, c.min-n.ensures, c.loop-done-test.true);
       put = ap length c.in_ok-extend_from_slice.ensures.items ∙ omega (arith, length-append c.loop-done.out.items c.in_ok-part.part.now, c.in_ok-part.ensures.lent, c.loop-done.invariant.put);
       read = λ h. c.in_ok-extend_from_slice.ensures.items ∙ stretch_more (content c.args.source.now) c.loop-done.out.items c.in_ok-part.part.now c.args.at c.loop-done.done n (c.loop-done.invariant.read h)
-          (c.in_ok-part.ensures.value h ∙ ap (λ (x : List ℕ). take n (drop (c.args.at + c.loop-done.done) x)) (c.loop-done.invariant.same h));
+          (c.in_ok-part.ensures.value h ∙ ap (λ (x : List ℕ). take n (drop (c.args.at + c.loop-done.done) x)) (c.loop-done.invariant.left.same h));
       asked = omega (arith, c.min-n.ensures, c.loop-done-test.true, once.counted, c.loop-done.invariant.asked);
     }

@@ -10,6 +10,7 @@ use Rattle.pk_merge.specs.Gathering.{RiseFrom, left_by}
 use Rattle.pk_merge.specs.Keeping.{AreKept}
 use Rattle.pk_merge.specs.Left.{kept_in}
 use Rattle.pk_merge.specs.Merging.{MergeFails}
+use Rattle.pk_merge.proofs.CountLemmas.{to_most}
 use Rattle.pk_merge.proofs.GatherLemmas.{fails_longer, left_append, left_next, left_on}
 use Rattle.pk_merge.proofs.KeepLemmas.{takes_fault}
 use Rattle.pk_merge.proofs.left.Left.take_all.Goals as goal
@@ -37,6 +38,7 @@ loop-i-preserved c = record {
   disk_bytes = c.take.ensures.disk_bytes ∙ c.loop-i.invariant.disk_bytes;
   between = λ start end out before. c.in_ok-take.ensures.between start end out
       (c.loop-i.invariant.between start end out before);
+  enough = omega (arith, c.in_ok-take.ensures.one_more, c.loop-i.invariant.enough);
   taken = λ bytes so_far docs more kind is stand rise are.
       let i = c.loop-i.i in
       let dead = c.args.input.now.dead.now in
@@ -64,3 +66,12 @@ returns-clause-taken c = λ bytes so_far docs more kind is stand rise are.
           (take_all i docs all) inv.0,
       subst (λ (ds : List Doc). RiseFrom c.loop-i.self.last (ds ++ more)) (drop_all i docs all) inv.1,
     )
+
+pub returns-clause-enough : goal.returns-clause-enough
+returns-clause-enough c = omega (
+  arith,
+  c.loop-i.invariant.enough,
+  c.loop-i-test.false,
+  c.len-i-end.ensures.value,
+  to_most c.loop-i.self.last c.args.input.now.dead.now,
+)

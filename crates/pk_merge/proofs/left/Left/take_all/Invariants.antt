@@ -1,7 +1,8 @@
 -- The documents so far are taken, and the others rise.
-use Rattle.std.proofs.Common.{◌≡◌, ◌++◌, List, ℕ, take, drop}
+use Rattle.std.proofs.Common.{◌≡◌, ◌≤◌, ◌+◌, ◌++◌, List, ℕ, length, take, drop}
 use Rattle.pk_model.specs.Collection.{Doc}
 use Rattle.pk_segment.specs.Directory.{IsDirectoryOf}
+use Rattle.pk_merge.specs.Counting.{count_to}
 use Rattle.pk_merge.specs.Gathering.{RiseFrom, left_by}
 use Rattle.pk_merge.specs.Keeping.{AreKept, KeepsBetween, TextsStand}
 use Rattle.pk_merge.specs.Left.{kept_in}
@@ -11,6 +12,8 @@ abbrev pub invariant-loop-i : goal.invariant-loop-i
 invariant-loop-i l = record {
   disk_bytes : l.self.disk_bytes ≡ l.fn.self.disk_bytes;
   between : KeepsBetween l.texts l.end (kept_in l.fn.self) (kept_in l.self);
+  enough : l.i + length (kept_in l.fn.self) + count_to l.fn.self.last l.input.dead.now
+      ≤ length (kept_in l.self) + count_to l.self.last l.input.dead.now;
   taken : (bytes : List ℕ) (so_far docs more : List Doc) (kind : ℕ)
       → IsDirectoryOf l.input.directory.now docs kind
       → TextsStand bytes l.texts l.end docs → RiseFrom l.fn.self.last (docs ++ more)

@@ -14,9 +14,9 @@ returns-in_default c = λ bytes inputs stored is.
     let size = c.args.self.now.size in
     let front = c.new-source.ensures.bytes ∙ c.deref.ensures.value ∙ is.front_is in
     opens_faultless c.in_default.field-0 c.new-source.result.bytes.now size
-    (λ same. c.in_default.ensures.damaged tt (ap Err same)) c.in_default.ensures.faults
+    (λ same. c.in_default.ensures.damaged tt (ap Err same)) c.in_default.ensures.left.faults
     (subst (λ (l : List ℕ). (s : Segment) × IsOpened l size 2 s) (sym front)
-    (opens docs is.can.are fits size is.size_is))
+    (opens docs is.are fits size is.size_is))
 
 pub returns : goal.returns
 returns c = λ bytes inputs stored is.
@@ -24,5 +24,5 @@ returns c = λ bytes inputs stored is.
     let fits : segment_length docs 2 ≤ longest = omega (arith, is.size_is, is.fits) in
     let size = c.args.self.now.size in
     let front = c.new-source.ensures.bytes ∙ c.deref.ensures.value ∙ is.front_is in
-    opened_of docs is.can.are fits size c.in-Ok.segment
+    opened_of docs is.are fits size c.in-Ok.segment
     (subst (λ (l : List ℕ). IsOpened l size 2 c.in-Ok.segment) front (c.in-Ok.ensures.opened tt))

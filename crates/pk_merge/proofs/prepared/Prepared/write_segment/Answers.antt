@@ -2,21 +2,18 @@
 use Rattle.std.proofs.Common.{◌≡◌, ◌∙◌, ◌≤◌, ◌+◌, ◌*◌, ◌++◌, List, ℕ, Bool, Result, Ok, Err, length, sym, ap, subst, arith, length-append}
 use Rattle.std.specs.Prelude.{All}
 use Rattle.std.proofs.lemmas.Result.{err_from_is_err_and}
-use Rattle.pk_join.specs.Walk.{WalksWithin}
-use Rattle.pk_join.proofs.ComeLemmas.{come_start, within_given}
-use Rattle.pk_model.specs.Terms.{terms_of}
-use Rattle.pk_posting.specs.Spelling.{spelling as list_spelling}
 use Rattle.pk_replace.specs.declared.stream.StreamFault.{StreamFault}
 use Rattle.pk_replace.specs.Cause.{IsUndamaged}
 use Rattle.pk_replace.specs.Writing.{WritesOnly}
-use Rattle.pk_segment.specs.Indexed.{list_with, postings}
+use Rattle.pk_segment.specs.Indexed.{postings}
 use Rattle.pk_segment.specs.Spelling.{texts}
 use Rattle.pk_state.specs.Committed.{live_in}
 use Rattle.pk_merge.specs.declared.kept.Kept.{Kept}
 use Rattle.pk_merge.specs.Keeping.{AreKept, EndBy, KeptApart}
+use Rattle.pk_merge.specs.Lists.{AreWithin}
 use Rattle.pk_merge.proofs.GivenLemmas.{are_given_next, spells_stays}
 use Rattle.pk_merge.proofs.OutputLemmas.{stretch_then, writes_next}
-use Rattle.pk_merge.proofs.StreamLemmas.{all_bytes, apart_there, flushed, fresh_given, places_are, two_lengths}
+use Rattle.pk_merge.proofs.StreamLemmas.{all_bytes, apart_there, flushed, fresh_given, lists_within, places_are, two_lengths}
 use Rattle.pk_merge.proofs.prepared.Prepared.write_segment.Goals as goal
 
 pub write_front-requires-clause-apart : goal.write_front-requires-clause-apart
@@ -38,12 +35,11 @@ write_front-requires-clause-inside g c =
     subst (λ (n : ℕ). All (EndBy n) c.deref-2.result.now) c.requires.1.ready.0
     (subst (All (EndBy self.disk_bytes)) (sym c.deref-2.ensures.value) self.inside)
 
-pub write_index-requires-clause-walk : goal.write_index-requires-clause-walk
-write_index-requires-clause-walk g c =
-    let inside = within_given _ c.requires.0 c.args.self.walk.inputs.items c.requires.1.ready.1
-    c.requires.1.inside in
-    subst (λ (n : ℕ). WalksWithin n c.args.self.walk) (sym c.in_ok-write_front.ensures.given.writes.size)
-    inside
+pub write_index-requires-clause-within : goal.write_index-requires-clause-within
+write_index-requires-clause-within g c =
+    let lists = c.args.self.lists in
+    subst (λ (n : ℕ). AreWithin n lists) (sym c.in_ok-write_front.ensures.given.writes.size)
+    (lists_within _ c.requires.0 lists c.requires.1.ready.1 c.requires.1.inside)
 
 pub returns-in_err-write_front-clause-undamaged : goal.returns-in_err-write_front-clause-undamaged
 returns-in_err-write_front-clause-undamaged g c = λ honest inputs stored can spells is.
@@ -91,9 +87,6 @@ returns-in_err-write_index-clause-undamaged g c = λ honest inputs stored can sp
     (sym given.stretch.end) apart in
     let here = spells_stays (content c.args.disk.now) (content c.write_front.new.disk) inputs
     stored o.start o.end given.writes.size (given.writes.changed honest).same before spells in
-    let enough =
-    subst (λ (l : List ℕ). All (λ w. length (list_spelling (list_with w docs)) ≤ length l)
-    (terms_of docs)) (sym c.deref_mut-2.ensures.value) is.enough in
     let words = c.deref-3.ensures.value ∙ is.dictionary_is in
     let whole = two_lengths docs c.deref.result.now c.deref-3.result.now front words in
     let more : p.at + p.filled + length (postings docs ++ c.deref-3.result.now) ≤ p.end =
@@ -109,9 +102,7 @@ returns-in_err-write_index-clause-undamaged g c = λ honest inputs stored can sp
       c.from.ensures,
     ) in
     let cause =
-    (c.in_err-write_index.ensures.bytes honest inputs stored
-    (come_start _ inputs stored self.walk can.ready.1 here is.listed is.can self.start)
-    apart enough more).undamaged in
+    (c.in_err-write_index.ensures.bytes honest inputs stored is.lists_are can.ready.1 here apart more).undamaged in
     let found = err_from_is_err_and c.from_residual-in_err-write_index.result
     c.from_residual-in_err-write_index.ensures.1 in
     subst (λ (r : Result (Unit {0}) StreamFault). IsUndamaged r) (sym found.1)
@@ -161,9 +152,6 @@ returns-clause-there g c = λ honest inputs stored can spells is.
     (sym given.stretch.end) apart in
     let here = spells_stays (content c.args.disk.now) (content c.write_front.new.disk) inputs
     stored o.start o.end given.writes.size (given.writes.changed honest).same before spells in
-    let enough =
-    subst (λ (l : List ℕ). All (λ w. length (list_spelling (list_with w docs)) ≤ length l)
-    (terms_of docs)) (sym c.deref_mut-2.ensures.value) is.enough in
     let words = c.deref-3.ensures.value ∙ is.dictionary_is in
     let whole = two_lengths docs c.deref.result.now c.deref-3.result.now front words in
     let more : p.at + p.filled + length (postings docs ++ c.deref-3.result.now) ≤ p.end =
@@ -178,9 +166,7 @@ returns-clause-there g c = λ honest inputs stored can spells is.
       given.stretch.end,
       c.from.ensures,
     ) in
-    let two = c.in_ok-write_index.ensures.bytes honest inputs stored
-    (come_start _ inputs stored self.walk can.ready.1 here is.listed is.can self.start)
-    apart enough more in
+    let two = c.in_ok-write_index.ensures.bytes honest inputs stored is.lists_are can.ready.1 here apart more in
     let q = c.write_index.new.output in
     let xs = c.deref.result.now ++ texts docs in
     let ys = postings docs ++ c.deref-3.result.now in

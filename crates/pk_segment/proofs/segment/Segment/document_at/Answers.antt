@@ -22,5 +22,5 @@ returns-clause-spelled g c = λ honest docs kind is of.
     let content = g.S.ByteSource.content in
     let lt : c.args.i < length docs = omega (arith, of.count_is, c.requires) in
     let entry = says (content c.args.source.now) docs kind c.args.i c.in_ok-entry.entry (directory_of (content c.args.source.now) docs kind is) lt (c.in_ok-entry.ensures.value honest) in
-    let there = subst (λ (x : List ℕ). SegmentSpells x docs kind) (sym (c.in_ok-entry.ensures.content honest)) is in
+    let there = subst (λ (x : List ℕ). SegmentSpells x docs kind) (sym (c.in_ok-entry.ensures.left.same honest)) is in
     c.document_of.ensures.spelled honest docs kind c.args.i there of lt entry

@@ -13,7 +13,7 @@ use Rattle.pk_segment.proofs.segment.Segment.entries_of.Goals as goal
 pub returns-in_err-entries-clause-entries : goal.returns-in_err-entries-clause-entries
 returns-in_err-entries-clause-entries g c = λ honest docs is of.
     let found = err_from_is_err_and c.from_residual-in_err-entries.result c.from_residual-in_err-entries.ensures.1 in
-    let same = ap g.S.ByteSource.content c.on-windows.ensures.source ∙ c.in_ok-place.ensures.content honest in
+    let same = ap g.S.ByteSource.content c.on-windows.ensures.source ∙ c.in_ok-place.ensures.left.same honest in
     let there = subst (λ (x : List ℕ). IndexSpells x docs) (sym same) is in
     let at = is_there _ docs c.in_ok-place.place there (c.in_ok-place.ensures.place honest docs is of) in
     subst (λ (r : Result (Vec (Vec ℕ × Entry)) ReadFault). BegunAs docs c.args.prefix.now r) (sym found.1)
@@ -21,7 +21,7 @@ returns-in_err-entries-clause-entries g c = λ honest docs is of.
 
 pub returns-clause-entries : goal.returns-clause-entries
 returns-clause-entries g c = λ honest docs is of.
-    let same = ap g.S.ByteSource.content c.on-windows.ensures.source ∙ c.in_ok-place.ensures.content honest in
+    let same = ap g.S.ByteSource.content c.on-windows.ensures.source ∙ c.in_ok-place.ensures.left.same honest in
     let there = subst (λ (x : List ℕ). IndexSpells x docs) (sym same) is in
     let at = is_there _ docs c.in_ok-place.place there (c.in_ok-place.ensures.place honest docs is of) in
     c.in_ok-entries.ensures.found honest (items_of docs) at.inside at.spelled at.count

@@ -1,5 +1,5 @@
 -- The halving keeps what it knows of both sides.
-use Rattle.std.proofs.Common.{◌∙◌, subst, arith, List, ℕ, ◌+◌, ◌<◌, ◌-◌, ◌/◌, length}
+use Rattle.std.proofs.Common.{subst, arith, rules, List, ℕ, ◌+◌, ◌<◌, ◌-◌, ◌/◌, length}
 use Rattle.pk_segment.specs.Fields.{IsEntry, entry_field}
 use Rattle.pk_segment.proofs.DirectoryLemmas.{says}
 use Rattle.pk_segment.proofs.ReadLemmas.{below_middle, above_middle, none_between, halved}
@@ -10,7 +10,7 @@ returns-then-entry-number-clause-found g c = λ honest docs kind is of.
     let content = g.S.ByteSource.content in
     let middle = c.loop-low.low + (c.loop-low.high - c.loop-low.low) / 2 in
     let lt : middle < length docs = omega (arith, of.count_is, c.loop-low.invariant.within, c.loop-low-test.true) in
-    let at = subst (λ (x : List ℕ). IsEntry (entry_field x middle) c.in_ok-entry.entry) (c.loop-low.invariant.same honest) (c.in_ok-entry.ensures.value honest) in
+    let at = subst (λ (x : List ℕ). IsEntry (entry_field x middle) c.in_ok-entry.entry) (c.loop-low.invariant.left.same honest) (c.in_ok-entry.ensures.value honest) in
     (middle, lt, c.if-entry-number.true, says (content c.args.source.now) docs kind middle c.in_ok-entry.entry is lt at)
 
 pub loop-low-preserved-then-entry-number-2 : goal.loop-low-preserved-then-entry-number-2
@@ -19,17 +19,14 @@ loop-low-preserved-then-entry-number-2 g c =
     let asked = g.S.ByteSource.asked in
     let middle = c.loop-low.low + (c.loop-low.high - c.loop-low.low) / 2 in
     record {
-      same = λ h. c.entry_of.ensures.content h ∙ c.loop-low.invariant.same h;
-      size = c.entry_of.ensures.size ∙ c.loop-low.invariant.size;
-      kept = g.met.S.ByteSource.keeps_then _ _ _ c.loop-low.invariant.kept c.entry_of.ensures.keeps;
-      failures = c.in_ok-entry.ensures.faults.ok ∙ c.loop-low.invariant.failures;
+      left = search rules;
       within = c.loop-low.invariant.within;
       asked = λ k lt. let was = c.loop-low.invariant.asked k lt in
           let now = halved was.0 (c.loop-low.high - c.loop-low.low) (asked c.loop-low.source) (asked c.args.source.now) k (omega (arith, c.loop-low-test.true)) was.1 was.2 in
-          (now.0, omega (arith, now.1, c.loop-low-test.true), omega (arith, now.2, c.entry_of.ensures.asked));
+          (now.0, omega (arith, now.1, c.loop-low-test.true), omega (arith, now.2, c.entry_of.ensures.left.asks));
       below = λ honest docs kind is count i le.
           let lt : middle < length docs = omega (arith, count, c.loop-low.invariant.within, c.loop-low-test.true) in
-          let at = subst (λ (x : List ℕ). IsEntry (entry_field x middle) c.in_ok-entry.entry) (c.loop-low.invariant.same honest) (c.in_ok-entry.ensures.value honest) in
+          let at = subst (λ (x : List ℕ). IsEntry (entry_field x middle) c.in_ok-entry.entry) (c.loop-low.invariant.left.same honest) (c.in_ok-entry.ensures.value honest) in
           let entry = says (content c.args.source.now) docs kind middle c.in_ok-entry.entry is lt at in
           below_middle docs middle i c.args.number _ _ _ is.spelled.are lt entry c.if-entry-number-2.true le;
       above = c.loop-low.invariant.above;
@@ -41,18 +38,15 @@ loop-low-preserved g c =
     let asked = g.S.ByteSource.asked in
     let middle = c.loop-low.low + (c.loop-low.high - c.loop-low.low) / 2 in
     record {
-      same = λ h. c.entry_of.ensures.content h ∙ c.loop-low.invariant.same h;
-      size = c.entry_of.ensures.size ∙ c.loop-low.invariant.size;
-      kept = g.met.S.ByteSource.keeps_then _ _ _ c.loop-low.invariant.kept c.entry_of.ensures.keeps;
-      failures = c.in_ok-entry.ensures.faults.ok ∙ c.loop-low.invariant.failures;
+      left = search rules;
       within = omega (arith, c.loop-low.invariant.within, c.loop-low-test.true);
       asked = λ k lt. let was = c.loop-low.invariant.asked k lt in
           let now = halved was.0 (c.loop-low.high - c.loop-low.low) (asked c.loop-low.source) (asked c.args.source.now) k (omega (arith, c.loop-low-test.true)) was.1 was.2 in
-          (now.0, omega (arith, now.1, c.loop-low-test.true), omega (arith, now.2, c.entry_of.ensures.asked));
+          (now.0, omega (arith, now.1, c.loop-low-test.true), omega (arith, now.2, c.entry_of.ensures.left.asks));
       below = c.loop-low.invariant.below;
       above = λ honest docs kind is count i le long.
           let lt : middle < length docs = omega (arith, count, c.loop-low.invariant.within, c.loop-low-test.true) in
-          let at = subst (λ (x : List ℕ). IsEntry (entry_field x middle) c.in_ok-entry.entry) (c.loop-low.invariant.same honest) (c.in_ok-entry.ensures.value honest) in
+          let at = subst (λ (x : List ℕ). IsEntry (entry_field x middle) c.in_ok-entry.entry) (c.loop-low.invariant.left.same honest) (c.in_ok-entry.ensures.value honest) in
           let entry = says (content c.args.source.now) docs kind middle c.in_ok-entry.entry is lt at in
           let more : c.args.number < c.in_ok-entry.entry.number = omega (arith, c.if-entry-number.false, c.if-entry-number-2.false) in
           above_middle docs middle i c.args.number _ _ _ is.spelled.are lt entry more le long;

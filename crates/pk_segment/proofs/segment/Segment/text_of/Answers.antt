@@ -32,7 +32,7 @@ returns-in_err-text-clause-spelled g c = λ honest docs kind is of.
     let content = g.S.ByteSource.content in
     let found = err_from_is_err_and c.from_residual-in_err-text.result c.from_residual-in_err-text.ensures.1 in
     let entry = subst (λ (o : Option Entry). FindsEntry docs c.args.number o) c.in-Some.is (c.in_ok-entry.ensures.found honest docs kind (directory_of (content c.args.source.now) docs kind is) of) in
-    let there = subst (λ (x : List ℕ). SegmentSpells x docs kind) (sym (c.in_ok-entry.ensures.content honest)) is in
+    let there = subst (λ (x : List ℕ). SegmentSpells x docs kind) (sym (c.in_ok-entry.ensures.left.same honest)) is in
     let cause = c.in_err-text.ensures.spelled honest docs kind entry.0 there of entry.1 entry.3 in
     subst (λ (r : Result (Option (String Global)) ReadFault). TextAs docs c.args.number r) (sym found.1) (subst (λ (f : ReadFault). IsNoDamage f) (sym found.2) cause)
 
@@ -40,5 +40,5 @@ pub returns-clause-spelled : goal.returns-clause-spelled
 returns-clause-spelled g c = λ honest docs kind is of.
     let content = g.S.ByteSource.content in
     let entry = subst (λ (o : Option Entry). FindsEntry docs c.args.number o) c.in-Some.is (c.in_ok-entry.ensures.found honest docs kind (directory_of (content c.args.source.now) docs kind is) of) in
-    let there = subst (λ (x : List ℕ). SegmentSpells x docs kind) (sym (c.in_ok-entry.ensures.content honest)) is in
+    let there = subst (λ (x : List ℕ). SegmentSpells x docs kind) (sym (c.in_ok-entry.ensures.left.same honest)) is in
     text_is docs entry.0 c.args.number _ is.are entry.1 (sym entry.2 ∙ entry.3.number_is) (c.in_ok-text.ensures.spelled honest docs kind entry.0 there of entry.1 entry.3)
