@@ -35,6 +35,7 @@ use Rattle.pk_state.specs.Committed.{Stored, Committed}
 use Rattle.pk_state.specs.Kept.{AreEntries, all_claims, table_claims}
 use Rattle.pk_state.specs.Writing.{is_too_large, new_entry, new_stored, next_body, table_writes}
 use Rattle.pk_state.specs.Writing.{with_table, written_kind}
+use Rattle.pk_layout.specs.declared.committing.Built.{Built}
 use Rattle.pk_layout.specs.declared.committing.CommitPlan.{CommitPlan}
 use Rattle.pk_layout.specs.declared.planning.Plan.{Plan}
 use Rattle.pk_layout.specs.Placed.{AreLaid}
@@ -221,8 +222,9 @@ PlacesAs b lengths (Err Memory) = Unit {0}
 PlacesAs b lengths (Err why) = ⊥
 
 -- a segment is built and open, or why it is not
-abbrev pub BuildsAs : List Doc → Result (Vec ℕ × Segment) Refusal → Type 0
-BuildsAs docs (Ok built) = SegmentSpells built.0.items docs written_kind × IsSegmentOf built.1 docs
+abbrev pub BuildsAs : List Doc → Result Built Refusal → Type 0
+BuildsAs docs (Ok built) =
+    SegmentSpells built.bytes.items docs written_kind × IsSegmentOf built.segment docs
 BuildsAs docs (Err SegmentTooLarge) = longest < segment_length docs written_kind
 BuildsAs docs (Err Memory) = Unit {0}
 BuildsAs docs (Err why) = ⊥

@@ -85,22 +85,36 @@ pub(crate) fn settled_with(
     Ok(kept)
 }
 
-/// The body that follows: these entries, behind them that of a new segment in this extent, if there
-/// is one, and behind it these; its table in the first of these extents, if there is one.
+/// The entries of a body that follows, around that of a new segment.
+#[derive(Drop)]
+pub(crate) struct NextEntries<'a> {
+    /// Those before it.
+    pub(crate) before: Vec<Part>,
+    /// The extent of the new segment, if there is one.
+    pub(crate) segment: Option<Extent>,
+    /// Those behind it.
+    pub(crate) behind: &'a [Part],
+}
+
+/// The body that follows, of these entries; its table in the first of these extents, if there is
+/// one.
 pub(crate) fn next_manifest(
     manifest: &Manifest,
     next_number: u32,
-    mut entries: Vec<Part>,
-    segment: Option<Extent>,
-    behind: &[Part],
+    entries: NextEntries,
     table: &[Extent],
 ) -> Result<Manifest, AllocError>
     requires generation { manifest.now.generation < end_of_ids }
     requires id { manifest.now.next_segment < end_of_ids }
     ensures { IfOk result (λ m. view m ≡ tabled table.now (next_body (view manifest.now)
-        next_number (ids_in segment)
-        (entries.items ++ (entry_in (view manifest.now) segment ++ behind.now)))) }
+        next_number (ids_in entries.entry.segment) (entries.entry.before.items
+        ++ (entry_in (view manifest.now) entries.entry.segment ++ entries.entry.behind.now)))) }
 {
+    let NextEntries {
+        before: mut entries,
+        segment,
+        behind,
+    } = entries;
     let mut next_segment = manifest.next_segment;
     if let Some(extent) = segment {
         entries.push(Part {

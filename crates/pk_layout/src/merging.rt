@@ -13,7 +13,7 @@ ghost use Rattle.pk_manifest.specs.Spelling.{view};
 ghost use Rattle.pk_model.specs.Limits.{end_of_ids};
 ghost use Rattle.pk_state.specs.Writing.{replaced};
 
-use crate::following::next_manifest;
+use crate::following::{NextEntries, next_manifest};
 use crate::placing::place_behind;
 use crate::planning::{Plan, pieces_with, plan_for};
 use pk_dead::Dead;
@@ -24,6 +24,15 @@ use pk_open::{OpenSegment, put_copies};
 use pk_replace::Piece;
 use pk_segment::Segment;
 use std::alloc::{AllocError, Global};
+
+/// A run of neighbouring segments.
+#[derive(Clone, Copy, Debug)]
+pub struct Run {
+    /// The place of the first.
+    pub from: usize,
+    /// How many there are.
+    pub count: usize,
+}
 
 /// The segment that a merge is going to write.
 #[derive(Clone, Copy, Debug)]
@@ -78,19 +87,18 @@ fn pending_of(alloc: Global, opened: &[OpenSegment]) -> Result<Dead, Refusal>
 fn opened_merged(
     alloc: Global,
     opened: &[OpenSegment],
-    from: usize,
-    count: usize,
+    run: Run,
     segment: Option<OpenSegment>,
 ) -> Result<Vec<OpenSegment>, AllocError>
-    requires within { from + count ≤ length opened.now }
-    ensures { IfOk result (λ v. v.items ≡ replaced from count (opened_in segment) opened.now) }
+    requires within { run.from + run.count ≤ length opened.now }
+    ensures { IfOk result (λ v. v.items ≡ replaced run.from run.count (opened_in segment) opened.now) }
 {
     let mut kept = Vec::new(alloc);
-    put_copies(alloc, &mut kept, &opened[..from])?;
+    put_copies(alloc, &mut kept, &opened[..run.from])?;
     if let Some(segment) = segment {
         kept.push(segment)?;
     }
-    put_copies(alloc, &mut kept, &opened[from + count..])?;
+    put_copies(alloc, &mut kept, &opened[run.from + run.count..])?;
     Ok(kept)
 }
 
@@ -98,28 +106,24 @@ fn opened_merged(
 fn manifest_merged(
     alloc: Global,
     manifest: &Manifest,
-    from: usize,
-    count: usize,
+    run: Run,
     segment: Option<Extent>,
     table: &[Extent],
 ) -> Result<Manifest, AllocError>
     requires generation { manifest.now.generation < end_of_ids }
     requires id { manifest.now.next_segment < end_of_ids }
-    requires within { from + count ≤ length manifest.now.entries.items }
+    requires within { run.from + run.count ≤ length manifest.now.entries.items }
     ensures { IfOk result (λ m. view m
-        ≡ tabled table.now (body_merged (view manifest.now) from count segment)) }
+        ≡ tabled table.now (body_merged (view manifest.now) run.from run.count segment)) }
 {
     let mut entries = Vec::new(alloc);
-    entries.extend_from_slice(&manifest.entries[..from])?;
-    let behind = &manifest.entries[from + count..];
-    next_manifest(
-        manifest,
-        manifest.next_number,
-        entries,
+    entries.extend_from_slice(&manifest.entries[..run.from])?;
+    let entries = NextEntries {
+        before: entries,
         segment,
-        behind,
-        table,
-    )
+        behind: &manifest.entries[run.from + run.count..],
+    };
+    next_manifest(manifest, manifest.next_number, entries, table)
 }
 
 // The plan of a merge of a run that leaves no document.
@@ -127,19 +131,18 @@ fn plan_none(
     alloc: Global,
     manifest: &Manifest,
     opened: &[OpenSegment],
-    from: usize,
-    count: usize,
+    run: Run,
 ) -> Result<MergePlan, Refusal>
     requires sound { IsBody manifest.now.units (view manifest.now) }
     requires generation { manifest.now.generation < end_of_ids }
     requires id { manifest.now.next_segment < end_of_ids }
     requires same { length opened.now ≡ length manifest.now.entries.items }
-    requires within { from + count ≤ length opened.now }
-    ensures { PlansMerged (view manifest.now) opened.now from count None result }
+    requires within { run.from + run.count ≤ length opened.now }
+    ensures { PlansMerged (view manifest.now) opened.now run.from run.count None result }
 {
-    let extents = place_behind(alloc, manifest, &[], manifest.entries.len() - count)?;
-    let next = manifest_merged(alloc, manifest, from, count, None, &extents)?;
-    let kept = opened_merged(alloc, opened, from, count, None)?;
+    let extents = place_behind(alloc, manifest, &[], manifest.entries.len() - run.count)?;
+    let next = manifest_merged(alloc, manifest, run, None, &extents)?;
+    let kept = opened_merged(alloc, opened, run, None)?;
     let pieces = pieces_with(alloc, Vec::new(alloc), &next, &extents)?;
     let plan = plan_for(alloc, next, kept)?;
     Ok(MergePlan {
@@ -154,33 +157,32 @@ fn plan_one(
     alloc: Global,
     manifest: &Manifest,
     opened: &[OpenSegment],
-    from: usize,
-    count: usize,
+    run: Run,
     new: NewSegment,
 ) -> Result<MergePlan, Refusal>
     requires sound { IsBody manifest.now.units (view manifest.now) }
     requires generation { manifest.now.generation < end_of_ids }
     requires id { manifest.now.next_segment < end_of_ids }
     requires same { length opened.now ≡ length manifest.now.entries.items }
-    requires some { 1 ≤ count }
-    requires within { from + count ≤ length opened.now }
+    requires some { 1 ≤ run.count }
+    requires within { run.from + run.count ≤ length opened.now }
     requires sized { IsSized (Some new) }
-    ensures { PlansMerged (view manifest.now) opened.now from count (Some new) result }
+    ensures { PlansMerged (view manifest.now) opened.now run.from run.count (Some new) result }
 {
-    let deleted = pending_of(alloc, &opened[from..from + count])?;
-    let left = manifest.entries.len() - count;
+    let deleted = pending_of(alloc, &opened[run.from..run.from + run.count])?;
+    let left = manifest.entries.len() - run.count;
     let extents = place_behind(alloc, manifest, &[new.bytes], left + 1)?;
     let Some((place, table)) = extents.split_first() else {
         unreachable!()
     };
-    let next = manifest_merged(alloc, manifest, from, count, Some(*place), table)?;
+    let next = manifest_merged(alloc, manifest, run, Some(*place), table)?;
     let pieces = pieces_with(alloc, Vec::new(alloc), &next, table)?;
     let merged = OpenSegment {
         segment: new.segment,
         dead: Dead::new(alloc),
         deleted,
     };
-    let kept = opened_merged(alloc, opened, from, count, Some(merged))?;
+    let kept = opened_merged(alloc, opened, run, Some(merged))?;
     let plan = plan_for(alloc, next, kept)?;
     Ok(MergePlan {
         plan,
@@ -194,21 +196,20 @@ pub fn plan_merged(
     alloc: Global,
     manifest: &Manifest,
     opened: &[OpenSegment],
-    from: usize,
-    count: usize,
+    run: Run,
     new: Option<NewSegment>,
 ) -> Result<MergePlan, Refusal>
     requires sound { IsBody manifest.now.units (view manifest.now) }
     requires generation { manifest.now.generation < end_of_ids }
     requires id { manifest.now.next_segment < end_of_ids }
     requires same { length opened.now ≡ length manifest.now.entries.items }
-    requires some { 1 ≤ count }
-    requires within { from + count ≤ length opened.now }
+    requires some { 1 ≤ run.count }
+    requires within { run.from + run.count ≤ length opened.now }
     requires sized { IsSized new }
-    ensures { PlansMerged (view manifest.now) opened.now from count new result }
+    ensures { PlansMerged (view manifest.now) opened.now run.from run.count new result }
 {
     match new {
-        Some(new) => plan_one(alloc, manifest, opened, from, count, new),
-        None => plan_none(alloc, manifest, opened, from, count),
+        Some(new) => plan_one(alloc, manifest, opened, run, new),
+        None => plan_none(alloc, manifest, opened, run),
     }
 }

@@ -11,7 +11,7 @@
 //!
 //! | call | answers | reads |
 //! |---|---|---|
-//! | `open_segments` | the segments of a body, with what is deleted of each | headers, ends of directories, deletion lists |
+//! | `open_segments` | the segments of a body | headers, ends of directories, deletion lists |
 //! | `text_stored` | the text of the live document of a number, or none | one text, by halving |
 //! | `place_stored` | the place of the segment that has it, or none | one directory, by halving |
 //! | `count_stored` | how many documents there are | nothing |

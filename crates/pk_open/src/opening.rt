@@ -5,7 +5,6 @@
 //! documents; whether its numbers are numbers of these is not asked.
 
 ghost use Rattle.std.specs.Prelude.{◌≡◌, ℕ, List, length, All, IfOk, IsErrOf};
-ghost use Rattle.pk_disk.specs.Frames.{KeepsDisk};
 ghost use Rattle.pk_manifest.specs.Spelling.{view};
 ghost use Rattle.pk_open.specs.Opening.{
   ExtentOpensAs,
@@ -17,6 +16,7 @@ ghost use Rattle.pk_open.specs.Opening.{
   SegmentsAs,
   SpellsFew,
 };
+ghost use Rattle.pk_segment.specs.OnlyRead.{ReadsDisk};
 ghost use Rattle.pk_segment.specs.Reading.{CountsReads};
 ghost use Rattle.pk_segment.specs.Spelling.{IsKind};
 ghost use Rattle.pk_state.specs.Kept.{EndsInside, HaveKinds, LieInside, ListEndsInside};
@@ -40,8 +40,7 @@ fn open_segment<D: Disk>(disk: &mut D, entry: Part) -> Result<Segment, ReadFault
     requires kind { IsKind entry.kind }
     requires inside { EndsInside (length (D.content disk.old)) entry.extent }
     ensures opened { D.honest → ReadsOne (ExtentOpensAs (D.content disk.old) entry) result }
-    ensures keeps { KeepsDisk D.Disk disk.old disk.new }
-    ensures reads { CountsReads (D.failed_reads disk.old) (D.failed_reads disk.new) result }
+    ensures left { ReadsDisk D.Disk CountsReads result disk.old disk.new }
 {
     let mut source = ExtentSource::on(disk, entry.extent);
     match Segment::open(&mut source, entry.extent.bytes, entry.kind) {
@@ -74,8 +73,7 @@ fn read_list<D: Disk>(
 ) -> Result<Dead, ReadFault>
     requires { ListEndsInside (length (D.content disk.old)) list }
     ensures list { D.honest → ReadsOne (OpensAsList (D.content disk.old) list count) result }
-    ensures keeps { KeepsDisk D.Disk disk.old disk.new }
-    ensures reads { CountsReads (D.failed_reads disk.old) (D.failed_reads disk.new) result }
+    ensures left { ReadsDisk D.Disk CountsReads result disk.old disk.new }
 {
     let Some(extent) = list else {
         return Ok(Dead::new(alloc));
@@ -103,8 +101,7 @@ fn open_entry<D: Disk>(alloc: Global, disk: &mut D, entry: Part) -> Result<OpenS
     requires list { ListEndsInside (length (D.content disk.old)) entry.dead }
     ensures opened { D.honest → ReadsOne (OpensAsSegment (D.content disk.old) entry) result }
     ensures grown { IfOk result IsGrown }
-    ensures keeps { KeepsDisk D.Disk disk.old disk.new }
-    ensures reads { CountsReads (D.failed_reads disk.old) (D.failed_reads disk.new) result }
+    ensures left { ReadsDisk D.Disk CountsReads result disk.old disk.new }
 {
     let segment = open_segment(disk, entry)?;
     let dead = read_list(alloc, disk, entry.dead, segment.count())?;
@@ -131,8 +128,7 @@ fn open_next<D: Disk>(
     requires list { ListEndsInside (length (D.content disk.old)) entry.dead }
     ensures opened { D.honest → ReadsOne (OpensNext (D.content disk.old) low next entry) result }
     ensures grown { IfOk result IsGrown }
-    ensures keeps { KeepsDisk D.Disk disk.old disk.new }
-    ensures reads { CountsReads (D.failed_reads disk.old) (D.failed_reads disk.new) result }
+    ensures left { ReadsDisk D.Disk CountsReads result disk.old disk.new }
 {
     let opened = open_entry(alloc, disk, entry)?;
     if opened.segment.first() <= low || opened.segment.last() >= next {
@@ -156,8 +152,7 @@ pub fn open_segments<D: Disk>(
     ensures opened { D.honest → SegmentsAs (D.content disk.old) (view manifest.now) result }
     ensures count { IfOk result (λ v. length v.items ≡ length manifest.now.entries.items) }
     ensures grown { IfOk result (λ v. All IsGrown v.items) }
-    ensures keeps { KeepsDisk D.Disk disk.old disk.new }
-    ensures reads { CountsReads (D.failed_reads disk.old) (D.failed_reads disk.new) result }
+    ensures left { ReadsDisk D.Disk CountsReads result disk.old disk.new }
 {
     let mut segments = Vec::new(alloc);
     let mut low = 0;

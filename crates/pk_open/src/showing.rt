@@ -1,14 +1,16 @@
 //! A document looked up in stored segments, and how many there are.
 ghost use Rattle.std.specs.Prelude.{◌≡◌, ◌≤◌, ◌<◌, ◌+◌, ◌^◌, ℕ, List, length};
-ghost use Rattle.std.specs.Prelude.{All, IfOk, IfSome, MatchOption, slice_index_or};
-ghost use Rattle.pk_disk.specs.Frames.{KeepsDisk};
+ghost use Rattle.std.specs.Prelude.{IfOk, IfSome, IsErrOf, MatchOption, None, Ok, OnOk};
+ghost use Rattle.std.specs.Prelude.{slice_index_or};
 ghost use Rattle.pk_disk.specs.Units.{extent_bytes, start_of};
 ghost use Rattle.pk_model.specs.Collection.{Doc, IsCollection};
 ghost use Rattle.pk_model.specs.Limits.{max_segments};
+ghost use Rattle.pk_open.specs.Seeking.{IsUnreached, IsWhole, SeeksPlace, SeeksText};
 ghost use Rattle.pk_open.specs.Showing.{LivesAt, LooksUpAs, Spans};
 ghost use Rattle.pk_open.specs.Opened.{AreOpenOf, present};
 ghost use Rattle.pk_segment.specs.Opened.{IsSegmentOf};
 ghost use Rattle.pk_segment.specs.Spelling.{SegmentSpells};
+ghost use Rattle.pk_segment.specs.OnlyRead.{ReadsDisk};
 ghost use Rattle.pk_segment.specs.Reading.{ContainsAs, CountsReads, TextAs};
 ghost use Rattle.pk_posting.specs.Source.{CountsFaults};
 ghost use Rattle.pk_state.specs.Committed.{Committed, live_in, whole_of};
@@ -26,14 +28,15 @@ use std::alloc::Global;
 // The place of the segment whose span the number lies in.
 fn place_of(opened: &[OpenSegment], number: DocNo) -> Option<usize>
     ensures { MatchOption result
-        (All (λ (o : OpenSegment). Spans o number.0 → ⊥) opened.now)
+        (IsUnreached opened.now number.0)
         (λ place. (place < length opened.now)
         × ((d : OpenSegment) → Spans (slice_index_or opened.now place d) number.0)) }
 {
     opened.iter().position(|o| o.segment.first() <= number.0 && number.0 <= o.segment.last())
 }
 
-// The text of the segment's document of this number, if it has one.
+// The text of the segment's document of this number, if it has one. A segment that goes past its
+// extent is damaged.
 fn text_in<D: Disk>(
     alloc: Global,
     disk: &mut D,
@@ -45,14 +48,17 @@ fn text_in<D: Disk>(
     ensures text { D.honest → (docs : List Doc) (kind : ℕ)
         → SegmentSpells (extent_bytes (D.content disk.old) extent) docs kind
         → IsSegmentOf segment.now docs → TextAs docs number.0 result }
-    ensures keeps { KeepsDisk D.Disk disk.old disk.new }
-    ensures reads { CountsReads (D.failed_reads disk.old) (D.failed_reads disk.new) result }
+    ensures whole { OnOk result (IsWhole extent segment.now) }
+    ensures left { ReadsDisk D.Disk CountsReads result disk.old disk.new }
 {
+    if extent.bytes < segment.postings() {
+        return Err(ReadFault::Damaged);
+    }
     let mut source = ExtentSource::on(disk, extent);
     segment.text_of(alloc, &mut source, number.0)
 }
 
-// Whether the segment has a document of this number.
+// Whether the segment has a document of this number. One that goes past its extent is damaged.
 fn has_in<D: Disk>(
     disk: &mut D,
     extent: Extent,
@@ -63,9 +69,13 @@ fn has_in<D: Disk>(
     ensures has { D.honest → (docs : List Doc) (kind : ℕ)
         → SegmentSpells (extent_bytes (D.content disk.old) extent) docs kind
         → IsSegmentOf segment.now docs → ContainsAs docs number.0 result }
-    ensures keeps { KeepsDisk D.Disk disk.old disk.new }
-    ensures reads { CountsFaults (D.failed_reads disk.old) (D.failed_reads disk.new) result }
+    ensures whole { OnOk result (IsWhole extent segment.now) }
+    ensures cut { IsErrOf result SourceFault.Damaged → IsWhole extent segment.now → ⊥ }
+    ensures left { ReadsDisk D.Disk CountsFaults result disk.old disk.new }
 {
+    if extent.bytes < segment.postings() {
+        return Err(SourceFault::Damaged);
+    }
     let mut source = ExtentSource::on(disk, extent);
     segment.contains(&mut source, number.0)
 }
@@ -88,8 +98,10 @@ pub fn text_stored<D: Disk>(
         → SpellsEntries (D.content disk.old) entries.now c.stored → AreOpenOf opened.now c.stored
         → IsCollection (whole_of c)
         → LooksUpAs (live_in (present opened.now c.stored)) number.0 result }
-    ensures keeps { KeepsDisk D.Disk disk.old disk.new }
-    ensures reads { CountsReads (D.failed_reads disk.old) (D.failed_reads disk.new) result }
+    ensures sought { SeeksText entries.now opened.now number.0 result }
+    ensures unreached { IsUnreached opened.now number.0
+        → (result ≡ Ok None) × (disk.new ≡ disk.old) }
+    ensures left { ReadsDisk D.Disk CountsReads result disk.old disk.new }
 {
     let Some(place) = place_of(opened, number) else {
         return Ok(None);
@@ -103,8 +115,8 @@ pub fn text_stored<D: Disk>(
 }
 
 /// The place of the open segment that has the live document of this number, if one of them does.
-/// Each stands at the place of its entry; of the one whose numbers reach over this one the directory
-/// is read by halving. It takes no memory.
+/// Each stands at the place of its entry; of the one whose numbers reach over this one the
+/// directory is read by halving. It takes no memory.
 ///
 /// Answers `Damaged` where that segment is none, or `Disk` where a read failed.
 pub fn place_stored<D: Disk>(
@@ -118,10 +130,12 @@ pub fn place_stored<D: Disk>(
     ensures place { D.honest → (c : Committed)
         → SpellsEntries (D.content disk.old) entries.now c.stored → AreOpenOf opened.now c.stored
         → IsCollection (whole_of c) → LivesAt opened.now c.stored number.0 result }
+    ensures sought { SeeksPlace entries.now opened.now number.0 result }
+    ensures unreached { IsUnreached opened.now number.0
+        → (result ≡ Ok None) × (disk.new ≡ disk.old) }
     ensures within { IfOk result (λ place. IfSome place (λ i. (1 ≤ number.0)
         × (i < length opened.now))) }
-    ensures keeps { KeepsDisk D.Disk disk.old disk.new }
-    ensures reads { CountsFaults (D.failed_reads disk.old) (D.failed_reads disk.new) result }
+    ensures left { ReadsDisk D.Disk CountsFaults result disk.old disk.new }
 {
     if number.0 == 0 {
         return Ok(None);

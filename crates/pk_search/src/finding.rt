@@ -1,8 +1,7 @@
 //! A query over stored segments: those of kind 2 by a plan over their posting lists, those of
 //! kind 1 document by document, each read, cut into words and folded.
 ghost use Rattle.std.specs.Prelude.{◌≡◌, ◌≤◌, ◌<◌, ◌+◌, ℕ, List, length, min};
-ghost use Rattle.std.specs.Prelude.{All, IfErr, IfOk, true};
-ghost use Rattle.pk_disk.specs.Frames.{KeepsDisk};
+ghost use Rattle.std.specs.Prelude.{All, IfErr, IfOk, OnOk, true};
 ghost use Rattle.pk_disk.specs.Units.{apart, extent_bytes, start_of};
 ghost use Rattle.pk_manifest.specs.Sound.{same_segment};
 ghost use Rattle.pk_model.specs.Collection.{Doc};
@@ -14,7 +13,10 @@ ghost use Rattle.pk_plan.specs.Plans.{IsPlanFor};
 ghost use Rattle.pk_plan.specs.Texts.{has_phrase, reads_texts};
 ghost use Rattle.pk_plan.specs.Words.{texts};
 ghost use Rattle.pk_search.specs.Matching.{AreEntriesOf, AreKept, EntriesAs};
+ghost use Rattle.pk_search.specs.Whole.{AreWhole};
 ghost use Rattle.pk_open.specs.Opened.{AreOpenOf, present, with_deleted};
+ghost use Rattle.pk_open.specs.Seeking.{IsWhole};
+ghost use Rattle.pk_segment.specs.OnlyRead.{ReadsDisk, ReadsSource};
 ghost use Rattle.pk_segment.specs.Opened.{IsSegmentOf};
 ghost use Rattle.pk_segment.specs.Spelling.{IndexSpells, SegmentSpells};
 ghost use Rattle.pk_segment.specs.Reading.{CountsReads, IsNoDamage};
@@ -57,8 +59,7 @@ fn find_from<S: ByteSource>(
         → (query : Tree) → IsPlanFor planned.now query
         → FoundAs query (live_of (with_deleted opened.now s)) found.old.items
         found.new.items result }
-    ensures keeps { S.keeps source.old source.new }
-    ensures faults { CountsReads (S.failures source.old) (S.failures source.new) result }
+    ensures left { ReadsSource S.ByteSource CountsReads result source.old source.new }
 {
     let mut index = Index::new(alloc);
     for i in 0..opened.segment.count() {
@@ -88,9 +89,7 @@ fn look_up_in<D: Disk>(
         → IndexesEntry (D.content source.old.disk.now) sought.now.entry.now s
         → IsSegmentOf sought.now.opened.now.segment s.documents → IfErr result IsNoDamage }
     ensures same_reference { source.new.disk.ghost_name ≡ source.old.disk.ghost_name }
-    ensures keeps { KeepsDisk D.Disk source.old.disk.now source.new.disk.now }
-    ensures reads { CountsReads (D.failed_reads source.old.disk.now)
-        (D.failed_reads source.new.disk.now) result }
+    ensures left { ReadsDisk D.Disk CountsReads result source.old.disk.now source.new.disk.now }
 {
     if sought.entry.kind != INDEXED {
         return Ok(Vec::new(alloc));
@@ -117,17 +116,15 @@ fn look_up_all<D: Disk>(
     ensures count { IfOk result (λ kept. length kept.items
         ≡ min (length segments.now.entries.now) (length segments.now.opened.now)) }
     ensures same_reference { source.new.disk.ghost_name ≡ source.old.disk.ghost_name }
-    ensures keeps { KeepsDisk D.Disk source.old.disk.now source.new.disk.now }
-    ensures reads { CountsReads (D.failed_reads source.old.disk.now)
-        (D.failed_reads source.new.disk.now) result }
+    ensures left { ReadsDisk D.Disk CountsReads result source.old.disk.now source.new.disk.now }
 {
+    let mut long = [0; MOST_LENT];
     let Segments { entries, opened } = *segments;
     let firsts = first_places(alloc, words)?;
     let asked = QueryWords {
         words,
         firsts: &firsts,
     };
-    let mut long = [0; MOST_LENT];
     let mut kept = Vec::new(alloc);
     for i in 0..entries.len().min(opened.len()) {
         let sought = LookUp {
@@ -145,7 +142,8 @@ fn look_up_all<D: Disk>(
 }
 
 // Puts the numbers of the documents of a segment that are not deleted and satisfy the query behind
-// those that were found: of kind 2 by its posting lists, else document by document.
+// those that were found: of kind 2 by its posting lists, else document by document. A segment that
+// goes past its extent is damaged.
 fn find_in<D: Disk>(
     alloc: Global,
     source: &mut ExtentSource<D>,
@@ -165,6 +163,7 @@ fn find_in<D: Disk>(
         → AgreesAt (D.content source.old.disk.now) cache.old at.now.entry.now at.now.opened.now
         → FoundAs query (live_of (with_deleted at.now.opened.now s))
         found.old.items found.new.items result }
+    ensures whole { OnOk result (IsWhole at.now.entry.now.extent at.now.opened.now.segment) }
     ensures agrees { D.honest → (at.now.entry.now.kind ≡ 2 → (docs : List Doc)
         → IndexSpells (extent_bytes (D.content source.old.disk.now) at.now.entry.now.extent) docs
         → IsSegmentOf at.now.opened.now.segment docs
@@ -173,10 +172,11 @@ fn find_in<D: Disk>(
         → AgreesAt (D.content source.old.disk.now) cache.new at.now.entry.now at.now.opened.now }
     ensures adds { AddsOnlyOf at.now.entry.now.segment cache.old cache.new }
     ensures same_reference { source.new.disk.ghost_name ≡ source.old.disk.ghost_name }
-    ensures keeps { KeepsDisk D.Disk source.old.disk.now source.new.disk.now }
-    ensures reads { CountsReads (D.failed_reads source.old.disk.now)
-        (D.failed_reads source.new.disk.now) result }
+    ensures left { ReadsDisk D.Disk CountsReads result source.old.disk.now source.new.disk.now }
 {
+    if at.entry.extent.bytes < at.opened.segment.postings() {
+        return Err(ReadFault::Damaged);
+    }
     source.turn_to(at.entry.extent);
     if at.entry.kind == INDEXED {
         return find_planned(alloc, source, cache, at, found);
@@ -208,6 +208,8 @@ fn find_all<D: Disk>(
         find.now.segments.entries.now find.now.segments.opened.now
         → FoundAs query (live_in (present find.now.segments.opened.now stored))
         found.old.items found.new.items result }
+    ensures whole { OnOk result
+        (AreWhole find.now.segments.entries.now find.now.segments.opened.now) }
     ensures agrees { D.honest
         → AreKept (D.content source.old.disk.now) (texts find.now.planned.now.words.items)
         find.now.segments.entries.now find.now.segments.opened.now find.now.kept.now
@@ -219,9 +221,7 @@ fn find_all<D: Disk>(
         → All (λ (e : Part). e.segment < next) find.now.segments.entries.now
         → KeepsBelow next cache.old → KeepsBelow next cache.new }
     ensures same_reference { source.new.disk.ghost_name ≡ source.old.disk.ghost_name }
-    ensures keeps { KeepsDisk D.Disk source.old.disk.now source.new.disk.now }
-    ensures reads { CountsReads (D.failed_reads source.old.disk.now)
-        (D.failed_reads source.new.disk.now) result }
+    ensures left { ReadsDisk D.Disk CountsReads result source.old.disk.now source.new.disk.now }
 {
     let Segments { entries, opened } = find.segments;
     let kept = find.kept;
@@ -250,7 +250,8 @@ fn find_all<D: Disk>(
 /// them; whatever these have, the answer is the same.
 ///
 /// Answers `Damaged` where a segment is none, `Disk` where a read failed, or `Memory`; then some of
-/// the numbers may stand there.
+/// the numbers may stand there. Whatever is read, no segment that goes past its entry's extent is
+/// passed over.
 pub fn find_stored<'a, D: Disk>(
     alloc: Global,
     disk: &mut D,
@@ -270,13 +271,13 @@ pub fn find_stored<'a, D: Disk>(
         → CacheAgrees (D.content disk.old) cache.old entries.now opened.now
         → FoundAs (tree_of query.now) (live_in (present opened.now stored)) found.old.items
         found.new.items result }
+    ensures whole { OnOk result (AreWhole entries.now opened.now) }
     ensures agrees { D.honest
         → CacheAgrees (D.content disk.old) cache.old entries.now opened.now
         → CacheAgrees (D.content disk.old) cache.new entries.now opened.now }
     ensures below { (next : ℕ) → All (λ (e : Part). e.segment < next) entries.now
         → KeepsBelow next cache.old → KeepsBelow next cache.new }
-    ensures keeps { KeepsDisk D.Disk disk.old disk.new }
-    ensures reads { CountsReads (D.failed_reads disk.old) (D.failed_reads disk.new) result }
+    ensures left { ReadsDisk D.Disk CountsReads result disk.old disk.new }
 {
     let words = words_of(alloc, query)?;
     let mut source = ExtentSource::on(disk, Extent::of_bytes(0, 0));

@@ -1,13 +1,13 @@
 //! Words that stand in the texts of a segment's documents in a row.
-ghost use Rattle.std.specs.Prelude.{◌≡◌, ℕ, List, All, MatchResult, OnOk, take, true};
+ghost use Rattle.std.specs.Prelude.{◌≡◌, List, All, MatchResult, OnOk, true};
 ghost use Rattle.std.specs.List.Sorted.{IsStrictlyIncreasing};
 ghost use Rattle.pk_model.specs.Collection.{Doc, answer, numbers_of};
 ghost use Rattle.pk_model.specs.Tree.{Phrase};
 ghost use Rattle.pk_plan.specs.Plans.{Both, InRow, Operation, found};
-ghost use Rattle.pk_search.specs.Left.{IsLeftByRead};
 ghost use Rattle.pk_search.specs.Matching.{PutsAs};
+ghost use Rattle.pk_segment.specs.OnlyRead.{ReadsSource};
 ghost use Rattle.pk_segment.specs.Opened.{IsSegmentOf};
-ghost use Rattle.pk_segment.specs.Reading.{IsNoDamage};
+ghost use Rattle.pk_segment.specs.Reading.{CountsReads, IsNoDamage};
 ghost use Rattle.pk_segment.specs.Spelling.{SegmentSpells};
 ghost use Rattle.pk_sets.specs.Sets.{has, intersection};
 ghost use Rattle.pk_words.specs.Rows.{IsTable, texts};
@@ -40,8 +40,7 @@ pub(crate) fn keep_in_row<S: ByteSource>(
         → IsSegmentOf segment.now docs → (o : Operation) → numbers.old.items ≡ found o docs
         → PutsAs (found (Both o (InRow (texts row.now))) docs) numbers.new.items result }
     ensures rising { OnOk result (IsStrictlyIncreasing numbers.new.items) }
-    ensures left { IsLeftByRead S.honest S.content S.failures S.keeps
-        result source.old source.new }
+    ensures left { ReadsSource S.ByteSource CountsReads result source.old source.new }
 {
     let kept = those_in_row(alloc, source, segment, row, numbers)?;
     if !is_rising(&kept) {
@@ -64,8 +63,7 @@ fn those_in_row<S: ByteSource>(
         → IsSegmentOf segment.now docs → All (λ n. has (numbers_of docs) n ≡ true) numbers.now
         → MatchResult result (λ kept. kept.items
         ≡ intersection numbers.now (answer (Phrase (texts row.now)) docs)) IsNoDamage }
-    ensures left { IsLeftByRead S.honest S.content S.failures S.keeps
-        result source.old source.new }
+    ensures left { ReadsSource S.ByteSource CountsReads result source.old source.new }
 {
     let table = row_table(alloc, row)?;
     let sought = SoughtRow {
@@ -98,8 +96,7 @@ fn is_in_row<S: ByteSource>(
         → IsSegmentOf sought.now.segment.now docs → has (numbers_of docs) number ≡ true
         → MatchResult result (λ is. is ≡ has (answer (Phrase (texts sought.now.words.now)) docs)
         number) IsNoDamage }
-    ensures left { IsLeftByRead S.honest S.content S.failures S.keeps
-        result source.old source.new }
+    ensures left { ReadsSource S.ByteSource CountsReads result source.old source.new }
 {
     let found = sought.segment.text_of(alloc, source, number)?;
     let Some(text) = found else {

@@ -1,11 +1,11 @@
 //! Search over stored segments: the numbers that a query finds.
 //!
-//! A caller hands the disk, the entries of the body in force and their open segments (pk_open), each
-//! at the place of its entry. What the entries stand for is said by pk_state: by `SpellsEntries`,
-//! and for a find without a phrase by `IndexesEntries`, in which the texts of kind 2 may be any
-//! bytes (`AnswersEntries`). The clauses hold for whatever is `present` of it. `find_stored` answers
-//! the numbers of the live documents that satisfy a query. It reads posting lists, texts for
-//! phrases, and of kind 1 each document.
+//! A caller hands the disk, the entries of the body in force and their open segments (pk_open),
+//! each at the place of its entry. What the entries stand for is said by pk_state: by
+//! `SpellsEntries`, and for a find without a phrase by `IndexesEntries`, in which the texts of kind
+//! 2 may be any bytes (`AnswersEntries`). The clauses hold for whatever is `present` of it.
+//! `find_stored` answers the numbers of the live documents that satisfy a query. It reads posting
+//! lists, texts for phrases, and of kind 1 each document.
 //!
 //! A find looks each word up once in each segment of kind 2, however often it comes (`repeats`),
 //! and reads the segment's header once for it. What the dictionaries say is kept by the word's
@@ -16,9 +16,9 @@
 //! taken out too and joined (`lists`). Where nothing is left, nothing more is read. The beginning
 //! of a word is looked for in the dictionary, and the lists of all words that begin so are united
 //! (`begun`). Words in a row are looked for in the texts of what is left at the end (`in_row`), one
-//! text in memory at a time. A segment of
-//! kind 1 has no lists: its documents are read, and the plan carried out over an index of the words
-//! of each (`hits`). The plan is answered, so that other documents are found by it too.
+//! text in memory at a time. A segment of kind 1 has no lists: its documents are read, and the plan
+//! carried out over an index of the words of each (`hits`). The plan is answered, so that other
+//! documents are found by it too.
 //!
 //! The answer is exact whatever the frequencies are: they choose the way alone.
 //!

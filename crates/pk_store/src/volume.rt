@@ -1,6 +1,6 @@
 //! What is committed, on its disk, and what of it is deleted: the body in force with its open
 //! segments, and the one way in which another body takes its place.
-ghost use Rattle.std.specs.Prelude.{◌≡◌, ◌≤◌, ◌<◌, ◌+◌, ◌^◌, List, IfOk, OnErr, false, length};
+ghost use Rattle.std.specs.Prelude.{◌≡◌, ◌≤◌, ◌<◌, ◌+◌, ◌^◌, List, IfOk, None, Ok, OnErr, false, length};
 ghost use Rattle.std.specs.List.{list_any};
 ghost use Rattle.pk_check.specs.Holding.{ChecksBodyAs, IsOfBody};
 ghost use Rattle.pk_disk.specs.Frames.{KeepsDisk};
@@ -12,11 +12,13 @@ ghost use Rattle.pk_plan.specs.Plans.{IsPlanFor};
 ghost use Rattle.pk_plan.specs.Texts.{has_phrase};
 ghost use Rattle.pk_search.specs.Answering.{AnswersEntries};
 ghost use Rattle.pk_search.specs.Finding.{FoundAs};
+ghost use Rattle.pk_open.specs.Seeking.{IsUnreached, SeeksText};
 ghost use Rattle.pk_open.specs.Showing.{LooksUpAs};
 ghost use Rattle.pk_open.specs.Opened.{AreOpenOf, pends, present};
 ghost use Rattle.pk_segment.specs.Spelling.{docs_of};
 ghost use Rattle.pk_segment.specs.Reading.{CountsReads};
 ghost use Rattle.pk_state.specs.Committed.{Stored, live_in, whole_of};
+ghost use Rattle.pk_store.specs.Caching.{blocks_of};
 ghost use Rattle.pk_store.specs.Deleting.{DeletesAt, DeletesIn};
 ghost use Rattle.pk_merge.specs.Choosing.{ChoosesAs};
 ghost use Rattle.pk_state.specs.Writing.{sizes_of};
@@ -31,7 +33,10 @@ use pk_cache::BlockCache;
 use pk_check::{Checked, check_body};
 use pk_disk::Disk;
 use pk_index::Index;
-use pk_layout::{CommitPlan, MAX_DELETED, MergePlan, Plan, plan_commit, plan_merged, written_kind};
+use pk_layout::{
+    CommitPlan, MAX_DELETED, MergePlan, Plan, Run, Uncommitted, plan_commit, plan_merged,
+    written_kind,
+};
 use pk_manifest::{Half, Manifest};
 use pk_merge::{MergeInput, MergeWriter, Prepared, choose, prepare};
 use pk_model::limits::{END_OF_IDS, MAX_SEGMENTS};
@@ -74,6 +79,7 @@ pub(crate) struct Volume<D: Disk> {
 
 impl<D: Disk> Model for Volume<D> {
     ghost use Rattle.pk_manifest.specs.Spelling.{view as body_of};
+    ghost use Rattle.pk_store.specs.Caching.{blocks_of};
     ghost use Rattle.pk_store.specs.View.{IsCached, IsReady, VolumeView};
 
     ghost Value = { VolumeView D };
@@ -84,6 +90,7 @@ impl<D: Disk> Model for Volume<D> {
       opened = v.opened.items;
       spare = v.spare;
       reopen = v.reopen;
+      blocks = blocks_of v.cache;
     } };
 
     ghost invariant = { λ v. IsReady D.Disk (record {
@@ -92,12 +99,14 @@ impl<D: Disk> Model for Volume<D> {
       opened = v.opened.items;
       spare = v.spare;
       reopen = v.reopen;
+      blocks = blocks_of v.cache;
     }) × IsCached D.Disk (record {
       disk = v.disk;
       body = body_of v.manifest;
       opened = v.opened.items;
       spare = v.spare;
       reopen = v.reopen;
+      blocks = blocks_of v.cache;
     }) v.cache };
 }
 
@@ -110,10 +119,11 @@ impl<D: Disk> Volume<D> {
         spare: Half,
         cache: Option<BlockCache>,
     ) -> Volume<D>
-        requires ready { IsReady D.Disk (volume_of disk (view manifest) opened.items spare) }
-        requires cached { IsCached D.Disk (volume_of disk (view manifest) opened.items spare)
-            cache }
-        ensures { result ≡ volume_of disk (view manifest) opened.items spare }
+        requires ready { IsReady D.Disk
+            (volume_of disk (view manifest) opened.items spare (blocks_of cache)) }
+        requires cached { IsCached D.Disk
+            (volume_of disk (view manifest) opened.items spare (blocks_of cache)) cache }
+        ensures { result ≡ volume_of disk (view manifest) opened.items spare (blocks_of cache) }
     {
         Volume {
             disk,
@@ -179,6 +189,9 @@ impl<D: Disk> Volume<D> {
         ensures text { D.honest → (stored : List Stored) → StandFor D.Disk self.old stored
             → self.old.reopen ≡ false → IsCollection (whole_of (committed_by self.old stored))
             → LooksUpAs (live_in (present self.old.opened stored)) number.0 result }
+        ensures sought { SeeksText self.old.body.entries self.old.opened number.0 result }
+        ensures unreached { IsUnreached self.old.opened number.0
+            → (result ≡ Ok None) × (self.new ≡ self.old) }
         ensures keeps { KeepsVolume D.Disk self.old self.new }
         ensures reads { CountsReads (D.failed_reads self.old.disk) (D.failed_reads self.new.disk)
             result }
@@ -280,14 +293,12 @@ impl<D: Disk> Volume<D> {
         ensures { PlansAs (length (D.content self.now.disk)) self.now.body self.now.opened
             (docs_of documents.now) next_number result }
     {
-        plan_commit(
-            alloc,
-            &self.manifest,
-            &self.opened,
+        let new = Uncommitted {
             documents,
             index,
             next_number,
-        )
+        };
+        plan_commit(alloc, &self.manifest, &self.opened, &new)
     }
 
     /// How many segments a merge makes one of: all. None where nothing is left to merge: there is no
@@ -343,7 +354,8 @@ impl<D: Disk> Volume<D> {
             Err(fault) => return Err(refusal_of(fault)),
         };
         let new = new_segment(&prepared)?;
-        let merge = plan_merged(alloc, &self.manifest, &self.opened, from, count, new)?;
+        let run = Run { from, count };
+        let merge = plan_merged(alloc, &self.manifest, &self.opened, run, new)?;
         Ok(RunPlan { merge, prepared })
     }
 

@@ -1,11 +1,10 @@
 -- One entry more, or the one that is damaged.
-use Rattle.std.proofs.Common.{◌∙◌, sym, ap, subst, arith, Err, Result}
+use Rattle.std.proofs.Common.{◌∙◌, sym, ap, subst, arith, rules, Err, Result}
 use Rattle.std.specs.Global.{Vec}
 use Rattle.std.proofs.lemmas.Result.{err_from_is_err_and}
 use Rattle.std.proofs.lemmas.Grind.{common_steps}
 use Rattle.pk_manifest.specs.Spelling.{view}
 use Rattle.pk_open.specs.declared.opened.OpenSegment.{OpenSegment}
-use Rattle.pk_disk.proofs.FrameLemmas.{keeps_disk_then}
 use Rattle.pk_segment.specs.declared.fault.ReadFault.{ReadFault}
 use Rattle.pk_open.specs.Opening.{SegmentsAs}
 use Rattle.pk_open.proofs.EntryLemmas.{end_so_far, fault_so_far, more_grown, next_so_far}
@@ -20,7 +19,7 @@ returns-in_err-opened-clause-opened g c = λ honest.
     let found = err_from_is_err_and c.from_residual.result c.from_residual.ensures.1 in
     subst (λ (r : Result (Vec OpenSegment) ReadFault). SegmentsAs bytes table r) (sym (found.1 ∙ ap Err found.2))
     (fault_so_far bytes table l.low l.segments.items l.entry-index (omega arith) (l.invariant.open_so_far honest)
-    (D.content l.disk) (l.invariant.keeps.read honest).bytes c.deref-entry-items.result.now c.deref-entry-items.ensures.value
+    (D.content l.disk) (l.invariant.left.keeps.read honest).bytes c.deref-entry-items.result.now c.deref-entry-items.ensures.value
     c.in_err-opened.field-0.0 (c.in_err-opened.ensures.opened honest))
 
 pub loop-entry-preserved : goal.loop-entry-preserved
@@ -31,13 +30,12 @@ loop-entry-preserved g c =
     let l = c.loop-entry in
     let s = c.in_ok-opened.opened in
     record {
-      keeps = keeps_disk_then D c.args.disk.now l.disk c.open_next.new.disk l.invariant.keeps c.open_next.ensures.keeps;
-      reads = c.in_ok-opened.ensures.reads.ok ∙ l.invariant.reads;
+      left = search rules;
       count = grind (arith, common_steps);
       grown = rw c.in-Ok.ensures.items (more_grown l.segments.items s l.invariant.grown c.in_ok-opened.ensures.grown);
       open_so_far = λ honest. rw (c.last-low.ensures, c.in-Ok.ensures.items)
           (next_so_far bytes table l.low l.segments.items l.entry-index (omega arith) (l.invariant.open_so_far honest)
-          (D.content l.disk) (l.invariant.keeps.read honest).bytes c.deref-entry-items.result.now c.deref-entry-items.ensures.value
+          (D.content l.disk) (l.invariant.left.keeps.read honest).bytes c.deref-entry-items.result.now c.deref-entry-items.ensures.value
           s (c.in_ok-opened.ensures.opened honest));
     }
 

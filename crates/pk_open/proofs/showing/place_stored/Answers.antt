@@ -1,8 +1,10 @@
 -- The segment whose numbers reach over the number answers for all; where there is none, none has it.
-use Rattle.std.proofs.Common.{◌<◌, ◌∙◌, ℕ, Ok, Option, length, arith, subst, sym}
+use Rattle.std.proofs.Common.{◌<◌, ◌∙◌, ℕ, Err, Ok, Option, length, ap, arith, subst, sym}
 use Rattle.std.proofs.lemmas.Result.{err_from_is_err_and}
-use Rattle.pk_open.proofs.PlaceLemmas.{entry_at, opened_at}
+use Rattle.pk_open.proofs.PlaceLemmas.{entry_at, opened_at, passed, seeks_fault, seeks_place}
 use Rattle.pk_open.proofs.LookUpLemmas.{dropped, get_same, lives_fault, located, no_span, none_zero, placed}
+use Rattle.pk_posting.specs.declared.source.SourceFault.{SourceFault}
+use Rattle.pk_open.specs.Seeking.{SeeksPlace}
 use Rattle.pk_open.specs.Showing.{LivesAt}
 use Rattle.pk_open.specs.Opened.{documents_at}
 use Rattle.pk_open.proofs.showing.place_stored.Goals as goal
@@ -39,3 +41,19 @@ returns-clause-place g c = λ h committed spells are whole.
     (placed c.args.opened.now committed are whole c.args.number.0 _ c.args.entries.now spells i c.index-opened-place.result at.0 c.index-opened-place.is at.1 (sym c.contains.ensures ∙ c.if-contains.false) c.in_ok-has.has
     (c.in_ok-has.ensures.has h (documents_at committed.stored i) _ (entry_at _ c.args.entries.now committed.stored i _ spells within (get_same c.args.entries.now i _ _ within)).segment
     (opened_at c.args.opened.now committed.stored i c.index-opened-place.result are at.0 c.index-opened-place.is).segment))
+
+pub returns-then-contains-clause-sought : goal.returns-then-contains-clause-sought
+returns-then-contains-clause-sought g c =
+    passed c.args.entries.now c.args.opened.now c.args.number.0 c.in-Some.place c.index-opened-place.result c.requires.same c.in-Some.ensures c.index-opened-place.is (sym c.if-contains.ensures)
+
+pub returns-in_err-has-clause-sought : goal.returns-in_err-has-clause-sought
+returns-in_err-has-clause-sought g c =
+    let err = err_from_is_err_and c.from_residual.result c.from_residual.ensures.1 in
+    seeks_fault c.args.entries.now c.args.opened.now c.args.number.0 c.in-Some.place c.index-opened-place.result c.requires.same c.in-Some.ensures c.index-opened-place.is (sym c.contains.ensures ∙ c.if-contains.false)
+    c.from_residual.result err.0 c.in_err-has.field-0.0 err.1 err.2 (λ is. c.in_err-has.ensures.cut (ap (λ (f : SourceFault). Err f) is))
+
+pub returns-clause-sought : goal.returns-clause-sought
+returns-clause-sought g c =
+    subst (λ (found : Option ℕ). SeeksPlace c.args.entries.now c.args.opened.now c.args.number.0 (Ok found)) (sym c.then_some.ensures)
+    (seeks_place c.args.entries.now c.args.opened.now c.args.number.0 c.in-Some.place c.index-opened-place.result c.requires.same c.in-Some.ensures c.index-opened-place.is (sym c.contains.ensures ∙ c.if-contains.false) c.in_ok-has.has
+    c.in_ok-has.ensures.whole)

@@ -1,6 +1,6 @@
 -- The segment whose numbers reach over the number answers for all; where there is none, none has it.
 use Rattle.std.proofs.Common.{◌<◌, ◌∙◌, length, arith, sym}
-use Rattle.pk_open.proofs.PlaceLemmas.{entry_at, opened_at}
+use Rattle.pk_open.proofs.PlaceLemmas.{entry_at, opened_at, passed, seeks_text}
 use Rattle.pk_open.proofs.LookUpLemmas.{dropped, get_same, located, looked_up, no_span}
 use Rattle.pk_open.specs.Opened.{documents_at}
 use Rattle.pk_open.proofs.showing.text_stored.Goals as goal
@@ -22,3 +22,12 @@ returns-clause-text g c = λ h committed spells are whole.
     looked_up c.args.opened.now committed are whole c.args.number.0 _ c.args.entries.now spells i c.index-opened-place.result at.0 c.index-opened-place.is at.1 (sym c.contains.ensures ∙ c.if-contains.false) c.text_in.result
     (c.text_in.ensures.text h (documents_at committed.stored i) _ (entry_at _ c.args.entries.now committed.stored i _ spells within (get_same c.args.entries.now i _ _ within)).segment
     (opened_at c.args.opened.now committed.stored i c.index-opened-place.result are at.0 c.index-opened-place.is).segment)
+
+pub returns-then-contains-clause-sought : goal.returns-then-contains-clause-sought
+returns-then-contains-clause-sought g c =
+    passed c.args.entries.now c.args.opened.now c.args.number.0 c.in-Some.place c.index-opened-place.result c.requires.same c.in-Some.ensures c.index-opened-place.is (sym c.if-contains.ensures)
+
+pub returns-clause-sought : goal.returns-clause-sought
+returns-clause-sought g c =
+    seeks_text c.args.entries.now c.args.opened.now c.args.number.0 c.in-Some.place c.index-opened-place.result c.requires.same c.in-Some.ensures c.index-opened-place.is (sym c.contains.ensures ∙ c.if-contains.false) c.text_in.result
+    c.text_in.ensures.whole

@@ -1,12 +1,10 @@
 -- The text is that of the document, and the words stand there or not.
-use Rattle.std.proofs.Common.{◌∙◌, ap, List, ℕ, Ok}
+use Rattle.std.proofs.Common.{◌∙◌, ap, List, ℕ}
 use Rattle.pk_model.specs.Tree.{stand_in}
 use Rattle.pk_model.specs.Words.{words_of}
 use Rattle.pk_sets.proofs.PartLemmas.{rising_all}
 use Rattle.pk_words.specs.Rows.{texts}
-use Rattle.pk_search.specs.Left.{IsLeftByRead}
 use Rattle.pk_search.proofs.InRowLemmas.{fault_passed, none_missing, stands_by}
-use Rattle.pk_search.proofs.LeftLemmas.{left_damaged, left_done, left_fault, left_refused}
 use Rattle.pk_search.proofs.in_row.is_in_row.Goals as goal
 
 pub returns-in_err-found-clause-is : goal.returns-in_err-found-clause-is
@@ -23,26 +21,3 @@ returns-clause-is g c = λ honest docs is of live.
     let row = texts c.args.sought.now.words.now in
     c.in_ok-is.ensures ∙ ap (λ (t : List ℕ). stand_in row (words_of t)) c.as_str.ensures.value
     ∙ stands_by row docs c.args.number c.in_ok-found.found c.in-Some.text (rising_all _ is.are.rising) (c.in_ok-found.ensures.spelled honest docs 2 is of) c.in-Some.is
-
-pub returns-in_err-found-clause-left : goal.returns-in_err-found-clause-left
-returns-in_err-found-clause-left g c =
-    let S = g.S.ByteSource in
-    left_fault (record { same = c.text_of.ensures.content; kept = c.text_of.ensures.keeps; faults = c.in_err-found.ensures.faults }) c.from_residual.ensures.1
-
-pub returns-in_default-clause-left : goal.returns-in_default-clause-left
-returns-in_default-clause-left g c =
-    let left : IsLeftByRead g.S.ByteSource.honest g.S.ByteSource.content g.S.ByteSource.failures g.S.ByteSource.keeps (Ok c.in_ok-found.found) c.args.source.now c.text_of.new.source =
-    record { same = c.text_of.ensures.content; kept = c.text_of.ensures.keeps; faults = c.in_ok-found.ensures.faults } in
-    left_damaged left
-
-pub returns-in_err-is-clause-left : goal.returns-in_err-is-clause-left
-returns-in_err-is-clause-left g c =
-    let left : IsLeftByRead g.S.ByteSource.honest g.S.ByteSource.content g.S.ByteSource.failures g.S.ByteSource.keeps (Ok c.in_ok-found.found) c.args.source.now c.text_of.new.source =
-    record { same = c.text_of.ensures.content; kept = c.text_of.ensures.keeps; faults = c.in_ok-found.ensures.faults } in
-    left_refused left c.from_residual-in_err-is.ensures.1
-
-pub returns-clause-left : goal.returns-clause-left
-returns-clause-left g c =
-    let left : IsLeftByRead g.S.ByteSource.honest g.S.ByteSource.content g.S.ByteSource.failures g.S.ByteSource.keeps (Ok c.in_ok-found.found) c.args.source.now c.text_of.new.source =
-    record { same = c.text_of.ensures.content; kept = c.text_of.ensures.keeps; faults = c.in_ok-found.ensures.faults } in
-    left_done left

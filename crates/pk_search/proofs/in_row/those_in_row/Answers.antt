@@ -1,5 +1,5 @@
 -- One number more, which is kept where the words stand in its text.
-use Rattle.std.proofs.Common.{◌≡◌, ◌∙◌, ◌++◌, ◌∷◌, [], take, slice_index, append-nil, true, false, refl, sym, ap, subst, List, ℕ, arith}
+use Rattle.std.proofs.Common.{◌≡◌, ◌∙◌, ◌++◌, ◌∷◌, [], take, slice_index, append-nil, true, false, refl, sym, ap, subst, List, ℕ, arith, rules}
 use Rattle.std.proofs.lemmas.List.{take_all}
 use Rattle.std.specs.Global.{Vec}
 use Rattle.pk_model.specs.Collection.{answer}
@@ -9,13 +9,12 @@ use Rattle.pk_sets.specs.Sets.{intersection}
 use Rattle.pk_words.specs.Rows.{texts}
 use Rattle.pk_search.proofs.InRowLemmas.{fault_passed}
 use Rattle.pk_search.proofs.ListLemmas.{kept_more}
-use Rattle.pk_search.proofs.LeftLemmas.{left_done, left_fault, left_none, left_refused, left_then}
 use Rattle.pk_search.proofs.in_row.those_in_row.Goals as goal
 use Rattle.pk_search.proofs.in_row.those_in_row.Goals.{then-is+in_ok-extend_from_slice, else-is}
 
 pub loop-i-init : goal.loop-i-init
 loop-i-init g c = record {
-  left = left_none (g.met.S.ByteSource.keeps_self _);
+  left = search rules;
   kept = λ honest docs is of all. c.new-kept.ensures.items;
 }
 
@@ -38,7 +37,7 @@ loop-i-preserved g c =
     let row = texts c.args.row.now in
     let x = slice_index numbers i in
     record {
-      left = left_done (left_then g.met.S.ByteSource.keeps_then before.left c.in_ok-is.ensures.left);
+      left = search rules;
       kept = λ honest docs is of all. (
           let here = subst (λ (x : List ℕ). SegmentSpells x docs 2) (sym (before.left.same honest)) is in
           let hits = answer (Phrase row) docs in
@@ -59,15 +58,3 @@ returns-clause-kept g c = λ honest docs is of all.
     let numbers = c.args.numbers.now in
     let every : take c.loop-i.i numbers ≡ numbers = take_all c.loop-i.i numbers (omega arith) in
     c.loop-i.invariant.kept honest docs is of all ∙ ap (λ (ns : List ℕ). intersection ns (answer (Phrase (texts c.args.row.now)) docs)) every
-
-pub returns-in_err-table-clause-left : goal.returns-in_err-table-clause-left
-returns-in_err-table-clause-left g c = left_refused {v = tt {0}} (left_none (g.met.S.ByteSource.keeps_self _)) c.from_residual.ensures.1
-
-pub returns-in_err-is-clause-left : goal.returns-in_err-is-clause-left
-returns-in_err-is-clause-left g c = left_fault (left_then g.met.S.ByteSource.keeps_then c.loop-i.invariant.left c.in_err-is.ensures.left) c.from_residual-in_err-is.ensures.1
-
-pub returns-in_err-extend_from_slice-clause-left : goal.returns-in_err-extend_from_slice-clause-left
-returns-in_err-extend_from_slice-clause-left g c = left_refused (left_then g.met.S.ByteSource.keeps_then c.loop-i.invariant.left c.in_ok-is.ensures.left) c.from_residual-in_err-extend_from_slice.ensures.1
-
-pub returns-clause-left : goal.returns-clause-left
-returns-clause-left g c = left_done c.loop-i.invariant.left

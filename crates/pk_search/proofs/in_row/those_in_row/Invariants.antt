@@ -2,7 +2,8 @@
 use Rattle.std.proofs.Common.{◌≡◌, List, All, take, true, Ok}
 use Rattle.pk_model.specs.Collection.{Doc, answer, numbers_of}
 use Rattle.pk_model.specs.Tree.{Phrase}
-use Rattle.pk_search.specs.Left.{IsLeftByRead}
+use Rattle.pk_segment.specs.OnlyRead.{ReadsSource}
+use Rattle.pk_segment.specs.Reading.{CountsReads}
 use Rattle.pk_segment.specs.Opened.{IsSegmentOf}
 use Rattle.pk_segment.specs.Spelling.{SegmentSpells}
 use Rattle.pk_sets.specs.Sets.{has, intersection}
@@ -13,7 +14,7 @@ abbrev pub invariant-loop-i : goal.invariant-loop-i
 invariant-loop-i g l =
     let content = g.S.ByteSource.content in
     record {
-      left : IsLeftByRead g.S.ByteSource.honest content g.S.ByteSource.failures g.S.ByteSource.keeps (Ok (tt {0})) l.fn.source l.source;
+      left : ReadsSource g.S.ByteSource CountsReads (Ok (tt {0})) l.fn.source l.source;
       kept : g.S.ByteSource.honest → (docs : List Doc) → SegmentSpells (content l.fn.source) docs 2 → IsSegmentOf l.segment docs → All (λ n. has (numbers_of docs) n ≡ true) l.numbers
           → l.kept.items ≡ intersection (take l.i l.numbers) (answer (Phrase (texts l.fn.row)) docs);
     }
