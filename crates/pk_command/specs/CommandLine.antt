@@ -1,6 +1,6 @@
 -- What the words of a command line ask, over the definitions of `clap`: what its parse of a command
 -- matches, and which kinds of error it gives.
-use Rattle.std.specs.Prelude.{◌≡◌, ◌⊎◌, ◌^◌, ℕ, List, [], Option, None, Some, true, false, codes}
+use Rattle.std.specs.Prelude.{◌≡◌, ◌⊎◌, ℕ, List, [], Option, None, Some, true, false, codes}
 use Rattle.std.specs.Str.Parse.{IsNumeral, digits_value, without_leading_plus}
 use Rattle.clap.specs.Words.{App, IsAmong, Row, Rule, Text, fault_of, first_of, new_app, new_rule, one_of}
 use Rattle.clap.specs.Words.{rule_of, subcommand_of, with_rule, with_subcommand}
@@ -8,6 +8,7 @@ use Rattle.clap.specs.declared.builder.arg.Arg.{Arg}
 use Rattle.clap.specs.declared.builder.value_parser.ValueParser.TheVariants as parser
 use Rattle.clap.specs.declared.error.kind.ErrorKind.{ErrorKind}
 use Rattle.clap.specs.declared.error.kind.ErrorKind.TheVariants.{DisplayHelp, DisplayVersion}
+use Rattle.pk_disk.specs.Sizes.{least_units, most_units}
 use Rattle.pk_command.specs.declared.command_line.Asked.{Asked}
 use Rattle.pk_command.specs.declared.command_line.Asked.TheVariants.{Check, Create, Run}
 
@@ -21,7 +22,7 @@ units_rule = record (new_rule (codes "units")) {
   long = Some (codes "units");
   value_names = 1;
   required = true;
-  parser = Some (parser.Unsigned 64 (2 ^ 31));
+  parser = Some (parser.Unsigned least_units most_units);
 }
 
 abbrev pub create_app : App

@@ -1,10 +1,11 @@
 -- What a command came to, by its status, over any disk.
-use Rattle.std.specs.Prelude.{◌≡◌, ◌≢◌, ◌≤◌, ◌*◌, ◌^◌, ◌⊎◌, ℕ, List, [], ◌++◌, length, codes, decimal}
+use Rattle.std.specs.Prelude.{◌≡◌, ◌≢◌, ◌≤◌, ◌*◌, ◌⊎◌, ℕ, List, [], ◌++◌, length, codes, decimal}
 use Rattle.std.specs.Prelude.{Option, Result, Ok, Err}
 use Rattle.std.specs.Io.KnownBytes.{Appends}
 use Rattle.clap.specs.Words.{Text}
 use Rattle.clap.specs.declared.error.kind.ErrorKind.{ErrorKind}
 use Rattle.clap.specs.declared.error.kind.ErrorKind.TheVariants.{OutOfMemory}
+use Rattle.pk_disk.specs.Sizes.{least_units, most_units}
 use Rattle.pk_disk.specs.declared.disk.Disk.{Ghosts}
 use Rattle.pk_filedisk.specs.File.{IsDiskLength, IsOfMake, IsOfOpening}
 use Rattle.pk_filedisk.specs.declared.fault.FileFault.{FileFault}
@@ -45,7 +46,7 @@ refused = 2
 
 -- as many units as a store may have
 abbrev pub IsOfSize : ℕ → Type 0
-IsOfSize units = (64 ≤ units) × (units ≤ 2 ^ 31)
+IsOfSize units = (least_units ≤ units) × (units ≤ most_units)
 
 -- a store to be made has such a size
 abbrev pub HasSize : Asked → Type 0

@@ -15,13 +15,8 @@ ghost use Rattle.pk_command.specs.declared.command_line.Asked.{Asked};
 
 use clap::builder::ValueParser;
 use clap::{Arg, ArgMatches, Command};
+use pk_disk::{LEAST_UNITS, MAX_UNITS};
 use std::alloc::{AllocError, Global};
-
-/// The fewest units of a store.
-const LEAST_UNITS: u64 = 64;
-
-/// The most units of a store.
-const MOST_UNITS: u64 = 2_147_483_648;
 
 /// The version, which stands here alone.
 const VERSION: &str = "0.1.0";
@@ -123,7 +118,7 @@ fn units<'a>(alloc: Global) -> Arg<'a>
         .long("units")
         .value_name("N")
         .required(true)
-        .value_parser(ValueParser::unsigned(LEAST_UNITS, MOST_UNITS))
+        .value_parser(ValueParser::unsigned(u64::from(LEAST_UNITS), MAX_UNITS))
         .help("Its size in units of 512 bytes")
 }
 
@@ -164,7 +159,7 @@ fn units_of(matches: &ArgMatches<'_>) -> Option<u64>
         → IsCount text units → IsOfSize units → ⊥ }
 {
     let units = matches.get_one::<u64>("units")?;
-    if units < LEAST_UNITS || MOST_UNITS < units {
+    if units < u64::from(LEAST_UNITS) || MAX_UNITS < units {
         return None;
     }
     Some(units)

@@ -19,7 +19,7 @@ use super::outbox::Outbox;
 use super::reply::Response;
 use itoa::Buffer;
 use memchr::memchr2;
-use pk_model::{DocNo, Refusal, Reply};
+use pk_model::{Counts, DocNo, Refusal, Reply};
 use pk_query::QueryFault;
 use std::io::Write;
 
@@ -79,20 +79,32 @@ fn put_number<W: Write>(
     put(outbox, writer, buffer.format(number).as_bytes())
 }
 
-/// Puts two numbers, each behind a text.
-fn put_pair<W: Write>(
+/// Puts how many documents there are, and the number of the next one.
+fn put_counted<W: Write>(
     outbox: &mut Outbox,
     writer: &mut W,
-    text: &[u8],
-    number: u64,
-    then: &[u8],
-    other: u64,
+    counts: &Counts,
 ) -> Result<(), Unwritten>
     ensures { Puts outbox.old (W.contents writer.old) result outbox.new (W.contents writer.new)
-        (text.now ++ decimal number ++ (then.now ++ decimal other)) }
+        (codes "count " ++ decimal counts.now.documents
+        ++ (codes " next " ++ decimal counts.now.next)) }
 {
-    put_number(outbox, writer, text, number)?;
-    put_number(outbox, writer, then, other)
+    put_number(outbox, writer, b"count ", counts.documents)?;
+    put_number(outbox, writer, b" next ", u64::from(counts.next))
+}
+
+/// Puts that units are missing in a row: how many are needed, and the largest number of them.
+fn put_full<W: Write>(
+    outbox: &mut Outbox,
+    writer: &mut W,
+    need: u32,
+    largest: u32,
+) -> Result<(), Unwritten>
+    ensures { Puts outbox.old (W.contents writer.old) result outbox.new (W.contents writer.new)
+        (codes "refused full need " ++ decimal need ++ (codes " largest " ++ decimal largest)) }
+{
+    put_number(outbox, writer, b"refused full need ", u64::from(need))?;
+    put_number(outbox, writer, b" largest ", u64::from(largest))
 }
 
 /// Puts a number in decimal behind a space.
@@ -184,17 +196,7 @@ fn put_refused<W: Write>(outbox: &mut Outbox, writer: &mut W, why: Refusal) -> R
         Refusal::TooManySegments => put(outbox, writer, b"refused too many segments"),
         Refusal::SegmentTooLarge => put(outbox, writer, b"refused segment too large"),
         Refusal::Memory => put(outbox, writer, b"refused memory"),
-        Refusal::Full { need, largest } => {
-            let (need, largest) = (u64::from(need), u64::from(largest));
-            put_pair(
-                outbox,
-                writer,
-                b"refused full need ",
-                need,
-                b" largest ",
-                largest,
-            )
-        }
+        Refusal::Full { need, largest } => put_full(outbox, writer, need, largest),
         Refusal::Damaged => put(outbox, writer, b"refused damaged"),
         Refusal::Disk => put(outbox, writer, b"refused disk"),
     }
@@ -243,10 +245,7 @@ fn put_reply<W: Write>(outbox: &mut Outbox, writer: &mut W, reply: &Reply) -> Re
         Reply::Committed => put(outbox, writer, b"committed"),
         Reply::Merged => put(outbox, writer, b"merged"),
         Reply::Tidied => put(outbox, writer, b"tidied"),
-        Reply::Counted(counts) => {
-            let next = u64::from(counts.next);
-            put_pair(outbox, writer, b"count ", counts.documents, b" next ", next)
-        }
+        Reply::Counted(counts) => put_counted(outbox, writer, counts),
         Reply::Refused(why) => put_refused(outbox, writer, *why),
     }
 }

@@ -24,6 +24,15 @@ const MAX_READS: u64 = 1 << 40;
 /// The most bytes that one read asks for.
 const CHUNK_BYTES: usize = 16_384;
 
+/// What a session holds in memory, taken before the first read.
+#[derive(Drop)]
+struct Buffers {
+    /// The line that is being read.
+    line: Line,
+    /// The reply that is being built.
+    outbox: Outbox,
+}
+
 /// Answers what is held of a line, and says whether it was a quit.
 fn answer_line<W: Write, D: Disk>(
     alloc: Global,
@@ -48,26 +57,25 @@ fn answer_line<W: Write, D: Disk>(
 /// feed. It stops at a quit, and says whether there was one.
 fn answer_lines<W: Write, D: Disk>(
     alloc: Global,
-    line: &mut Line,
-    outbox: &mut Outbox,
+    buffers: &mut Buffers,
     store: &mut Store<D>,
     writer: &mut W,
     chunk: &[u8],
 ) -> Result<bool, Unwritten>
-    ensures { AnswersLines (StoreStep D.Disk) line.old store.old (W.contents writer.old) chunk.now
-        result line.new store.new (W.contents writer.new) }
+    ensures { AnswersLines (StoreStep D.Disk) buffers.old.line store.old (W.contents writer.old)
+        chunk.now result buffers.new.line store.new (W.contents writer.new) }
 {
     let mut rest = chunk;
     'lines: while let Some(end) = memchr(b'\n', rest) {
-        line.extend(&rest[..end]);
-        let quits = answer_line(alloc, line, outbox, store, writer)?;
-        line.clear();
+        buffers.line.extend(&rest[..end]);
+        let quits = answer_line(alloc, &buffers.line, &mut buffers.outbox, store, writer)?;
+        buffers.line.clear();
         if quits {
             return Ok(true);
         }
         rest = &rest[end + 1..];
     }
-    line.extend(rest);
+    buffers.line.extend(rest);
     Ok(false)
 }
 
@@ -95,24 +103,25 @@ pub fn serve<R: Read, W: Write, D: Disk>(
     ensures calls { EndsByCalls D.Disk store.old (R.remaining reader.old) (R.remaining reader.new)
         (W.contents writer.old) (W.contents writer.new) result store.new }
 {
-    let mut line = Line::new(alloc)?;
-    let mut outbox = Outbox::new(alloc)?;
+    let line = Line::new(alloc)?;
+    let outbox = Outbox::new(alloc)?;
+    let mut buffers = Buffers { line, outbox };
     let mut chunk = [0u8; CHUNK_BYTES];
     for _ in 0..MAX_READS {
         match reader.read(&mut chunk) {
             Err(_) => return Err(ShellFault::Input),
             Ok(0) => {
-                if line.is_blank() {
+                if buffers.line.is_blank() {
                     return Ok(Ended::InputEnd);
                 }
-                let quits = answer_line(alloc, &line, &mut outbox, store, writer)?;
+                let quits = answer_line(alloc, &buffers.line, &mut buffers.outbox, store, writer)?;
                 if quits {
                     return Ok(Ended::Quit);
                 }
                 return Ok(Ended::InputEnd);
             }
             Ok(n) => {
-                if answer_lines(alloc, &mut line, &mut outbox, store, writer, &chunk[..n])? {
+                if answer_lines(alloc, &mut buffers, store, writer, &chunk[..n])? {
                     return Ok(Ended::Quit);
                 }
             }

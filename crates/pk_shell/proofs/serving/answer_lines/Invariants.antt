@@ -6,7 +6,7 @@ use Rattle.pk_shell.proofs.serving.answer_lines.Given as goal
 
 abbrev pub invariant-lines : goal.invariant-lines
 invariant-lines g l =
-    IsTakenTo (StoreStep g.D.Disk) l.fn.line l.fn.store (g.W.Write.contents l.fn.writer) l.chunk l.rest l.line l.store (g.W.Write.contents l.writer)
+    IsTakenTo (StoreStep g.D.Disk) l.fn.buffers.line l.fn.store (g.W.Write.contents l.fn.writer) l.chunk l.rest l.buffers.line l.store (g.W.Write.contents l.writer)
 
 abbrev pub decreases-lines : goal.decreases-lines
 decreases-lines g l = length l.rest

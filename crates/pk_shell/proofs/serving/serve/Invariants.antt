@@ -5,4 +5,4 @@ use Rattle.pk_shell.proofs.serving.serve.Given as goal
 
 abbrev pub invariant-loop : goal.invariant-loop
 invariant-loop g l =
-    Progress (StoreStep g.D.Disk) l.fn.store (g.R.Read.remaining l.fn.reader) (g.R.Read.remaining l.reader) (g.W.Write.contents l.fn.writer) l.counter l.line l.store (g.W.Write.contents l.writer)
+    Progress (StoreStep g.D.Disk) l.fn.store (g.R.Read.remaining l.fn.reader) (g.R.Read.remaining l.reader) (g.W.Write.contents l.fn.writer) l.counter l.buffers.line l.store (g.W.Write.contents l.writer)
