@@ -26,6 +26,7 @@ from peers import Fts5, Program, Table, size_on_disk
 
 OPENINGS = 101
 SHOWS = 1_000
+LIMITS = 5
 FINDS = {"program": 3, "FTS5": 31}
 
 
@@ -103,15 +104,56 @@ def open_program(program, path):
     return min(seconds)
 
 
-def bytes_read(program, path, lines, folder):
-    """The calls that read the store while the lines are answered, and the bytes that they gave."""
-    log = f"{folder}/reads"
-    command = ["strace", "-f", "-y", "-e", "trace=pread64", "-o", log, program, "run", path]
+def calls_of(program, path, lines, folder):
+    """For each reply to the lines its bytes, and the place and length of each read of the store that
+    came before it."""
+    log = f"{folder}/calls"
+    command = ["strace", "-f", "-y", "-e", "trace=pread64,write", "-o", log, program, "run", path]
     subprocess.run(command, input=lines, text=True, check=True, stdout=subprocess.DEVNULL)
     # Reads of the store alone: the system's loader has some of its own.
-    of_store = rf"pread64\(\d+<{re.escape(os.path.realpath(path))}>.*= (\d+)$"
-    given = re.findall(of_store, pathlib.Path(log).read_text(errors="replace"), re.M)
-    return len(given), sum(map(int, given))
+    of_store = rf"pread64\(\d+<{re.escape(os.path.realpath(path))}>.*, (\d+)\) = (\d+)$"
+    replies, reads = [], []
+    for call in pathlib.Path(log).read_text(errors="replace").splitlines():
+        if read := re.search(of_store, call):
+            reads.append((int(read[1]), int(read[2])))
+        elif written := re.search(r"write\(1<.*= (\d+)$", call):
+            replies.append((int(written[1]), reads))
+            reads = []
+    return replies
+
+
+class Limit:
+    """A program in C that makes the reads of those calls, and writes as many bytes."""
+
+    def __init__(self, path, calls, folder):
+        self.command = [f"{folder}/limit", path, f"{folder}/plan"]
+        source = pathlib.Path(__file__).with_name("limit.c")
+        subprocess.run(["cc", "-O2", "-o", self.command[0], source], check=True)
+        plan = [f"{length} {len(reads)} " + " ".join(f"{at} {n}" for at, n in reads)
+                for length, reads in calls]
+        pathlib.Path(self.command[2]).write_text("\n".join(plan) + "\n")
+
+    def seconds(self, lines):
+        """From its start to its reply to the first line, and from there to the last reply, each line
+        asked when the one before was answered."""
+        start = time.perf_counter()
+        process = subprocess.Popen(self.command, stdin=subprocess.PIPE, stdout=subprocess.PIPE)
+        times = [start]
+        for line in lines:
+            process.stdin.write(line.encode() + b"\n")
+            process.stdin.flush()
+            if not process.stdout.readline():
+                sys.exit("measure: the reads of a session could not be made again")
+            times.append(time.perf_counter())
+        process.stdin.close()
+        process.stdout.close()
+        process.wait()
+        return times[1] - start, times[-1] - times[1]
+
+
+def shown_numbers(texts):
+    """The numbers of the documents that are shown."""
+    return [1 + place * 7_919 % len(texts) for place in range(SHOWS)]
 
 
 def show_all(side, numbers, texts):
@@ -153,18 +195,50 @@ def report_filling(filled, texts, paths):
     row("file, MB", [size_on_disk(path) for path in paths.values()], ".1f", 1e-6)
 
 
-def report_asking(sides, texts):
+def show_anew(opening, numbers, texts):
+    """The same on a side that is opened for it."""
+    side = opening()
+    seconds = show_all(side, numbers, texts)
+    side.close()
+    return seconds
+
+
+def report_asking(openings, texts):
+    numbers = shown_numbers(texts)
+    shown = [statistics.median(show_anew(each, numbers, texts) for _ in range(LIMITS))
+             for each in openings]
+    row(f"{SHOWS} shows, s, median of {LIMITS}", shown, ".4f")
+    sides = dict(zip(FINDS, (opening() for opening in openings)))
     for name, side in sides.items():
         if side.count() != len(texts):
             sys.exit(f"measure: {name} holds {side.count()} documents")
-    numbers = [1 + place * 7_919 % len(texts) for place in range(SHOWS)]
-    row(f"{SHOWS} shows, s", [show_all(side, numbers, texts) for side in sides.values()], ".4f")
     for word in pick_words(texts):
         found = {name: timed(FINDS[name], lambda: side.find(word)) for name, side in sides.items()}
         (ours, hits), (theirs, their_hits) = found.values()
         if hits != their_hits:
             sys.exit(f"measure: {word} is in {hits} documents, and for FTS5 in {their_hits}")
         row(f"find {word}, {hits} documents, ms", [ours, theirs], ".3f", 1e3)
+    for side in sides.values():
+        side.close()
+
+
+def report_limits(program, path, numbers, folder):
+    """What is read by an opening and by shows, and what those reads and replies take alone."""
+    lines = ["count"] + [f"show {number}" for number in numbers]
+    calls = calls_of(program, path, "\n".join(lines) + "\nquit\n", folder)[:-1]
+    if len(calls) != len(lines):
+        sys.exit(f"measure: {len(lines)} lines were answered by {len(calls)} writes")
+    reads = calls[0][1]
+    print(f"read while opening: {sum(n for _, n in reads)} bytes by {len(reads)} calls")
+    reads = [read for _, reads in calls[1:] for read in reads]
+    print(f"read by {len(numbers)} shows: {sum(n for _, n in reads)} bytes by {len(reads)} calls; "
+          f"their replies have {sum(length for length, _ in calls[1:])}")
+    opening = Limit(path, calls[:1], folder)
+    print(f"an opening's reads and its reply alone, best of {OPENINGS}: "
+          f"{min(opening.seconds(lines[:1])[0] for _ in range(OPENINGS)) * 1e3:.2f} ms")
+    shows = Limit(path, calls, folder)
+    print(f"the shows' reads and replies alone, median of {LIMITS}: "
+          f"{statistics.median(shows.seconds(lines)[1] for _ in range(LIMITS)):.4f} s")
 
 
 def report_opening(program, path, texts, folder):
@@ -173,14 +247,9 @@ def report_opening(program, path, texts, folder):
     print(f"opening and count, best of {OPENINGS}: {open_program(program, path) * 1e3:.2f} ms; "
           f"of a store without documents: {open_program(program, empty) * 1e3:.2f} ms")
     if shutil.which("strace") is None:
-        print("bytes read: left out, there is no strace")
+        print("limits: left out, there is no strace")
         return
-    calls, size = bytes_read(program, path, "count\nquit\n", folder)
-    print(f"read while opening: {size} bytes by {calls} calls")
-    middle = len(texts) // 2
-    more_calls, more = bytes_read(program, path, f"count\nshow {middle}\nquit\n", folder)
-    print(f"read by show {middle}, a text of {len(texts[middle - 1].encode())} bytes: "
-          f"{more - size} bytes by {more_calls - calls} calls")
+    report_limits(program, path, shown_numbers(texts), folder)
 
 
 def main():
@@ -210,10 +279,8 @@ def main():
             print(f"seconds of {name}:", *(f"{elapsed:.2f}" for elapsed, _ in results))
         print()
         report_filling(filled, texts, paths)
-        sides = {"program": Program(program, paths["program"]), "FTS5": Fts5(paths["FTS5"])}
-        report_asking(sides, texts)
-        for side in sides.values():
-            side.close()
+        openings = [lambda: Program(program, paths["program"]), lambda: Fts5(paths["FTS5"])]
+        report_asking(openings, texts)
         print()
         report_opening(program, paths["program"], texts, folder)
         print(f"load as it ended: {os.getloadavg()[0]:.1f}")

@@ -154,6 +154,10 @@ class Fts5:
         self.base.executemany("DELETE FROM documents WHERE rowid = ?", rows)
         self.base.execute("COMMIT")
 
+    def optimize(self):
+        """Makes its index one."""
+        self.base.execute("INSERT INTO documents(documents) VALUES ('optimize')")
+
     def used_bytes(self):
         """The bytes of the file's pages that are in use."""
         values = ("page_count", "freelist_count", "page_size")

@@ -4,7 +4,8 @@
 
 LINES has a text a line. For each number of segments both take them in as many commits: the last
 ones of one text each, whose times are told, and those before of as many texts as one another. What
-was filled is opened, counted and asked for a rare word; then the program tidies.
+was filled is opened, counted and asked for a rare word; then the program tidies, and at last it
+merges all that is left, and FTS5 optimizes its index.
 """
 
 import os
@@ -110,6 +111,10 @@ def compare(program, texts, word, count, folder):
     if hits != their_hits:
         sys.exit(f"segments: {word} is in {hits} texts, and for FTS5 in {their_hits}")
     ours["tidy"] = tidied(session, store)
+    left = len(segments(store))
+    [ours["merge"]] = timed(1, lambda: session.expect("merge", "merged"))
+    [theirs["merge"]] = timed(1, table.optimize)
+    print(f"{left} segments were left to be merged", file=sys.stderr)
     session.close()
     table.close()
     told(count, ours, theirs)
