@@ -4,6 +4,7 @@ ghost use Rattle.std.specs.Prelude.{◌≡◌, ◌≤◌, ◌<◌, ℕ, List, []
 ghost use Rattle.std.specs.Prelude.{IfNone, IfOk, IfSome, OnErr, MatchResult};
 ghost use Rattle.std.specs.Prelude.{None, Ok, Err, Some, false};
 ghost use Rattle.pk_cache.specs.Keys.{IsSound, Rises};
+ghost use Rattle.pk_cache.specs.Limits.{most_blocks};
 ghost use Rattle.pk_posting.specs.Posting.{block};
 ghost use Rattle.pk_posting.specs.Parts.{Fits, HasShape, LiesIn, bytes_at};
 ghost use Rattle.pk_posting.specs.Source.{IsRead};
@@ -13,6 +14,9 @@ use lru::LruCache;
 use pk_posting::{ByteSource, ListPlace, Shape, SourceFault, block_in};
 use std::alloc::{AllocError, Global};
 use std::num::NonZeroUsize;
+
+/// The most blocks that a cache may keep.
+pub const MOST_BLOCKS: u32 = 65_536;
 
 /// Blocks that were decoded, by their keys: as many as its capacity says, those used last.
 #[derive(Drop)]
@@ -31,7 +35,7 @@ impl BlockCache {
     /// many are first kept; all else now.
     pub fn new(alloc: Global, capacity: usize) -> Result<BlockCache, AllocError>
         requires some { 1 ≤ capacity }
-        requires most { capacity ≤ 65536 }
+        requires most { capacity ≤ most_blocks }
         ensures empty { IfOk result (λ cache. cache.kept.entries ≡ []) }
         ensures capacity { IfOk result (λ cache. cache.kept.cap ≡ capacity) }
     {

@@ -32,5 +32,5 @@
 mod cache;
 mod key;
 
-pub use cache::BlockCache;
+pub use cache::{BlockCache, MOST_BLOCKS};
 pub use key::BlockKey;

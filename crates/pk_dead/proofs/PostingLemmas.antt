@@ -1,6 +1,7 @@
 -- Deletion lists as posting lists: they rise, and stay posting lists with a number put in.
 use Rattle.std.proofs.Common.{◌≡◌, ℕ, zero, suc, ◌<◌, ◌≤◌, ◌+◌, ◌^◌, List, [], ◌∷◌, length, slice_index, arith, sym, ap, subst}
 use Rattle.std.specs.List.Sorted.{IsStrictlyIncreasing}
+use Rattle.pk_posting.specs.Limits.{longest_list}
 use Rattle.pk_posting.specs.Posting.{IsPosting}
 use Rattle.pk_posting.specs.Tails.{Climbs}
 use Rattle.pk_posting.proofs.WholeLemmas.{climbs_from}
@@ -13,7 +14,7 @@ posting_rises xs p k l =
     let e : suc k ≡ k + 1 = omega arith in
     subst (λ i. slice_index (0 ∷ xs) i < slice_index xs (k + 1)) (sym e) (p.rising (k + 1) l)
 
-posting_from : (xs : List ℕ) → Climbs 0 xs → length xs ≤ 134217728 → IsPosting xs
+posting_from : (xs : List ℕ) → Climbs 0 xs → length xs ≤ longest_list → IsPosting xs
 posting_from xs c h = record { rising = rises 0 xs c; below = below 0 xs c; short = h }
   where
     rises : (before : ℕ) (xs : List ℕ) → Climbs before xs → (i : ℕ) → i < length xs → slice_index (before ∷ xs) i < slice_index xs i
@@ -37,6 +38,6 @@ at_most_one_more n (m ∷ ms) = with_cases n m ms (λ l. length l ≤ length (m 
     (λ l. omega arith) (λ e. omega arith) (λ l. omega (arith, at_most_one_more n ms))
 
 -- a posting list with a number put in is one
-pub posting_with : (n : ℕ) (ns : List ℕ) → IsPosting ns → 1 ≤ n → n < 2 ^ 32 → length ns < 134217728 → IsPosting (with_number n ns)
+pub posting_with : (n : ℕ) (ns : List ℕ) → IsPosting ns → 1 ≤ n → n < 2 ^ 32 → length ns < longest_list → IsPosting (with_number n ns)
 posting_with n ns p one small room =
     posting_from (with_number n ns) (climbs_with 0 n ns (omega arith) small (climbs_from 0 ns p.rising p.below)) (omega (arith, at_most_one_more n ns))

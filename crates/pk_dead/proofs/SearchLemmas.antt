@@ -7,6 +7,7 @@ use Rattle.std.proofs.lemmas.Bool.{cases_lt}
 use Rattle.std.proofs.lemmas.List.Folds.{list_any_at}
 use Rattle.std.proofs.lemmas.List.Kept.{AllPairs-from_increasing}
 use Rattle.std.proofs.lemmas.List.Sorted.{searched}
+use Rattle.pk_posting.specs.Limits.{longest_list}
 use Rattle.pk_posting.specs.Posting.{IsPosting}
 use Rattle.pk_dead.specs.Searching.{IsFound, IsGap, IsSearched}
 use Rattle.pk_dead.proofs.SetLemmas.{has, eq_same, eq_less, eq_more, has_none, with_place, with_there}
@@ -42,7 +43,7 @@ is_searched ns n (Ok at) p h = found_at ns n at p h
 is_searched ns n (Err at) p h = gap_at ns n at p h
 
 -- put into its gap, the number leaves a posting list
-pub posting_put : (ns new : List ℕ) (n at : ℕ) → IsPosting ns → IsGap ns n at → 1 ≤ n → n < 2 ^ 32 → length ns < 134217728 → new ≡ insert ns at n → IsPosting new
+pub posting_put : (ns new : List ℕ) (n at : ℕ) → IsPosting ns → IsGap ns n at → 1 ≤ n → n < 2 ^ 32 → length ns < longest_list → new ≡ insert ns at n → IsPosting new
 posting_put ns new n at p g one small room e = subst IsPosting (g.put_in ∙ sym e) (posting_with n ns p one small room)
 
 -- a number is in the list just where the last one that is not above it is the number

@@ -4,6 +4,7 @@ ghost use Rattle.std.specs.Prelude.{◌≡◌, ◌↔◌, ◌==◌, ◌+◌, ◌
 ghost use Rattle.std.specs.Prelude.{slice_index};
 ghost use Rattle.std.specs.Prelude.{IsOk, IsTrue, IfOk, IfErr, OnOk, OnErr, MatchResult};
 ghost use Rattle.std.specs.List.{list_any};
+ghost use Rattle.pk_posting.specs.Limits.{longest_list};
 ghost use Rattle.pk_posting.specs.Posting.{IsPosting, Spells};
 ghost use Rattle.pk_posting.specs.Spelling.{spelling};
 ghost use Rattle.pk_posting.specs.Tails.{NoList};
@@ -127,7 +128,7 @@ impl Dead {
     #[tactic(auto, using(crate::proofs::SearchLemmas::posting_put))]
     pub fn add(&mut self, n: u32) -> Result<(), AllocError>
         requires at_least_one { 1 ≤ n }
-        requires room { length self.old < 134217728 }
+        requires room { length self.old < longest_list }
         ensures ok { OnOk result (self.new ≡ with_number n self.old) }
         ensures err { OnErr result (self.new ≡ self.old) }
         ensures there { IsTrue (list_any (λ m. m == n) self.old) → IsOk result }

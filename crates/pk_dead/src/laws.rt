@@ -5,6 +5,7 @@ ghost use Rattle.std.specs.Prelude.{◌≡◌, ◌==◌, ◌||◌, ◌+◌, ◌<
 ghost use Rattle.std.specs.Prelude.{true, false};
 ghost use Rattle.std.specs.List.{list_any};
 ghost use Rattle.std.specs.List.Sorted.{IsStrictlyIncreasing};
+ghost use Rattle.pk_posting.specs.Limits.{longest_list};
 ghost use Rattle.pk_posting.specs.Posting.{IsPosting};
 ghost use Rattle.pk_dead.specs.Sets.{with_number};
 
@@ -18,7 +19,7 @@ pub fn a_list_with_a_number_rises()
 /// A posting list stays one.
 #[tactic(auto, using(crate::proofs::PostingLemmas::posting_with))]
 pub fn a_posting_list_with_a_number_is_one()
-    ensures { (n : ℕ) (ns : List ℕ) → IsPosting ns → 1 ≤ n → n < 2 ^ 32 → length ns < 134217728
+    ensures { (n : ℕ) (ns : List ℕ) → IsPosting ns → 1 ≤ n → n < 2 ^ 32 → length ns < longest_list
         → IsPosting (with_number n ns) }
 {}
 

@@ -5,6 +5,7 @@ ghost use Rattle.pk_dict.specs.Dictionary.{shared};
 ghost use Rattle.pk_dict.specs.Order.{less};
 ghost use Rattle.pk_dict.specs.Place.{LiesIn, bytes_at};
 ghost use Rattle.pk_dict.specs.Reading.{Gives, shared_at};
+ghost use Rattle.pk_posting.specs.Limits.{most_lent};
 ghost use Rattle.pk_posting.specs.Source.{IsRead};
 ghost use Rattle.pk_dict.specs.Source.{stretches_of};
 
@@ -40,7 +41,7 @@ pub(crate) fn shared_stretch<S: ByteSource>(
     term: &[u8],
 ) -> Result<usize, SourceFault>
     requires lies { LiesIn place (length (S.content source.old)) }
-    requires few { size ≤ 4096 }
+    requires few { size ≤ most_lent }
     requires inside { at + size ≤ place.bytes }
     ensures value { S.honest → IfOk result (λ c.
         c ≡ shared (take size (drop at (bytes_at (S.content source.old) place))) term.now) }

@@ -44,6 +44,7 @@ ghost use Rattle.pk_dict.specs.Entries.{
 };
 ghost use Rattle.pk_dict.specs.Place.{LiesIn, bytes_at};
 ghost use Rattle.pk_dict.specs.Reading.{Gives};
+ghost use Rattle.pk_posting.specs.Limits.{most_lent};
 ghost use Rattle.pk_posting.specs.Source.{IsRead};
 ghost use Rattle.pk_dict.specs.Source.{stretches_of};
 
@@ -222,7 +223,7 @@ fn append_stretch<S: ByteSource>(
     out: &mut Vec<u8>,
 ) -> Result<(), EntriesFault>
     requires lies { LiesIn place (length (S.content source.old)) }
-    requires few { size ≤ 4096 }
+    requires few { size ≤ most_lent }
     requires inside { at + size ≤ place.bytes }
     ensures value { S.honest → OnOk result (out.new.items
         ≡ out.old.items ++ take size (drop at (bytes_at (S.content source.old) place))) }

@@ -28,7 +28,8 @@
 //!   in a source, by short stretches. Both go by the same steps: a slice is a source that lends
 //!   itself.
 //! - [`Windows`] are a source over a source with two buffers, one for the offsets and one for the
-//!   groups. They read 128 bytes at once, so few of the stretches of a look-up reach what lies below.
+//!   groups. They read 128 bytes at once, so few of the stretches of a look-up reach what lies
+//!   below.
 //!
 //! Bytes that are no dictionary of that many terms are refused as Damaged wherever a reader sees
 //! it: a number that ends too early or is too large, a part past the end, a term that keeps more

@@ -71,9 +71,9 @@ pub fn look_up_in<S: ByteSource>(
 /// the term stands.
 ///
 /// `pivots` is a table of pk_keys for the groups of this dictionary, by which the search begins
-/// where earlier ones have been: the first terms at both ends of that range are read. A key that was
-/// not known is put in. No number in the table is believed: a wrong one costs two reads. As long as
-/// nothing is known, it is `look_up_in` of any bytes. It takes no memory.
+/// where earlier ones have been: the first terms at both ends of that range are read. A key that
+/// was not known is put in. No number in the table is believed: a wrong one costs two reads. As
+/// long as nothing is known, it is `look_up_in` of any bytes. It takes no memory.
 #[tactic(auto, unfolding(crate::specs::LookUp::look_up_of, crate::specs::LookUp::look_up_at))]
 pub fn look_up_near<S: ByteSource>(
     source: &mut S,

@@ -1,6 +1,7 @@
 //! One term against the wanted one, and the terms of a group.
 
-ghost use Rattle.std.specs.Prelude.{◌≡◌, ◌≤◌, ◌<◌, ◌+◌, ◌*◌, ◌^◌, ℕ, List, length, IfOk, MatchResult, Ok};
+ghost use Rattle.std.specs.Prelude.{◌≡◌, ◌≤◌, ◌<◌, ◌+◌, ◌*◌, ◌^◌};
+ghost use Rattle.std.specs.Prelude.{ℕ, List, length, IfOk, MatchResult, Ok};
 ghost use Rattle.pk_dict.specs.Dictionary.{group_count};
 ghost use Rattle.pk_dict.specs.Place.{LiesIn, bytes_at};
 ghost use Rattle.pk_dict.specs.Reading.{
@@ -34,8 +35,8 @@ use pk_vbyte::take;
 // How many bytes are asked for at a term: most terms and what is said of them have fewer.
 const NEAR: u32 = 32;
 
-// How many bytes a scan asks for at once: a window that was read at the first term of a group has so
-// many behind that term, where the term has no more than NEAR.
+// How many bytes a scan asks for at once: a window that was read at the first term of a group has
+// so many behind that term, where the term has no more than NEAR.
 const PIECE: u32 = WINDOW as u32 - NEAR;
 
 // Where the rest of a term lies, what is said of the term, and where the next one begins.
@@ -247,8 +248,8 @@ fn went(step: Step, left: u32) -> Scan
 }
 
 // How far the scan of the next terms of a group comes by one piece. Where that has not all of the
-// first of them, more is asked for, and the scan comes by this one alone: so each term costs no more
-// asks than if it were read by itself.
+// first of them, more is asked for, and the scan comes by this one alone: so each term costs no
+// more asks than if it were read by itself.
 #[tactic(auto, unfolding(crate::specs::Reading::next_at))]
 fn scan_on<S: ByteSource>(
     source: &mut S,

@@ -21,6 +21,7 @@ ghost use Rattle.std.specs.Prelude.{
   OnOk,
 };
 ghost use Rattle.std.proofs.Common.{◌∙◌, refl};
+ghost use Rattle.pk_posting.specs.Limits.{most_lent};
 ghost use Rattle.pk_posting.specs.Source.{CountsFaults, full_count};
 ghost use Rattle.pk_dict.specs.Dictionary.{group_count};
 ghost use Rattle.pk_dict.specs.Windows.{
@@ -112,7 +113,7 @@ impl<'a, S: ByteSource> Windows<'a, S> {
     /// is read beside the windows, and both keep what they hold. After a failure below they hold
     /// nothing.
     pub fn lend(&mut self, at: u32, n: u32) -> Result<&[u8], SourceFault>
-        requires { n ≤ 4096 }
+        requires { n ≤ most_lent }
         ensures value { S.honest → IfOk result (λ s.
             s.now ≡ take n (drop at (S.content self.old.source.now))) }
         ensures lent { IfOk result (λ s. length s.now ≡ n) }
@@ -193,7 +194,7 @@ impl<'a, S: ByteSource> Windows<'a, S> {
     #[cold]
     #[tactic(auto, using(crate::proofs::Holding::still_part))]
     fn read_long(&mut self, at: u32, n: u32) -> Result<(), SourceFault>
-        requires { n ≤ 4096 }
+        requires { n ≤ most_lent }
         ensures same_reference { self.new.source.ghost_name ≡ self.old.source.ghost_name }
         ensures content { S.honest → S.content self.new.source.now ≡ S.content self.old.source.now }
         ensures size { length (S.content self.new.source.now)
@@ -330,7 +331,7 @@ fn read_front<S: ByteSource>(
     n: u32,
     buffer: &mut [u8],
 ) -> Result<(), SourceFault>
-    requires few { n ≤ 4096 }
+    requires few { n ≤ most_lent }
     requires room { n ≤ length buffer.old }
     requires inside { at + n ≤ length (S.content source.old) }
     ensures value { S.honest → OnOk result

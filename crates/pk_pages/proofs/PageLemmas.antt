@@ -8,26 +8,26 @@ use Rattle.pk_disk.specs.declared.disk.DiskFault.{DiskFault}
 use Rattle.pk_disk.proofs.Images.{same_part}
 use Rattle.pk_disk.proofs.Ranges.{outside_range, length-written, written_other}
 use Rattle.pk_pages.specs.declared.slots.Slot.{Slot}
-use Rattle.pk_pages.specs.Pages.{page_of, slot_for, IsIn, ArePagesOf, AreClear, KeepsOthers}
+use Rattle.pk_pages.specs.Pages.{page_bytes, page_of, slot_for, IsIn, ArePagesOf, AreClear, KeepsOthers}
 
 -- a part of a page is a part of the disk
-pub part_of_page : (bytes : List ℕ) (at n : ℕ) → at % 4096 + n ≤ 4096 → slice_range (page_of bytes (at / 4096)) (at % 4096) (at % 4096 + n) ≡ slice_range bytes at (at + n)
+pub part_of_page : (bytes : List ℕ) (at n : ℕ) → at % page_bytes + n ≤ page_bytes → slice_range (page_of bytes (at / page_bytes)) (at % page_bytes) (at % page_bytes + n) ≡ slice_range bytes at (at + n)
 part_of_page bytes at n within =
-    let from = at % 4096 in
-    let start = 4096 * (at / 4096) in
+    let from = at % page_bytes in
+    let start = page_bytes * (at / page_bytes) in
     let xs = drop start bytes in
-    let a : at % 4096 + n - at % 4096 ≡ n = omega arith in
+    let a : at % page_bytes + n - at % page_bytes ≡ n = omega arith in
     let b : at + n - at ≡ n = omega arith in
-    let whole : 4096 * (at / 4096) + at % 4096 ≡ at = omega arith in
-    rw (a, b) (sym (drop-take from n (take 4096 xs)) ∙ ap (drop from) (take-take (from + n) 4096 xs within)
+    let whole : page_bytes * (at / page_bytes) + at % page_bytes ≡ at = omega arith in
+    rw (a, b) (sym (drop-take from n (take page_bytes xs)) ∙ ap (drop from) (take-take (from + n) page_bytes xs within)
     ∙ drop-take from n xs ∙ ap (take n) (drop-drop from start bytes) ∙ ap (λ (k : ℕ). take n (drop k bytes)) whole)
 
 -- what was read of a page is all of it
-pub page_read : (bytes out rest : List ℕ) (number n m : ℕ) → n ≡ min (length bytes - 4096 * number) 4096 → length out ≡ n → m ≡ n → out ≡ slice_range bytes (4096 * number) (4096 * number + m) → take n (out ++ rest) ≡ page_of bytes number
+pub page_read : (bytes out rest : List ℕ) (number n m : ℕ) → n ≡ min (length bytes - page_bytes * number) page_bytes → length out ≡ n → m ≡ n → out ≡ slice_range bytes (page_bytes * number) (page_bytes * number + m) → take n (out ++ rest) ≡ page_of bytes number
 page_read bytes out rest number n m size long same is =
-    let start = 4096 * number in
-    let k : start + m - start ≡ min 4096 (length (drop start bytes)) = omega (arith, size, same, length-drop start bytes) in
-    take_at out rest n long ∙ is ∙ ap (λ (j : ℕ). take j (drop start bytes)) k ∙ take_min 4096 (drop start bytes)
+    let start = page_bytes * number in
+    let k : start + m - start ≡ min page_bytes (length (drop start bytes)) = omega (arith, size, same, length-drop start bytes) in
+    take_at out rest n long ∙ is ∙ ap (λ (j : ℕ). take j (drop start bytes)) k ∙ take_min page_bytes (drop start bytes)
 
 -- what a slot reads as, after another was set
 set_cases : (slots : List Slot) (k i : ℕ) (slot d : Slot) → k < length slots → ((i ≡ k) × (get_or (set slots k slot) i d ≡ slot)) ⊎ (get_or (set slots k slot) i d ≡ get_or slots i d)
@@ -70,7 +70,7 @@ set_others slots number count slot long =
 -- pages that have no position of a range are left alone by a change of the range
 kept_elsewhere : (bytes bytes' : List ℕ) (slots : List Slot) (at n : ℕ) → length bytes' ≡ length bytes → ((p : ℕ) → in_range at n p ≡ false → slice_index bytes' p ≡ slice_index bytes p) → AreClear slots at n → ArePagesOf bytes slots → ArePagesOf bytes' slots
 kept_elsewhere bytes bytes' slots at n long same clear are = λ p d some is.
-    are p d some is ∙ sym (same_part bytes' bytes (4096 * p) 4096 long (λ q le lt. same q (outside_range at n q (⊎_elim
+    are p d some is ∙ sym (same_part bytes' bytes (page_bytes * p) page_bytes long (λ q le lt. same q (outside_range at n q (⊎_elim
     (λ before. inl (let near : q < at = omega (arith, before, lt) in near))
     (λ after. inr (let far : at + n ≤ q = omega (arith, after, le) in far))
     (clear p d some is)))))

@@ -6,7 +6,7 @@ use Rattle.std.proofs.Math.Numerals.{add-one}
 use Rattle.std.proofs.lemmas.Bool.{cases_eq}
 use Rattle.std.proofs.lemmas.List.{drop-take, take-take, drop-drop, take-append-drop}
 use Rattle.pk_pages.specs.declared.slots.Slot.{Slot}
-use Rattle.pk_pages.specs.Pages.{slot_for, IsIn, IsKept, IsHit, HasNoRoom, KeepsOthers, IsUnkept, IsReadAgain}
+use Rattle.pk_pages.specs.Pages.{page_bytes, slot_for, IsIn, IsKept, IsHit, HasNoRoom, KeepsOthers, IsUnkept, IsReadAgain}
 
 -- two parts that follow one another
 pub two_parts : (bytes first second : List ℕ) (at k m n : ℕ) → first ≡ slice_range bytes at (at + k) → second ≡ slice_range bytes (at + k) (at + k + m) → k + m ≡ n → first ++ second ≡ slice_range bytes at (at + n)
@@ -20,18 +20,18 @@ two_parts bytes first second at k m n is_first is_second whole =
     ap (λ (x : List ℕ). x ++ second) front ∙ ap (λ (x : List ℕ). take k (take n xs) ++ x) back ∙ take-append-drop k (take n xs) ∙ ap (λ (j : ℕ). take j xs) (sym c)
 
 -- each part of a read that makes no call below, within one page, is kept
-pub hit_part : (succeeded : Bool) (slots : List Slot) (at n : ℕ) → IsHit succeeded slots at n → (a m : ℕ) → at ≤ a → 0 < m → a + m ≤ at + n → a % 4096 + m ≤ 4096 → IsKept slots (a / 4096) (a % 4096 + m)
+pub hit_part : (succeeded : Bool) (slots : List Slot) (at n : ℕ) → IsHit succeeded slots at n → (a m : ℕ) → at ≤ a → 0 < m → a + m ≤ at + n → a % page_bytes + m ≤ page_bytes → IsKept slots (a / page_bytes) (a % page_bytes + m)
 hit_part succeeded slots at n hit a m above some below within =
-    let kept = hit.kept (a / 4096) (omega arith) (omega arith) in
+    let kept = hit.kept (a / page_bytes) (omega arith) (omega arith) in
     (kept.0, λ d. let is = kept.1 d in (is.0, omega (arith, is.1)))
 
 -- after a read within one page
-pub again_one : (succeeded : Bool) (slots : List Slot) (at n : ℕ) → 0 < n → at % 4096 + n ≤ 4096 → IsTrue succeeded → IsKept slots (at / 4096) (at % 4096 + n) ⊎ HasNoRoom slots (at / 4096) → IsReadAgain succeeded slots at n
+pub again_one : (succeeded : Bool) (slots : List Slot) (at n : ℕ) → 0 < n → at % page_bytes + n ≤ page_bytes → IsTrue succeeded → IsKept slots (at / page_bytes) (at % page_bytes + n) ⊎ HasNoRoom slots (at / page_bytes) → IsReadAgain succeeded slots at n
 again_one succeeded slots at n some within is_true is = record {
   succeeded = is_true;
   kept = λ p above below.
-      let here : at / 4096 ≡ p = omega (arith, above, below) in
-      subst (λ (q : ℕ). IsKept slots q (min 4096 (at + n - 4096 * q)) ⊎ IsUnkept slots q (at + n)) here
+      let here : at / page_bytes ≡ p = omega (arith, above, below) in
+      subst (λ (q : ℕ). IsKept slots q (min page_bytes (at + n - page_bytes * q)) ⊎ IsUnkept slots q (at + n)) here
       (⊎_elim
       (λ kept. inl (kept.0, λ d. let part = kept.1 d in (part.0, omega (arith, part.1))))
       (λ wanting. inr (inl wanting))
@@ -51,7 +51,7 @@ neighbours_apart p m two same =
     (cases_eq (suc r) m)
 
 -- a page that was kept stays so as the next one is read, but where there is one slot alone
-still_kept : (slots slots' : List Slot) (p m before end : ℕ) → KeepsOthers slots slots' (p + 1) → 4096 ≤ m → before ≤ 4096 * p + 4096 → 4096 * p + 4096 < end → IsKept slots p m ⊎ IsUnkept slots p before → IsKept slots' p (min 4096 (end - 4096 * p)) ⊎ IsUnkept slots' p end
+still_kept : (slots slots' : List Slot) (p m before end : ℕ) → KeepsOthers slots slots' (p + 1) → page_bytes ≤ m → before ≤ page_bytes * p + page_bytes → page_bytes * p + page_bytes < end → IsKept slots p m ⊎ IsUnkept slots p before → IsKept slots' p (min page_bytes (end - page_bytes * p)) ⊎ IsUnkept slots' p end
 still_kept slots slots' p m before end others whole within goes_on is = ⊎_elim
     (λ one. inr (inr (others.count ∙ one, goes_on)))
     (λ other. ⊎_elim
@@ -62,34 +62,34 @@ still_kept slots slots' p m before end others whole within goes_on is = ⊎_elim
       λ d.
           let same : slot_for slots' p d ≡ slot_for slots p d = others.same p d (neighbours_apart p (length slots) two) in
           let was = kept.1 d in
-          let long : min 4096 (end - 4096 * p) ≤ length (slot_for slots p d).bytes.items = omega (arith, was.1, whole) in
-          (subst (λ (s : Slot). IsIn s p) (sym same) was.0, subst (λ (s : Slot). min 4096 (end - 4096 * p) ≤ length s.bytes.items) (sym same) long),
+          let long : min page_bytes (end - page_bytes * p) ≤ length (slot_for slots p d).bytes.items = omega (arith, was.1, whole) in
+          (subst (λ (s : Slot). IsIn s p) (sym same) was.0, subst (λ (s : Slot). min page_bytes (end - page_bytes * p) ≤ length s.bytes.items) (sym same) long),
     ))
     (λ unkept. ⊎_elim
     (λ wanting. inr (inl (λ d some.
     let any : 0 < length slots = omega (arith, some, others.count) in
     let two : 2 ≤ length slots = omega (arith, other, any) in
     let same : slot_for slots' p d ≡ slot_for slots p d = others.same p d (neighbours_apart p (length slots) two) in
-    subst (λ (s : Slot). vec_capacity s.bytes < 4096) (sym same) (wanting d any))))
-    (λ gone. absurd (let no : 4096 * p + 4096 < before = gone.1 in omega (arith, no, within)))
+    subst (λ (s : Slot). vec_capacity s.bytes < page_bytes) (sym same) (wanting d any))))
+    (λ gone. absurd (let no : page_bytes * p + page_bytes < before = gone.1 in omega (arith, no, within)))
     unkept)
     is)
     (cases_eq (length slots) 1)
 
 -- after a read of two parts, of which the first ends its page
-pub again_two : (succeeded succeeded' : Bool) (slots slots' : List Slot) (at next front back n : ℕ) → IsReadAgain succeeded slots at front → IsReadAgain succeeded' slots' next back → KeepsOthers slots slots' (next / 4096) → next ≡ at + front → front + at % 4096 ≡ 4096 → 0 < back → front + back ≡ n → IsReadAgain succeeded' slots' at n
+pub again_two : (succeeded succeeded' : Bool) (slots slots' : List Slot) (at next front back n : ℕ) → IsReadAgain succeeded slots at front → IsReadAgain succeeded' slots' next back → KeepsOthers slots slots' (next / page_bytes) → next ≡ at + front → front + at % page_bytes ≡ page_bytes → 0 < back → front + back ≡ n → IsReadAgain succeeded' slots' at n
 again_two succeeded succeeded' slots slots' at next front back n first second others follows ends some whole =
     let same : next + back ≡ at + n = omega (arith, follows, whole) in
-    let page = at / 4096 in
-    let neighbour : next / 4096 ≡ page + 1 = omega (arith, follows, ends) in
+    let page = at / page_bytes in
+    let neighbour : next / page_bytes ≡ page + 1 = omega (arith, follows, ends) in
     record {
       succeeded = second.succeeded;
       kept = λ p above below. ⊎_elim
-          (λ here. subst (λ (q : ℕ). IsKept slots' q (min 4096 (at + n - 4096 * q)) ⊎ IsUnkept slots' q (at + n)) (sym here)
-          (still_kept slots slots' page (min 4096 (at + front - 4096 * page)) (at + front) (at + n)
+          (λ here. subst (λ (q : ℕ). IsKept slots' q (min page_bytes (at + n - page_bytes * q)) ⊎ IsUnkept slots' q (at + n)) (sym here)
+          (still_kept slots slots' page (min page_bytes (at + front - page_bytes * page)) (at + front) (at + n)
           (subst (KeepsOthers slots slots') neighbour others) (omega (arith, ends)) (omega (arith, ends)) (omega (arith, ends, some, whole))
           (first.kept page (omega (arith, ends)) (omega arith))))
-          (λ elsewhere. subst (λ (end : ℕ). IsKept slots' p (min 4096 (end - 4096 * p)) ⊎ IsUnkept slots' p end) same
+          (λ elsewhere. subst (λ (end : ℕ). IsKept slots' p (min page_bytes (end - page_bytes * p)) ⊎ IsUnkept slots' p end) same
           (second.kept p (omega (arith, above, same)) (omega (arith, below, elsewhere, follows, ends))))
           (cases_eq p page);
     }

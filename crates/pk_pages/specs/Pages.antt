@@ -3,9 +3,13 @@ use Rattle.std.specs.Prelude.{◌≡◌, ◌⊎◌, ◌<◌, ◌≤◌, ◌+◌,
 use Rattle.std.specs.Prelude.{take, drop, get_or, min, Some, vec_capacity}
 use Rattle.pk_pages.specs.declared.slots.Slot.{Slot}
 
--- the bytes of page p: 4,096 of them, fewer where the disk ends
+-- how many bytes a page has, at most
+abbrev pub page_bytes : ℕ
+page_bytes = 4096
+
+-- the bytes of page p; the last page of a disk may have fewer
 abbrev pub page_of : List ℕ → ℕ → List ℕ
-page_of bytes p = take 4096 (drop (4096 * p) bytes)
+page_of bytes p = take page_bytes (drop (page_bytes * p) bytes)
 
 -- page p is in a slot
 abbrev pub IsIn : Slot → ℕ → Type 0
@@ -27,7 +31,7 @@ ArePagesOf bytes slots = (p : ℕ) (d : Slot) → 0 < length slots → IsIn (slo
 -- no page that is kept has one of the n positions from at on
 abbrev pub AreClear : List Slot → ℕ → ℕ → Type 0
 AreClear slots at n = (p : ℕ) (d : Slot) → 0 < length slots → IsIn (slot_for slots p d) p
-    → (4096 * p + 4096 ≤ at) ⊎ (at + n ≤ 4096 * p)
+    → (page_bytes * p + page_bytes ≤ at) ⊎ (at + n ≤ page_bytes * p)
 
 -- the first n bytes of page p are kept
 abbrev pub IsKept : List Slot → ℕ → ℕ → Type 0
@@ -36,7 +40,8 @@ IsKept slots p n = (0 < length slots)
 
 -- there is no slot for page p that has memory for a page
 abbrev pub HasNoRoom : List Slot → ℕ → Type 0
-HasNoRoom slots p = (d : Slot) → 0 < length slots → vec_capacity (slot_for slots p d).bytes < 4096
+HasNoRoom slots p = (d : Slot) → 0 < length slots
+    → vec_capacity (slot_for slots p d).bytes < page_bytes
 
 -- Slots changed at most where page p may be.
 pub record KeepsOthers (slots slots' : List Slot) (p : ℕ) : Type 0 where
@@ -49,18 +54,19 @@ pub record KeepsOthers (slots slots' : List Slot) (p : ℕ) : Type 0 where
 pub record IsHit (last_succeeded : Bool) (slots : List Slot) (at n : ℕ) : Type 0 where
   pub succeeded : IsTrue last_succeeded
   pub some : 0 < n
-  pub few : n ≤ 4096
-  pub kept : (p : ℕ) → 4096 * p < at + n → at < 4096 * p + 4096
-      → IsKept slots p (min 4096 (at + n - 4096 * p))
+  pub few : n ≤ page_bytes
+  pub kept : (p : ℕ) → page_bytes * p < at + n → at < page_bytes * p + page_bytes
+      → IsKept slots p (min page_bytes (at + n - page_bytes * p))
 
 -- Why a page that has been read is not kept: there is no memory for it, or the only slot has the
 -- page after it, which has been read, too.
 abbrev pub IsUnkept : List Slot → ℕ → ℕ → Type 0
-IsUnkept slots p end = HasNoRoom slots p ⊎ ((length slots ≡ 1) × (4096 * p + 4096 < end))
+IsUnkept slots p end = HasNoRoom slots p
+    ⊎ ((length slots ≡ 1) × (page_bytes * p + page_bytes < end))
 
 -- After a read of n positions from at on the same read makes no call below, but for the pages that
 -- there was no place to keep.
 pub record IsReadAgain (last_succeeded : Bool) (slots : List Slot) (at n : ℕ) : Type 0 where
   pub succeeded : IsTrue last_succeeded
-  pub kept : (p : ℕ) → 4096 * p < at + n → at < 4096 * p + 4096
-      → IsKept slots p (min 4096 (at + n - 4096 * p)) ⊎ IsUnkept slots p (at + n)
+  pub kept : (p : ℕ) → page_bytes * p < at + n → at < page_bytes * p + page_bytes
+      → IsKept slots p (min page_bytes (at + n - page_bytes * p)) ⊎ IsUnkept slots p (at + n)

@@ -23,8 +23,8 @@ ghost use Rattle.std.specs.Prelude.{
 ghost use Rattle.pk_disk.specs.Disk.{IsCounted, full_count};
 ghost use Rattle.pk_disk.specs.Frames.{KeepsDisk};
 ghost use Rattle.pk_disk.specs.Since.{NoneNew, StayKnown};
-ghost use Rattle.pk_pages.specs.Pages.{AreClear, ArePagesOf, HasNoRoom, IsGone};
-ghost use Rattle.pk_pages.specs.Pages.{IsHit, IsKept, IsReadAgain, KeepsOthers, page_of};
+ghost use Rattle.pk_pages.specs.Pages.{AreClear, ArePagesOf, HasNoRoom, IsGone, IsHit};
+ghost use Rattle.pk_pages.specs.Pages.{IsKept, IsReadAgain, KeepsOthers, page_bytes, page_of};
 
 use crate::slots::{PAGE, Slot, empty_slots, fill, forget, kept};
 use pk_disk::{Disk, DiskFault};
@@ -86,9 +86,9 @@ impl<D: Disk> PageCache<D> {
     fn read_within(&mut self, at: u64, out: &mut [u8]) -> Result<(), DiskFault>
         requires some { 0 < length out.old }
         requires inside { at + length out.old ≤ length (D.content self.old.disk) }
-        requires within { at % 4096 + length out.old ≤ 4096 }
+        requires within { at % page_bytes + length out.old ≤ page_bytes }
         ensures hit { IsTrue self.old.last_succeeded
-            → IsKept self.old.slots.items (at / 4096) (at % 4096 + length out.old)
+            → IsKept self.old.slots.items (at / page_bytes) (at % page_bytes + length out.old)
             → (IsOk result) × (self.new ≡ self.old) }
         ensures given { D.honest → OnOk result
             (out.new ≡ slice_range (D.content self.old.disk) at (at + length out.old)) }
@@ -97,7 +97,7 @@ impl<D: Disk> PageCache<D> {
             result }
         ensures again { OnOk result
             (IsReadAgain self.new.last_succeeded self.new.slots.items at (length out.old)) }
-        ensures others { KeepsOthers self.old.slots.items self.new.slots.items (at / 4096) }
+        ensures others { KeepsOthers self.old.slots.items self.new.slots.items (at / page_bytes) }
     {
         let number = at / PAGE;
         let from = (at % PAGE) as usize;
@@ -116,13 +116,13 @@ impl<D: Disk> PageCache<D> {
     // Reads a page, and keeps it. None where there is no memory for it: then nothing is asked.
     #[tactic(auto, using(crate::proofs::PageLemmas::set_keeps))]
     fn load(&mut self, number: u64) -> Option<Result<(), DiskFault>>
-        requires { 4096 * number < length (D.content self.old.disk) }
+        requires { page_bytes * number < length (D.content self.old.disk) }
         ensures keeps { KeepsDisk D.Disk self.old.disk self.new.disk }
         ensures reads { IfSome result (λ read. IsCounted (D.failed_reads self.old.disk)
             (D.failed_reads self.new.disk) read) }
         ensures idle { IfNone result (self.new.disk ≡ self.old.disk) }
         ensures kept { IfSome result (λ read. OnOk read (IsKept self.new.slots.items number
-            (min 4096 (length (D.content self.old.disk) - 4096 * number)))) }
+            (min page_bytes (length (D.content self.old.disk) - page_bytes * number)))) }
         ensures succeeded { IfSome result (λ read. OnOk read (IsTrue self.new.last_succeeded)) }
         ensures memory { IfNone result (HasNoRoom self.new.slots.items number) }
         ensures others { KeepsOthers self.old.slots.items self.new.slots.items number }
@@ -155,7 +155,7 @@ impl<D: Disk> PageCache<D> {
 
 // Fills `out` from a page that is kept; false where it is not.
 fn copy_kept(slots: &[Slot], number: u64, from: usize, out: &mut [u8]) -> bool
-    requires { from + length out.old ≤ 4096 }
+    requires { from + length out.old ≤ page_bytes }
     ensures given { (bytes : List ℕ) → ArePagesOf bytes slots.now → IsTrue result
         → out.new ≡ slice_range (page_of bytes number) from (from + length out.old) }
     ensures hit { IsKept slots.now number (from + length out.old) → IsTrue result }
@@ -200,7 +200,7 @@ impl<D: Disk> Disk for PageCache<D> {
         requires { at + length out.old ≤ length (D.content self.old.disk) }
         ensures hit { IsHit self.old.last_succeeded self.old.slots.items at (length out.old)
             → (IsOk result) × (self.new ≡ self.old) }
-        ensures again { 0 < length out.old → length out.old ≤ 4096 → OnOk result
+        ensures again { 0 < length out.old → length out.old ≤ page_bytes → OnOk result
             (IsReadAgain self.new.last_succeeded self.new.slots.items at (length out.old)) }
 
         // The clauses of the trait.

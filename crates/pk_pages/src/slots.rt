@@ -23,12 +23,12 @@ ghost use Rattle.std.specs.Prelude.{
 };
 ghost use Rattle.pk_disk.specs.Disk.{IsCounted};
 ghost use Rattle.pk_disk.specs.Frames.{KeepsDisk};
-ghost use Rattle.pk_pages.specs.Pages.{ArePagesOf, IsGone, IsIn, IsKept, page_of};
+ghost use Rattle.pk_pages.specs.Pages.{ArePagesOf, IsGone, IsIn, IsKept, page_bytes, page_of};
 
 use pk_disk::{Disk, DiskFault};
 use std::alloc::{AllocError, Global};
 
-/// The bytes of a page.
+/// How many bytes a page has, at most.
 pub const PAGE: u64 = 4096;
 
 /// A place for a page: the number of the one that it keeps, if any, and its memory.
@@ -106,16 +106,16 @@ pub fn forget(slots: &mut [Slot], number: u64)
 /// it: then nothing is asked below. Only a read that succeeds is kept.
 #[tactic(auto, using(crate::proofs::PageLemmas::page_read))]
 pub fn fill<D: Disk>(disk: &mut D, slot: &mut Slot, number: u64) -> Option<Result<(), DiskFault>>
-    requires { 4096 * number < length (D.content disk.old) }
+    requires { page_bytes * number < length (D.content disk.old) }
     ensures keeps { KeepsDisk D.Disk disk.old disk.new }
     ensures reads { IfSome result
         (λ read. IsCounted (D.failed_reads disk.old) (D.failed_reads disk.new) read) }
     ensures idle { IfNone result (disk.new ≡ disk.old) }
-    ensures memory { IfNone result (vec_capacity slot.new.bytes < 4096) }
+    ensures memory { IfNone result (vec_capacity slot.new.bytes < page_bytes) }
     ensures number { (p : ℕ) → IsIn slot.new p → p ≡ number }
     ensures filled { IfSome result (λ read. OnOk read (IsIn slot.new number)) }
     ensures size { IfSome result (λ read. length slot.new.bytes.items
-        ≡ min 4096 (length (D.content disk.old) - 4096 * number)) }
+        ≡ min page_bytes (length (D.content disk.old) - page_bytes * number)) }
     ensures bytes { D.honest → (p : ℕ) → IsIn slot.new p
         → slot.new.bytes.items ≡ page_of (D.content disk.old) number }
 {
@@ -134,10 +134,10 @@ pub fn fill<D: Disk>(disk: &mut D, slot: &mut Slot, number: u64) -> Option<Resul
 
 // Empties a slot, and gives it so many bytes in memory for a page.
 fn make_room(slot: &mut Slot, size: usize) -> Result<(), AllocError>
-    requires { size ≤ 4096 }
+    requires { size ≤ page_bytes }
     ensures empty { slot.new.number ≡ None }
     ensures size { OnOk result (length slot.new.bytes.items ≡ size) }
-    ensures memory { OnErr result (vec_capacity slot.new.bytes < 4096) }
+    ensures memory { OnErr result (vec_capacity slot.new.bytes < page_bytes) }
 {
     slot.number = None;
     let more = (PAGE as usize).saturating_sub(slot.bytes.len());

@@ -37,12 +37,14 @@
 //!
 //! Where the bytes spell a list these give its parts, and are not Damaged. Over other bytes each
 //! returns, and may be Damaged or not: whether a width is the least, whether the widths past the
-//! last block are 00, and whether each entry's numbers are those of its block, `decode` alone tells.
+//! last block are 00, and whether each entry's numbers are those of its block, `decode` alone
+//! tells.
 //!
-//! In contracts, `Spells` (`specs/Posting.antt`) says field by field that bytes spell a list,
-//! `spelling` (`specs/Spelling.antt`) is those bytes as a function of the list, and `HasShape`
-//! (`specs/Parts.antt`) says that they spell it, with these parts. The blocks are
-//! those of Lemire, Boytsov, Kurz, SIMD compression and the intersection of sorted integers (2016).
+//! In contracts, `longest_list` (`specs/Limits.antt`) is how many numbers a list has at most,
+//! `Spells` (`specs/Posting.antt`) says field by field that bytes spell a list, `spelling`
+//! (`specs/Spelling.antt`) is those bytes as a function of the list, and `HasShape`
+//! (`specs/Parts.antt`) says that they spell it, with these parts. The blocks are those of Lemire,
+//! Boytsov, Kurz, SIMD compression and the intersection of sorted integers (2016).
 #![tactic(auto)]
 
 mod decoding;

@@ -67,6 +67,16 @@ pub record Places (a b : List ℕ) (i j w : ℕ) : Type 0 where
   pub left : i + w ≤ length a
   pub right : j + w ≤ length b
 
+-- one number of each is there
+pub places_one : (a b : List ℕ) (i j : ℕ) → IsStrictlyIncreasing a → IsStrictlyIncreasing b → i < length a → j < length b → Places a b i j 1
+places_one a b i j rising_a rising_b in_a in_b = record {
+  rising_a = rising_a;
+  rising_b = rising_b;
+  some = omega arith;
+  left = omega (arith, in_a);
+  right = omega (arith, in_b);
+}
+
 -- the part of a ends before b goes on
 apart_left : (a b : List ℕ) (i j w : ℕ) → Places a b i j w → slice_index a (i + w - 1) ≤ slice_index b (j + w - 1) → Before (chunk i w a) (drop (j + w) b)
 apart_left a b i j w p h =

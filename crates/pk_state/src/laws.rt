@@ -8,6 +8,7 @@ ghost use Rattle.pk_manifest.specs.Current.{HasBody};
 ghost use Rattle.pk_manifest.specs.Spelling.{Body};
 ghost use Rattle.pk_model.specs.declared.commands.Refusal.{Refusal};
 ghost use Rattle.pk_model.specs.Collection.{Collection, Doc, IsCollection};
+ghost use Rattle.pk_model.specs.Limits.{max_segment_bytes};
 ghost use Rattle.pk_model.specs.Steps.{Answer, Request, commit, merge, tidy};
 ghost use Rattle.pk_segment.specs.Spelling.{segment_length};
 ghost use Rattle.pk_state.specs.Committed.{Committed, Stored, collection_of, whole_of};
@@ -82,10 +83,10 @@ pub fn a_merge_changes_no_document()
         → collection_of new ≡ marked s }
 {}
 
-/// Documents are too large for a segment just where its bytes would pass 1,073,741,824.
+/// Documents are too large for a segment just where its bytes would pass the limit.
 pub fn what_is_too_large()
     ensures { (docs : List Doc)
-        → (is_too_large docs ≡ true) ↔ (1073741824 < segment_length docs written_kind) }
+        → (is_too_large docs ≡ true) ↔ (max_segment_bytes < segment_length docs written_kind) }
 {}
 
 /// Entries have at most one run that a tidy merges.

@@ -1,51 +1,35 @@
 -- Each image of a creation has no half in force, or the first body.
-use Rattle.std.proofs.Common.{◌∙◌, ℕ, [], ◌∷◌, inl, List, length, ap, sym, subst}
+use Rattle.std.proofs.Common.{◌∙◌, ℕ, [], ◌∷◌, List, ap, sym, subst}
 use Rattle.pk_disk.specs.Disk.{IsImage, opened, written}
 use Rattle.pk_disk.proofs.Moments.{only_none, only_then, weaker}
 use Rattle.pk_manifest.specs.Bodies.{IsCurrent}
 use Rattle.pk_manifest.specs.declared.half.Half.TheVariants.{A}
 use Rattle.pk_manifest.proofs.Course.{ok_both}
-use Rattle.pk_manifest.proofs.Establishing.{body_image, established, gate_image, none_or_first, none_yet}
+use Rattle.pk_manifest.proofs.Establishing.{body_while, established, gate_image, none_or_first, none_while}
 use Rattle.pk_manifest.proofs.creating.establish.Goals as goal
 
 pub returns-in_err-write-clause-current : goal.returns-in_err-write-clause-current
 returns-in_err-write-clause-current g c = λ honest.
     let old = c.args.disk.now in
-    weaker g.D.Disk.moment g.D.Disk.images_since old c.write.new.self _ _
-    (λ image is. inl (none_yet (g.D.Disk.content old) (g.D.Disk.is_open old) c.args.body.now c.requires.size c.requires.body (c.requires.none honest) (c.requires.closed honest) image
-    (subst (λ (n : ℕ). IsImage (g.D.Disk.content old) (opened (g.D.Disk.is_open old) 1024 n) image) c.requires.body
-    (subst (λ (at : ℕ). IsImage (g.D.Disk.content old) (opened (g.D.Disk.is_open old) at (length c.args.body.now)) image) c.body.ensures is))))
-    (c.write.ensures.images honest)
+    none_while (g.D.Disk.content old) (g.D.Disk.is_open old) c.args.body.now c.requires.size c.requires.body (c.requires.none honest) (c.requires.closed honest) g.D.Disk.moment g.D.Disk.images_since old c.write.new.self _ c.body.ensures (c.write.ensures.images honest)
 
 pub returns-in_err-write-clause-images : goal.returns-in_err-write-clause-images
 returns-in_err-write-clause-images g c = λ honest.
     let old = c.args.disk.now in
-    weaker g.D.Disk.moment g.D.Disk.images_since old c.write.new.self _ _
-    (λ image is. body_image (g.D.Disk.content old) (g.D.Disk.is_open old) c.args.body.now c.requires.size c.requires.body (c.requires.none honest) (c.requires.closed honest) image
-    (subst (λ (n : ℕ). IsImage (g.D.Disk.content old) (opened (g.D.Disk.is_open old) 1024 n) image) c.requires.body
-    (subst (λ (at : ℕ). IsImage (g.D.Disk.content old) (opened (g.D.Disk.is_open old) at (length c.args.body.now)) image) c.body.ensures is)))
-    (c.write.ensures.images honest)
+    body_while (g.D.Disk.content old) (g.D.Disk.is_open old) c.args.body.now c.requires.size c.requires.body (c.requires.none honest) (c.requires.closed honest) g.D.Disk.moment g.D.Disk.images_since old c.write.new.self _ c.body.ensures (c.write.ensures.images honest)
 
 pub returns-in_err-sync-clause-current : goal.returns-in_err-sync-clause-current
 returns-in_err-sync-clause-current g c = λ honest.
     let old = c.args.disk.now in
     only_none g.D.Disk.moment g.D.Disk.images_since old c.write.new.self c.sync.new.self _
-    (weaker g.D.Disk.moment g.D.Disk.images_since old c.write.new.self _ _
-    (λ image is. inl (none_yet (g.D.Disk.content old) (g.D.Disk.is_open old) c.args.body.now c.requires.size c.requires.body (c.requires.none honest) (c.requires.closed honest) image
-    (subst (λ (n : ℕ). IsImage (g.D.Disk.content old) (opened (g.D.Disk.is_open old) 1024 n) image) c.requires.body
-    (subst (λ (at : ℕ). IsImage (g.D.Disk.content old) (opened (g.D.Disk.is_open old) at (length c.args.body.now)) image) c.body.ensures is))))
-    (c.write.ensures.images honest))
+    (none_while (g.D.Disk.content old) (g.D.Disk.is_open old) c.args.body.now c.requires.size c.requires.body (c.requires.none honest) (c.requires.closed honest) g.D.Disk.moment g.D.Disk.images_since old c.write.new.self _ c.body.ensures (c.write.ensures.images honest))
     (c.sync.ensures.images honest)
 
 pub returns-in_err-sync-clause-images : goal.returns-in_err-sync-clause-images
 returns-in_err-sync-clause-images g c = λ honest.
     let old = c.args.disk.now in
     only_none g.D.Disk.moment g.D.Disk.images_since old c.write.new.self c.sync.new.self _
-    (weaker g.D.Disk.moment g.D.Disk.images_since old c.write.new.self _ _
-    (λ image is. body_image (g.D.Disk.content old) (g.D.Disk.is_open old) c.args.body.now c.requires.size c.requires.body (c.requires.none honest) (c.requires.closed honest) image
-    (subst (λ (n : ℕ). IsImage (g.D.Disk.content old) (opened (g.D.Disk.is_open old) 1024 n) image) c.requires.body
-    (subst (λ (at : ℕ). IsImage (g.D.Disk.content old) (opened (g.D.Disk.is_open old) at (length c.args.body.now)) image) c.body.ensures is)))
-    (c.write.ensures.images honest))
+    (body_while (g.D.Disk.content old) (g.D.Disk.is_open old) c.args.body.now c.requires.size c.requires.body (c.requires.none honest) (c.requires.closed honest) g.D.Disk.moment g.D.Disk.images_since old c.write.new.self _ c.body.ensures (c.write.ensures.images honest))
     (c.sync.ensures.images honest)
 
 pub returns-clause-current : goal.returns-clause-current
@@ -57,11 +41,7 @@ returns-clause-current g c = λ honest.
     let wrote = c.sync.ensures.bytes honest ∙ c.in_ok-write.ensures.bytes honest ∙ ap (λ (at : ℕ). written (g.D.Disk.content old) at c.args.body.now) c.body.ensures in
     only_then m since old mid c.write_synced.new.disk _
     (only_none m since old c.write.new.self mid _
-    (weaker m since old c.write.new.self _ _
-    (λ image is. inl (none_yet (g.D.Disk.content old) (g.D.Disk.is_open old) c.args.body.now c.requires.size c.requires.body (c.requires.none honest) (c.requires.closed honest) image
-    (subst (λ (n : ℕ). IsImage (g.D.Disk.content old) (opened (g.D.Disk.is_open old) 1024 n) image) c.requires.body
-    (subst (λ (at : ℕ). IsImage (g.D.Disk.content old) (opened (g.D.Disk.is_open old) at (length c.args.body.now)) image) c.body.ensures is))))
-    (c.write.ensures.images honest))
+    (none_while (g.D.Disk.content old) (g.D.Disk.is_open old) c.args.body.now c.requires.size c.requires.body (c.requires.none honest) (c.requires.closed honest) g.D.Disk.moment g.D.Disk.images_since old c.write.new.self _ c.body.ensures (c.write.ensures.images honest))
     (c.sync.ensures.images honest))
     (weaker m since mid c.write_synced.new.disk _ _
     (λ image is. none_or_first (g.D.Disk.content old) (g.D.Disk.is_open old) c.args.body.now c.requires.size c.requires.body (c.requires.none honest) (c.requires.closed honest) (g.D.Disk.content mid) (g.D.Disk.is_open mid) wrote (c.in_ok-sync.ensures.closed honest) image
@@ -77,11 +57,7 @@ returns-clause-images g c = λ honest.
     let wrote = c.sync.ensures.bytes honest ∙ c.in_ok-write.ensures.bytes honest ∙ ap (λ (at : ℕ). written (g.D.Disk.content old) at c.args.body.now) c.body.ensures in
     only_then m since old mid c.write_synced.new.disk _
     (only_none m since old c.write.new.self mid _
-    (weaker m since old c.write.new.self _ _
-    (λ image is. body_image (g.D.Disk.content old) (g.D.Disk.is_open old) c.args.body.now c.requires.size c.requires.body (c.requires.none honest) (c.requires.closed honest) image
-    (subst (λ (n : ℕ). IsImage (g.D.Disk.content old) (opened (g.D.Disk.is_open old) 1024 n) image) c.requires.body
-    (subst (λ (at : ℕ). IsImage (g.D.Disk.content old) (opened (g.D.Disk.is_open old) at (length c.args.body.now)) image) c.body.ensures is)))
-    (c.write.ensures.images honest))
+    (body_while (g.D.Disk.content old) (g.D.Disk.is_open old) c.args.body.now c.requires.size c.requires.body (c.requires.none honest) (c.requires.closed honest) g.D.Disk.moment g.D.Disk.images_since old c.write.new.self _ c.body.ensures (c.write.ensures.images honest))
     (c.sync.ensures.images honest))
     (weaker m since mid c.write_synced.new.disk _ _
     (λ image is. gate_image (g.D.Disk.content old) (g.D.Disk.is_open old) c.args.body.now c.requires.size c.requires.body (c.requires.none honest) (c.requires.closed honest) (g.D.Disk.content mid) (g.D.Disk.is_open mid) wrote (c.in_ok-sync.ensures.closed honest) image

@@ -1,18 +1,12 @@
 -- What is written, and the intersection of what is left.
 use Rattle.std.proofs.Common.{arith, sym, ap, ◌∙◌, ℕ, ◌+◌, ◌<◌, ◌++◌, ◌∷◌, [], length, slice_index, take, drop, append_assoc, length-append, append-nil, length-set}
 use Rattle.pk_sets.specs.Sets.{intersection}
-use Rattle.pk_sets.proofs.PartLemmas.{Places, one_less, one_more, one_both, none_left, stored_one}
+use Rattle.pk_sets.proofs.PartLemmas.{places_one, one_less, one_more, one_both, none_left, stored_one}
 use Rattle.pk_sets.proofs.merging.merge_rest.Goals as goal
 
 pub ends-preserved-then-x-y : goal.ends-preserved-then-x-y
 ends-preserved-then-x-y c =
-    let p : Places c.args.a.now c.args.b.now c.ends.i c.ends.j 1 = record {
-      rising_a = c.requires.rising_a;
-      rising_b = c.requires.rising_b;
-      some = omega arith;
-      left = omega arith;
-      right = omega arith;
-    } in
+    let p = places_one c.args.a.now c.args.b.now c.ends.i c.ends.j c.requires.rising_a c.requires.rising_b (omega arith) (omega arith) in
     let e = one_less c.args.a.now c.args.b.now c.ends.i c.ends.j p c.if-x-y.true in
     record {
       in_a = omega arith;
@@ -23,13 +17,7 @@ ends-preserved-then-x-y c =
 
 pub ends-preserved-then-y-x : goal.ends-preserved-then-y-x
 ends-preserved-then-y-x c =
-    let p : Places c.args.a.now c.args.b.now c.ends.i c.ends.j 1 = record {
-      rising_a = c.requires.rising_a;
-      rising_b = c.requires.rising_b;
-      some = omega arith;
-      left = omega arith;
-      right = omega arith;
-    } in
+    let p = places_one c.args.a.now c.args.b.now c.ends.i c.ends.j c.requires.rising_a c.requires.rising_b (omega arith) (omega arith) in
     let e = one_more c.args.a.now c.args.b.now c.ends.i c.ends.j p c.if-y-x.true in
     record {
       in_a = omega arith;
@@ -40,13 +28,7 @@ ends-preserved-then-y-x c =
 
 pub ends-preserved : goal.ends-preserved
 ends-preserved c =
-    let p : Places c.args.a.now c.args.b.now c.ends.i c.ends.j 1 = record {
-      rising_a = c.requires.rising_a;
-      rising_b = c.requires.rising_b;
-      some = omega arith;
-      left = omega arith;
-      right = omega arith;
-    } in
+    let p = places_one c.args.a.now c.args.b.now c.ends.i c.ends.j c.requires.rising_a c.requires.rising_b (omega arith) (omega arith) in
     let e = one_both c.args.a.now c.args.b.now c.ends.i c.ends.j p (omega arith) in
     let after = intersection (drop (c.ends.i + 1) c.args.a.now) (drop (c.ends.j + 1) c.args.b.now) in
     let x = slice_index c.args.a.now c.ends.i in
