@@ -21,6 +21,7 @@ use crate::directory::Entry;
 use crate::front::{put_entry, put_header};
 use crate::header::Header;
 use crate::indexing::{IndexPlan, index_of};
+use crate::kind::PLAIN;
 use pk_index::Index;
 use pk_model::Document;
 use pk_model::limits::MAX_SEGMENT_BYTES;
@@ -57,7 +58,7 @@ pub fn size_of(alloc: Global, documents: &[Document], kind: u32) -> Result<u32, 
     requires least { All (λ d. 1 ≤ d.number.0) documents.now }
     ensures { SizedAs (docs_of documents.now) kind result }
 {
-    if kind == 1 {
+    if kind == PLAIN {
         return plain_size(documents);
     }
     let index = index_of(alloc, documents)?;
@@ -74,7 +75,7 @@ pub fn build(alloc: Global, documents: &[Document], kind: u32) -> Result<Vec<u8>
     requires least { All (λ d. 1 ≤ d.number.0) documents.now }
     ensures { BuiltAs (docs_of documents.now) kind result }
 {
-    if kind == 1 {
+    if kind == PLAIN {
         return build_plain(alloc, documents);
     }
     let index = index_of(alloc, documents)?;
@@ -143,7 +144,7 @@ fn put_plain(out: &mut Vec<u8>, documents: &[Document], text_bytes: u32) -> Resu
     ensures numbers { OnOk result (All (λ d. d.number.0 < 2 ^ 32) documents.now) }
 {
     let header = Header {
-        kind: 1,
+        kind: PLAIN,
         count: documents.len() as u32,
         texts: text_bytes,
         postings: 0,

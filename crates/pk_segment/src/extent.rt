@@ -20,6 +20,7 @@ ghost use Rattle.std.specs.Prelude.{
 ghost use Rattle.pk_disk.proofs.FrameLemmas.{keeps_disk_none, keeps_disk_then};
 ghost use Rattle.pk_disk.specs.Frames.{KeepsDisk};
 ghost use Rattle.pk_disk.specs.Units.{extent_bytes, start_of};
+ghost use Rattle.pk_posting.specs.Limits.{most_lent};
 ghost use Rattle.pk_posting.specs.Source.{CountsFaults, full_count};
 ghost use Rattle.pk_segment.specs.OnlyRead.{ReadsDisk};
 
@@ -71,7 +72,7 @@ impl<'a, D: Disk> ExtentSource<'a, D> {
     // Reads the n bytes from an offset on into the front of the buffer.
     #[tactic(auto, using(crate::proofs::Window::window))]
     fn fill(&mut self, at: u32, n: u32) -> Result<(), SourceFault>
-        requires { n ≤ 4096 }
+        requires { n ≤ most_lent }
         ensures same_reference { self.new.disk.ghost_name ≡ self.old.disk.ghost_name }
         ensures left { ReadsDisk D.Disk CountsFaults result self.old.disk.now self.new.disk.now }
         ensures extent { self.new.extent ≡ self.old.extent }
@@ -122,8 +123,9 @@ impl<'a, D: Disk> ByteSource for ExtentSource<'a, D> {
     }
 }
 
-// Reads n bytes into the front of a buffer.
-fn read_front<D: Disk>(
+/// Reads the `n` bytes from a place of a disk on into the front of a buffer, in one read. What
+/// stands behind them in the buffer stays as it is. Answers `Disk` exactly where the read failed.
+pub fn read_front<D: Disk>(
     disk: &mut D,
     at: u64,
     buffer: &mut [u8],
@@ -136,6 +138,7 @@ fn read_front<D: Disk>(
     ensures cause { IfErr result (λ e. e ≡ SourceFault.Disk) }
     ensures value { D.honest → OnOk result
         (take n buffer.new ≡ take n (drop at (D.content disk.old))) }
+    ensures rest { drop n buffer.new ≡ drop n buffer.old }
 {
     match disk.read(at, &mut buffer[..n]) {
         Ok(()) => Ok(()),

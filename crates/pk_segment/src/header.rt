@@ -14,6 +14,7 @@ ghost use Rattle.std.specs.Prelude.{
 ghost use Rattle.pk_posting.specs.Source.{IsRead};
 ghost use Rattle.pk_segment.specs.Fields.{IsHeader, header_field, is_sound, number_at};
 
+use crate::kind::PLAIN;
 use pk_posting::{ByteSource, SourceFault};
 
 /// The six numbers of a header.
@@ -46,7 +47,7 @@ impl Header {
                 + u64::from(self.postings)
                 + u64::from(self.dictionary)
                 == u64::from(bytes)
-            && (kind != 1 || self.postings == 0 && self.dictionary == 0 && self.terms == 0)
+            && (kind != PLAIN || self.postings == 0 && self.dictionary == 0 && self.terms == 0)
     }
 }
 

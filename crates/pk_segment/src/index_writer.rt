@@ -26,6 +26,7 @@ ghost use Rattle.pk_segment.specs.Spelling.{longest, segment_length};
 
 use crate::building::BuildFault;
 use crate::header::Header;
+use crate::kind::INDEXED;
 use pk_dict::DictWriter;
 use pk_model::limits::MAX_SEGMENT_BYTES;
 use pk_posting::{ListPlace, encode_into, length_of};
@@ -146,7 +147,7 @@ impl IndexWriter {
             return Err(BuildFault::TooLarge);
         }
         Ok(Header {
-            kind: 2,
+            kind: INDEXED,
             count,
             texts: front - 24 - 12 * count,
             postings: self.postings,

@@ -8,7 +8,7 @@
 //!
 //! | offset | field |
 //! |---|---|
-//! | 0 | the kind, 1 or 2 |
+//! | 0 | the kind, 1 or 2 (`PLAIN`, `INDEXED`) |
 //! | 4 | document count c, at least 1 |
 //! | 8 | bytes of all texts T |
 //! | 12 | bytes of postings P, 0 in kind 1 |
@@ -35,7 +35,8 @@
 //! then with `document_in` each text once. Of kind 2, `list_of` looks a word up in the dictionary,
 //! whose entry leads to its list, `dictionary` says where that lies, for whoever looks many up by
 //! one reading of the header, and `terms` gives all words. Each call that reads is handed the
-//! source; `ExtentSource` is an extent of a disk as one, and can be turned to another.
+//! source; `ExtentSource` is an extent of a disk as one, and can be turned to another. It reads by
+//! `read_front`, and so may other sources over a disk.
 //!
 //! # What is refused
 //!
@@ -73,6 +74,7 @@ mod front;
 mod header;
 mod index_writer;
 mod indexing;
+mod kind;
 pub mod laws;
 mod listing;
 mod segment;
@@ -80,9 +82,10 @@ mod stretch;
 
 pub use building::{BuildFault, build, build_indexed, size_of};
 pub use directory::{Directory, Entry};
-pub use extent::ExtentSource;
+pub use extent::{ExtentSource, read_front};
 pub use fault::ReadFault;
 pub use front::{put_entry, put_header};
 pub use header::Header;
 pub use index_writer::IndexWriter;
+pub use kind::{INDEXED, PLAIN};
 pub use segment::Segment;
