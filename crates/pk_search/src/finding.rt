@@ -38,11 +38,8 @@ use pk_model::{DocNo, Query};
 use pk_open::OpenSegment;
 use pk_plan::{Planned, plan, words_of};
 use pk_posting::{ByteSource, MOST_LENT};
-use pk_segment::{ExtentSource, ReadFault};
+use pk_segment::{ExtentSource, INDEXED, ReadFault};
 use std::alloc::Global;
-
-// The kind of segments that have posting lists.
-const INDEXED: u32 = 2;
 
 // Puts the numbers of the segment's documents that are not deleted and satisfy the query behind
 // those that were found.
@@ -82,7 +79,8 @@ fn look_up_in<D: Disk>(
     requires { start_of sought.now.entry.now.extent + sought.now.entry.now.extent.bytes
         ≤ length (D.content source.old.disk.now) }
     ensures entries { D.honest → sought.now.entry.now.kind ≡ 2 → (docs : List Doc)
-        → IndexSpells (extent_bytes (D.content source.old.disk.now) sought.now.entry.now.extent) docs
+        → IndexSpells
+        (extent_bytes (D.content source.old.disk.now) sought.now.entry.now.extent) docs
         → IsSegmentOf sought.now.opened.now.segment docs
         → EntriesAs (texts sought.now.words.words.now) docs result }
     ensures fault { D.honest → (s : Stored)
@@ -123,7 +121,7 @@ fn look_up_all<D: Disk>(
     let firsts = first_places(alloc, words)?;
     let asked = QueryWords {
         words,
-        firsts: &firsts,
+        firsts: firsts.as_slice(),
     };
     let mut kept = Vec::new(alloc);
     for i in 0..entries.len().min(opened.len()) {
