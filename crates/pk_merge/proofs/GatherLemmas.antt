@@ -1,5 +1,5 @@
 -- What was gathered: its length, one document more, and what is left of several.
-use Rattle.std.proofs.Common.{◌≡◌, ◌⊎◌, inl, inr, ℕ, ◌+◌, ◌<◌, ◌≤◌, List, [], ◌∷◌, ◌++◌, length, take, drop, true, false, sym, ap, subst, ◌∙◌, append_assoc, append-nil, arith, Result, Ok, Err, Vec, Global}
+use Rattle.std.proofs.Common.{◌≡◌, ℕ, ◌+◌, ◌<◌, ◌≤◌, List, [], ◌∷◌, ◌++◌, length, take, drop, true, false, sym, ap, subst, ◌∙◌, append_assoc, append-nil, arith, Result, Ok, Err, Vec, Global}
 use Rattle.std.specs.Prelude.{All, Option}
 use Rattle.std.specs.List.Sorted.{IsStrictlyIncreasing}
 use Rattle.std.proofs.lemmas.Grind.{flat_map-append}
@@ -23,7 +23,7 @@ use Rattle.pk_merge.specs.declared.fault.MergeFault.{MergeFault}
 use Rattle.pk_merge.specs.declared.fault.MergeFault.TheVariants.{TooLarge, Damaged, Disk, Memory, NotWritten}
 use Rattle.pk_merge.specs.declared.gathered.Gathered.{Gathered}
 use Rattle.pk_merge.specs.Gathering.{BuildsAs, FailsInMemory, GathersAs, KeepsAs, RiseFrom, docs_in, left_by}
-use Rattle.pk_merge.specs.Merging.{CountsMerge, MergeFails, MergedAs, built_of, merge_of}
+use Rattle.pk_merge.specs.Merging.{MergeFails, MergedAs, built_of, merge_of}
 use Rattle.pk_merge.proofs.RiseLemmas.{rise_next}
 
 -- LENGTHS
@@ -121,12 +121,7 @@ keeps old new dead d e more (Err Disk) same none rise kept = absurd kept
 keeps old new dead d e more (Err Memory) same none rise kept = tt
 keeps old new dead d e more (Err NotWritten) same none rise kept = absurd kept
 
--- A FAULT on the way stays one
-
-pub gathers_fault : {U : Type 0} (left more : List Doc) (old new : Gathered) (r : Result U MergeFault)
-    (x : MergeFault) → r ≡ Err x
-    → MergeFails (docs_in old ++ left) 1 x → GathersAs left more old new r
-gathers_fault left more old new r x is fault = rw is fault
+-- A FAULT
 
 -- a reader's fault is no damage
 pub fails_read : (docs : List Doc) (y : ReadFault) → IsNoDamage y → MergeFails docs 1 (merge_of y)
@@ -135,7 +130,7 @@ fails_read docs reading.Disk cause = tt
 fails_read docs reading.Memory cause = tt
 
 -- a part that fails makes the whole fail
-pub fails_longer : (xs ys zs : List Doc) (y : MergeFault) → zs ≡ xs ++ ys → MergeFails xs 1 y
+fails_longer : (xs ys zs : List Doc) (y : MergeFault) → zs ≡ xs ++ ys → MergeFails xs 1 y
     → MergeFails zs 1 y
 fails_longer xs ys zs TooLarge same fault = longer xs ys zs same fault
 fails_longer xs ys zs Damaged same fault = absurd fault
@@ -154,7 +149,7 @@ module _ {X : Type 0} (left : List X → List Doc) (parts : (xs ys : List X)
       ∙ ap (λ (ds : List Doc). old ++ (left (take i xs) ++ ds)) is
       ∙ ap (λ (ds : List Doc). old ++ ds) (sym (parts (take i xs) (x ∷ [])) ∙ ap left (sym here))
 
-  pub left_on : (xs : List X) (i : ℕ) (x : X) (old before part : List Doc)
+  left_on : (xs : List X) (i : ℕ) (x : X) (old before part : List Doc)
       → take (i + 1) xs ≡ take i xs ++ x ∷ [] → part ≡ left (x ∷ [])
       → before ≡ old ++ left (take i xs) → old ++ left xs ≡ (before ++ part) ++ left (drop (i + 1) xs)
   left_on xs i x old before part here is so_far =
@@ -163,6 +158,14 @@ module _ {X : Type 0} (left : List X → List Doc) (parts : (xs ys : List X)
       ∙ sym (append_assoc old (left (take (i + 1) xs)) (left (drop (i + 1) xs)))
       ∙ ap (λ (ds : List Doc). ds ++ left (drop (i + 1) xs))
       (sym (left_next xs i x old before part here is so_far))
+
+  -- a part that fails makes the whole fail
+  pub fails_on : (xs : List X) (i : ℕ) (x : X) (old before part : List Doc) (y : MergeFault)
+      → take (i + 1) xs ≡ take i xs ++ x ∷ [] → part ≡ left (x ∷ [])
+      → before ≡ old ++ left (take i xs) → MergeFails (before ++ part) 1 y → MergeFails (old ++ left xs) 1 y
+  fails_on xs i x old before part y here is so_far fault =
+      fails_longer (before ++ part) (left (drop (i + 1) xs)) (old ++ left xs) y
+      (left_on xs i x old before part here is so_far) fault
 
 -- THE WHOLE
 
@@ -173,10 +176,6 @@ fails_in docs kind Damaged fault = fault
 fails_in docs kind Disk fault = tt
 fails_in docs kind Memory fault = tt
 fails_in docs kind NotWritten fault = fault
-
-pub merged_fault : (docs : List Doc) (kind : ℕ) (r : Result (Option (Vec ℕ Global)) MergeFault)
-    (x : MergeFault) → r ≡ Err x → MergeFails docs 1 x → MergedAs docs kind r
-merged_fault docs kind r x is fault = rw is (fails_in docs kind x fault)
 
 pub fails_built : (docs : List Doc) (kind : ℕ) (x : MergeFault) → FailsInMemory docs kind x
     → MergeFails docs kind x
@@ -196,28 +195,3 @@ merged_all docs kind g (Err fault) all built =
 pub fails_planned : (docs : List Doc) (x : BuildFault) → BuildFails docs 2 x → MergeFails docs 2 (built_of x)
 fails_planned docs building.TooLarge fault = fault
 fails_planned docs building.Memory fault = tt
-
--- no count rose where the documents were too many bytes, or memory was refused
-pub counts_memory : {T : Type 0} (before now : ℕ) (r : Result T MergeFault) (x : MergeFault) → r ≡ Err x
-    → (x ≡ TooLarge) ⊎ (x ≡ Memory) → now ≡ before → CountsMerge before now r
-counts_memory {T} before now r x is cause same = subst (λ (s : Result T MergeFault). CountsMerge before now s)
-    (sym is) (elim cause [
-      | inl e ↦ subst (λ (y : MergeFault). CountsMerge {T = T} before now (Err y)) (sym e) (record {
-        later = omega (arith, same);
-        ok = tt;
-        too_large = λ h. same;
-        damaged = λ h. same;
-        memory = λ h. same;
-        disk = λ h. absurd (cc (h));
-        unwritten = λ h. cc (h);
-      })
-      | inr e ↦ subst (λ (y : MergeFault). CountsMerge {T = T} before now (Err y)) (sym e) (record {
-        later = omega (arith, same);
-        ok = tt;
-        too_large = λ h. same;
-        damaged = λ h. same;
-        memory = λ h. same;
-        disk = λ h. absurd (cc (h));
-        unwritten = λ h. cc (h);
-      })
-    ])

@@ -1,6 +1,6 @@
 -- What is given to an output, run after run, and what the inputs spell meanwhile.
-use Rattle.std.proofs.Common.{◌≡◌, ◌⊎◌, inl, inr, ℕ, ◌+◌, ◌-◌, ◌<◌, ◌≤◌, false, List, [], ◌∷◌, ◌++◌, length, get_or, refl, sym, ◌∙◌, ap, subst, append_assoc, arith, append-nil, length-append, Result, Ok, Err}
-use Rattle.std.specs.Prelude.{All}
+use Rattle.std.proofs.Common.{◌≡◌, ◌⊎◌, inl, inr, ℕ, ◌+◌, ◌-◌, ◌<◌, ◌≤◌, false, List, [], ◌∷◌, ◌++◌, length, get_or, refl, sym, ◌∙◌, ap, subst, append_assoc, arith, length-append, Result, Ok, Err}
+use Rattle.std.specs.Prelude.{All, IsErrAnd}
 use Rattle.std.proofs.lemmas.Bool.{cases_lt}
 use Rattle.std.proofs.lemmas.List.Elements.{All-head, All-tail, All-weaker}
 use Rattle.pk_disk.specs.declared.disk.Disk.{Ghosts}
@@ -24,6 +24,7 @@ use Rattle.pk_segment.proofs.PlanLemmas.{lists_all}
 use Rattle.pk_state.specs.Committed.{Stored}
 use Rattle.pk_merge.specs.declared.output.Output.{Output}
 use Rattle.pk_merge.specs.Output.{AreGiven, IsGiven, LiesApart, given, places_of}
+use Rattle.pk_merge.proofs.FaultLemmas.{passed_on}
 use Rattle.pk_merge.proofs.OutputLemmas.{stretch_then, writes_next}
 
 -- ---- what the inputs spell stays
@@ -90,18 +91,11 @@ abbrev pub well : Result ℕ StreamFault
 well = Ok 0
 
 module _ {D : Type 0} (d : Ghosts D) where
-  -- nothing was given yet
-  pub given_none : (a : D) (o : Output) → AreGiven d a a o o [] well
-  given_none a o = record {
-    count = omega arith;
-    given_are = sym (append-nil (given (d.content a) o));
-    undamaged = tt;
-  }
-
+  -- a fault that is passed on is no damage where it was none
   pub err_given : {T : Type 0} (a b : D) (o o' : Output) (bytes : List ℕ) (r : Result T StreamFault)
-      (x : StreamFault) → r ≡ Err x → IsUndamaged {T = T} (Err x) → AreGiven d a b o o' bytes r
-  err_given {T} a b o o' bytes r x is undamaged =
-      subst (λ (s : Result T StreamFault). AreGiven d a b o o' bytes s) (sym is)
+      (x : StreamFault) → IsErrAnd r (λ y. y ≡ x) → IsUndamaged {T = T} (Err x)
+      → AreGiven d a b o o' bytes r
+  err_given a b o o' bytes r x is undamaged = passed_on {x = x} (AreGiven d a b o o' bytes) r is
       (record { count = tt; given_are = tt; undamaged = undamaged })
 
   -- the disk was read
@@ -159,3 +153,9 @@ module _ {D : Type 0} (d : Ghosts D) where
   }
   are_given_next a b c o p q xs ys u (Err x) one two =
       record { count = tt; given_are = tt; undamaged = two.undamaged }
+
+  -- at the end, where those are all
+  pub are_given_all : {T : Type 0} {u : T} (a b : D) (o o' : Output) (xs ys : List ℕ) → xs ≡ ys
+      → AreGiven d a b o o' xs well → AreGiven d a b o o' ys (Ok u)
+  are_given_all {u = u} a b o o' xs ys same one = subst (λ (l : List ℕ). AreGiven d a b o o' l (Ok u)) same
+      (record { count = one.count; given_are = one.given_are; undamaged = tt })

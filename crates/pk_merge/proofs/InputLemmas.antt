@@ -1,12 +1,13 @@
 -- The inputs of a merge, each with what it spells.
-use Rattle.std.proofs.Common.{◌≡◌, ℕ, ◌+◌, ◌<◌, ◌≤◌, ◌^◌, List, [], ◌∷◌, ◌++◌, length, drop, sym, ap, subst, ◌∙◌, append-nil, arith}
+use Rattle.std.proofs.Common.{◌≡◌, ℕ, ◌+◌, ◌<◌, ◌≤◌, ◌^◌, List, [], ◌∷◌, ◌++◌, length, drop, get_or, sym, ap, subst, ◌∙◌, append-nil, arith}
 use Rattle.std.proofs.lemmas.List.{drop_more}
 use Rattle.std.proofs.lemmas.List.Concat.{flat_map-cons}
 use Rattle.std.proofs.lemmas.List.Elements.{All-head}
 use Rattle.std.specs.List.Sorted.{IsStrictlyIncreasing}
 use Rattle.pk_join.specs.declared.input.MergeInput.{MergeInput}
-use Rattle.pk_join.specs.Inputs.{SpellsInputs}
+use Rattle.pk_join.specs.Inputs.{SpellsInput, SpellsInputs}
 use Rattle.pk_join.specs.Walking.{none_stored, stored_at}
+use Rattle.pk_join.proofs.InputLemmas.{input_at, inputs_long}
 use Rattle.pk_model.specs.Collection.{Doc, numbers_of}
 use Rattle.pk_segment.specs.Directory.{doc_in}
 use Rattle.pk_segment.specs.Spelling.{AreDocuments}
@@ -15,10 +16,29 @@ use Rattle.pk_merge.specs.Gathering.{RiseFrom, left_by}
 use Rattle.pk_merge.proofs.RiseLemmas.{rise_zero}
 
 -- the documents of those that are left, one in front
-pub all_on : (stored : List Stored) (i : ℕ) → i < length stored
+all_on : (stored : List Stored) (i : ℕ) → i < length stored
     → all_in (drop i stored) ≡ (stored_at stored i).documents ++ all_in (drop (i + 1) stored)
 all_on stored i lt = ap all_in (drop_more stored i none_stored lt)
     ∙ flat_map-cons (λ (s : Stored). s.documents) (stored_at stored i) (drop (i + 1) stored)
+
+-- The ith input spells the ith of what is stored, and the documents from there on rise.
+pub record IsNext (bytes : List ℕ) (x : MergeInput) (stored : List Stored) (i last : ℕ) : Type 0 where
+  pub within : i < length stored
+  pub input : SpellsInput bytes x (stored_at stored i)
+  pub rise : RiseFrom last ((stored_at stored i).documents ++ all_in (drop (i + 1) stored))
+
+-- so it is on a disk that was only read
+pub next_of : (was bytes : List ℕ) (is : List MergeInput) (stored : List Stored) (i last : ℕ) (x : MergeInput)
+    → SpellsInputs was is stored → bytes ≡ was → i < length is → x ≡ get_or is i x
+    → RiseFrom last (all_in (drop i stored)) → IsNext bytes x stored i last
+next_of was bytes is stored i last x spells same lt at rise =
+    let within : i < length stored = omega (arith, lt, inputs_long was is stored spells) in
+    record {
+      within = within;
+      input = input_at bytes is stored i x
+          (subst (λ (b : List ℕ). SpellsInputs b is stored) (sym same) spells) lt at;
+      rise = subst (RiseFrom last) (all_on stored i within) rise;
+    }
 
 -- WHAT THEY LEAVE
 pub live_here : (dead : List ℕ) (s : Stored) → dead ≡ s.dead → left_by dead s.documents ≡ live_in (s ∷ [])

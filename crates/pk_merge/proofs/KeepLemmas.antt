@@ -17,7 +17,6 @@ use Rattle.pk_merge.specs.declared.left.Left.{Left}
 use Rattle.pk_merge.specs.Gathering.{RiseFrom, left_by}
 use Rattle.pk_merge.specs.Keeping.{AreKept, IsKept, KeepsBetween, KeptApart, kept_bytes, kept_directory}
 use Rattle.pk_merge.specs.Left.{KeepsOneAs, TakesAs, kept_in}
-use Rattle.pk_merge.specs.Merging.{MergeFails}
 use Rattle.pk_merge.proofs.GatherLemmas.{front_one}
 use Rattle.pk_merge.proofs.RiseLemmas.{rise_next}
 
@@ -103,12 +102,6 @@ between_wider ks new from to from' to' low high keeps = λ start end out. keeps 
   | inl o ↦ inl (omega (arith, o, high))
   | inr o ↦ inr (omega (arith, o, low))
 ])
-
--- a fault on the way stays one
-pub takes_fault : {T : Type 0} (bytes : List ℕ) (so_far left more : List Doc) (new : Left)
-    (r : Result T MergeFault) (x : MergeFault) → r ≡ Err x → MergeFails (so_far ++ left) 1 x
-    → TakesAs bytes so_far left more new r
-takes_fault bytes so_far left more new r x is fault = rw is fault
 
 -- where none is kept there is none
 pub none_kept : (bytes : List ℕ) (ks : List Kept) (ds : List Doc) → AreKept bytes ks ds → length ks ≡ 0

@@ -1,5 +1,6 @@
 -- The lemma pages.
 pub mod CountLemmas
+pub mod FaultLemmas
 pub mod GatherLemmas
 pub mod GivenLemmas
 pub mod InputLemmas

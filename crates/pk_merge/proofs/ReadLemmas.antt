@@ -1,11 +1,12 @@
--- What is read of the inputs: where the texts of one stand on the disk, and one input more.
-use Rattle.std.proofs.Common.{◌≡◌, ℕ, ◌+◌, ◌*◌, ◌<◌, ◌≤◌, List, [], ◌∷◌, ◌++◌, length, map, get_or, take, drop, refl, sym, ap, ◌∙◌, arith}
+-- What is read of the inputs: where the texts of one stand on the disk, a count of no failure, and one input more.
+use Rattle.std.proofs.Common.{◌≡◌, ℕ, ◌+◌, ◌*◌, ◌<◌, ◌≤◌, List, [], ◌∷◌, ◌++◌, length, map, get_or, take, drop, refl, sym, ap, ◌∙◌, arith, Ok}
 use Rattle.std.proofs.lemmas.List.{drop-drop, map-append, take-append-drop}
 use Rattle.pk_model.specs.Collection.{Doc}
 use Rattle.pk_segment.specs.Directory.{doc_in, offset_in}
 use Rattle.pk_segment.specs.Spelling.{SegmentSpells}
 use Rattle.pk_segment.proofs.SegmentLemmas.{inside_part, text_there}
 use Rattle.pk_merge.specs.Keeping.{TextsStand}
+use Rattle.pk_merge.specs.Merging.{CountsMerge}
 use Rattle.pk_disk.specs.declared.units.Extent.{Extent}
 use Rattle.pk_join.specs.declared.input.MergeInput.{MergeInput}
 use Rattle.pk_join.specs.declared.lists.InputLists.{InputLists}
@@ -37,6 +38,18 @@ texts_stand whole content start texts end docs kind part is at last = record {
         ≡ (doc_in docs i).text)
     there i lt = text_there content docs kind i (doc_in docs i).number (offset_in 0 docs i)
         (length (doc_in docs i).text) is lt (record { number_is = refl; at_is = refl; len_is = refl })
+
+-- a count that did not rise goes with an answer
+pub counts_ok : {T : Type 0} {v : T} {before now : ℕ} → now ≡ before → CountsMerge before now (Ok v)
+counts_ok same = record {
+  later = omega (arith, same);
+  ok = same;
+  too_large = λ e. same;
+  damaged = λ e. same;
+  memory = λ e. same;
+  disk = λ e. absurd (cc (e));
+  unwritten = λ e. cc (e);
+}
 
 -- ---- one input more
 

@@ -1,5 +1,5 @@
 -- A segment given in its parts.
-use Rattle.std.proofs.Common.{◌≡◌, ℕ, ◌+◌, ◌-◌, false, List, [], ◌∷◌, ◌++◌, length, take, drop, get_or, sym, ◌∙◌, ap, subst, append_assoc, append-nil, arith, length-append, Result, Ok, Err}
+use Rattle.std.proofs.Common.{◌≡◌, ℕ, ◌+◌, ◌-◌, ◌≤◌, false, List, [], ◌∷◌, ◌++◌, length, take, drop, get_or, sym, ◌∙◌, ap, subst, append_assoc, append-nil, arith, length-append, Result, Ok, Err}
 use Rattle.std.specs.Prelude.{All, OnOk}
 use Rattle.std.proofs.lemmas.List.Elements.{All-head, All-tail}
 use Rattle.pk_disk.specs.Disk.{in_range}
@@ -57,6 +57,19 @@ pub two_lengths : (docs : List Doc) (front words : List ℕ) → front ≡ heade
     ≡ segment_length docs 2
 two_lengths docs front words f w = sym (length-append (front ++ texts docs) (postings docs ++ words))
     ∙ ap length (all_bytes docs front words f w) ∙ length_segment docs 2
+
+-- an output that is as long as all has room for the first half
+pub front_fits : (docs : List Doc) (front words : List ℕ) (o : Output) (start size : ℕ)
+    → front ≡ header_in docs 2 ++ directory 0 docs → words ≡ dictionary docs → size ≡ segment_length docs 2
+    → IsFresh start (start + size) o → o.at + o.filled + length (front ++ texts docs) ≤ o.end
+front_fits docs front words o start size f w is fresh = omega (
+  arith,
+  two_lengths docs front words f w,
+  is,
+  fresh.at_is,
+  fresh.end_is,
+  fresh.none_held,
+)
 
 -- ---- an output from its start to its end
 

@@ -25,7 +25,7 @@
 //! Its list is joined from those of the inputs without the dead numbers, and packed. So the exact
 //! length is known, and all memory taken, before the first write.
 //!
-//! The packed lists are kept as long as all of them have at most 33,554,432 bytes: then one walk is
+//! The packed lists are kept as long as all of them have at most 67,108,864 bytes: then one walk is
 //! enough, and the tables of words are let go before anything is written. Once they have more, or
 //! where memory for them is refused, they are let go, and only their lengths are kept.
 //!
@@ -49,7 +49,7 @@
 //! | an input of kind 2 | 32,768 bytes to read ahead, past 2,048 inputs its share of 64 MiB |
 //! | each deleted number | 4 bytes, and one for each number up to the next one, at most 64 |
 //! | the dictionary | its bytes |
-//! | the posting lists, up to 33,554,432 bytes of them | their bytes, and up to as many to grow |
+//! | the posting lists, up to 67,108,864 bytes of them | their bytes, and up to as many to grow |
 //! | where they have more, the longest of them | its bytes |
 //! | the texts that are read at once | 65,536 bytes |
 //! | what is to be written | 65,536 bytes |
@@ -77,8 +77,9 @@
 //! chosen, `specs/Prepared` what is prepared, `specs/Lists` its posting lists, `specs/Counting` how
 //! many documents are left at the least, whatever the bytes are, `specs/Keeping` where the texts
 //! stand that are kept, `specs/Spans` which of them are read at once, `specs/Output` what was given
-//! to be written, `specs/Streaming` what `MergeWriter` promises. Lemma pages: `RiseLemmas` on the
-//! order of the numbers, `CountLemmas` on their count, `GatherLemmas` on what was gathered,
+//! to be written, `specs/Streaming` what `MergeWriter` promises. Lemma pages: `FaultLemmas` on faults
+//! that are passed on, `RiseLemmas` on the order of the numbers, `CountLemmas` on their count,
+//! `GatherLemmas` on what was gathered, `InputLemmas` on the inputs, each with what it spells,
 //! `LiveLemmas` on the documents that are left, `SpanLemmas` on texts that are read at once,
 //! `GivenLemmas` and `StreamLemmas` on what is given part after part; pk_join's `TermWalkLemmas` on
 //! the walk through the words.

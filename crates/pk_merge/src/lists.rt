@@ -21,9 +21,9 @@ use pk_replace::StreamFault;
 use pk_segment::IndexWriter;
 use std::alloc::{AllocError, Global};
 
-/// The most bytes of posting lists that are kept in memory: 32 MiB. Where a merge has more, they
+/// The most bytes of posting lists that are kept in memory: 64 MiB. Where a merge has more, they
 /// are joined a second time as they are written.
-pub(crate) const MOST_KEPT_LISTS: u32 = 33_554_432;
+pub(crate) const MOST_KEPT_LISTS: u32 = 67_108_864;
 
 /// The posting lists of a merge, of all words in their order.
 #[derive(Drop)]

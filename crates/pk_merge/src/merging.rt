@@ -15,13 +15,13 @@ ghost use Rattle.std.specs.Prelude.{
   IfOk,
 };
 ghost use Rattle.std.specs.List.Sorted.{IsStrictlyIncreasing};
-ghost use Rattle.pk_disk.specs.Frames.{KeepsDisk};
 ghost use Rattle.pk_disk.specs.Units.{extent_bytes};
 ghost use Rattle.pk_join.specs.Inputs.{HasKind, LiesInside, SpellsInputs};
 ghost use Rattle.pk_merge.specs.Gathering.{GathersAs, RiseFrom, left_by};
 ghost use Rattle.pk_merge.specs.Merging.{CountsMerge, IsSomeMerged, MergedAs};
 ghost use Rattle.pk_model.specs.Collection.{Doc, numbers_of};
 ghost use Rattle.pk_segment.specs.Directory.{IsDirectoryOf, doc_in, entries_in};
+ghost use Rattle.pk_segment.specs.OnlyRead.{ReadsDisk, ReadsSource};
 ghost use Rattle.pk_segment.specs.Opened.{IsSegmentOf};
 ghost use Rattle.pk_segment.specs.Spelling.{IsKind, SegmentSpells};
 ghost use Rattle.pk_state.specs.Committed.{Stored, all_in, live_in};
@@ -54,8 +54,7 @@ pub fn merged<D: Disk>(
         → IsStrictlyIncreasing (numbers_of (all_in stored))
         → MergedAs (live_in stored) kind result }
     ensures segment { IfOk result (IsSomeMerged kind) }
-    ensures keeps { KeepsDisk D.Disk disk.old disk.new }
-    ensures reads { CountsMerge (D.failed_reads disk.old) (D.failed_reads disk.new) result }
+    ensures left { ReadsDisk D.Disk CountsMerge result disk.old disk.new }
 {
     let mut gathered = Gathered::new(alloc);
     gather_all(alloc, disk, inputs, &mut gathered)?;
@@ -75,8 +74,7 @@ fn gather_all<D: Disk>(
         → SpellsInputs (D.content disk.old) inputs.now stored
         → RiseFrom gathered.old.last (all_in stored)
         → GathersAs (live_in stored) [] gathered.old gathered.new result }
-    ensures keeps { KeepsDisk D.Disk disk.old disk.new }
-    ensures reads { CountsMerge (D.failed_reads disk.old) (D.failed_reads disk.new) result }
+    ensures left { ReadsDisk D.Disk CountsMerge result disk.old disk.new }
 {
     for input in inputs {
         gather_in(alloc, disk, input, gathered)?;
@@ -97,8 +95,7 @@ fn gather_in<D: Disk>(
         → SegmentSpells (extent_bytes (D.content disk.old) input.now.extent) docs input.now.kind
         → RiseFrom gathered.old.last (docs ++ more)
         → GathersAs (left_by input.now.dead.now docs) more gathered.old gathered.new result }
-    ensures keeps { KeepsDisk D.Disk disk.old disk.new }
-    ensures reads { CountsMerge (D.failed_reads disk.old) (D.failed_reads disk.new) result }
+    ensures left { ReadsDisk D.Disk CountsMerge result disk.old disk.new }
 {
     let mut source = ExtentSource::on(disk, input.extent);
     gather_from(alloc, &mut source, input.kind, input.dead, gathered)
@@ -117,8 +114,7 @@ fn gather_from<S: ByteSource>(
         → SegmentSpells (S.content source.old) docs kind
         → RiseFrom gathered.old.last (docs ++ more)
         → GathersAs (left_by dead.now docs) more gathered.old gathered.new result }
-    ensures keeps { S.keeps source.old source.new }
-    ensures faults { CountsMerge (S.failures source.old) (S.failures source.new) result }
+    ensures left { ReadsSource S.ByteSource CountsMerge result source.old source.new }
 {
     let bytes = source.len();
     let segment = Segment::open(source, bytes, kind)?;
@@ -157,9 +153,7 @@ fn gather_one<S: ByteSource>(
         → RiseFrom gathered.old.last (drop i docs ++ more)
         → GathersAs (left_by opened.now.dead.now (doc_in docs i ∷ [])) (drop (i + 1) docs ++ more)
         gathered.old gathered.new result }
-    ensures content { S.honest → S.content source.new ≡ S.content source.old }
-    ensures keeps { S.keeps source.old source.new }
-    ensures faults { CountsMerge (S.failures source.old) (S.failures source.new) result }
+    ensures left { ReadsSource S.ByteSource CountsMerge result source.old source.new }
 {
     let number = opened.directory.number(i);
     if number <= gathered.last() {

@@ -1,12 +1,12 @@
 //! The index of a merge, planned by going through the words of all inputs.
 
 ghost use Rattle.std.specs.Prelude.{◌≡◌, [], List, length, IfOk};
-ghost use Rattle.pk_disk.specs.Frames.{KeepsDisk};
 ghost use Rattle.pk_join.specs.Walk.{HasCome, IsSameWalk, WalksWithin};
 ghost use Rattle.pk_join.specs.declared.input.MergeInput.{MergeInput};
 ghost use Rattle.pk_merge.specs.Merging.{CountsMerge};
 ghost use Rattle.pk_merge.specs.Planned.{PlansWordsAs};
 ghost use Rattle.pk_model.specs.Terms.{terms_of};
+ghost use Rattle.pk_segment.specs.OnlyRead.{ReadsDisk};
 ghost use Rattle.pk_segment.specs.Planning.{HasEntries};
 ghost use Rattle.pk_state.specs.Committed.{Stored, live_in};
 
@@ -31,8 +31,7 @@ pub(crate) fn plan_words<D: Disk>(
     ensures entries { IfOk result HasEntries }
     ensures most_kept { IfOk result (λ index. index.most_kept ≡ MOST_KEPT_LISTS) }
     ensures same { IsSameWalk walk.old walk.new }
-    ensures keeps { KeepsDisk D.Disk disk.old disk.new }
-    ensures reads { CountsMerge (D.failed_reads disk.old) (D.failed_reads disk.new) result }
+    ensures left { ReadsDisk D.Disk CountsMerge result disk.old disk.new }
 {
     let mut index = IndexWriter::new(alloc, MOST_KEPT_LISTS);
     'words: while walk.next(disk)? {

@@ -2,7 +2,6 @@
 
 ghost use Rattle.std.specs.Prelude.{◌≡◌, ◌⊎◌, ◌<◌, ℕ, List, length, All, IfErr, IfOk};
 ghost use Rattle.std.specs.List.Sorted.{IsStrictlyIncreasing};
-ghost use Rattle.pk_disk.specs.Frames.{KeepsDisk};
 ghost use Rattle.pk_join.specs.Inputs.{HasKind, LiesInside, SpellsInputs};
 ghost use Rattle.pk_join.specs.Walk.{walk_lists, walk_room};
 ghost use Rattle.pk_join.specs.WalkInput.{HaveExtentsOf, IsBefore, IsWithin, lists_of};
@@ -15,6 +14,7 @@ ghost use Rattle.pk_merge.specs.Merging.{CountsMerge};
 ghost use Rattle.pk_merge.specs.Prepared.{IsReady, PreparesAs, PreparesOneAs};
 ghost use Rattle.pk_model.specs.Collection.{numbers_of};
 ghost use Rattle.pk_model.specs.Terms.{terms_of};
+ghost use Rattle.pk_segment.specs.OnlyRead.{ReadsDisk};
 ghost use Rattle.pk_segment.specs.Planning.{HasEntries, HasWords};
 ghost use Rattle.pk_segment.specs.Spelling.{AreDocuments};
 ghost use Rattle.pk_state.specs.Committed.{Stored, all_in, live_in};
@@ -92,8 +92,7 @@ fn prepare_left<D: Disk>(
     ensures disk_bytes { IfOk result (λ p. p.disk_bytes ≡ left.disk_bytes) }
     ensures inputs { (inputs : List MergeInput) → HaveExtentsOf inputs read.items
         → IfOk result (λ p. AreOfInputs inputs p.lists) }
-    ensures keeps { KeepsDisk D.Disk disk.old disk.new }
-    ensures reads { CountsMerge (D.failed_reads disk.old) (D.failed_reads disk.new) result }
+    ensures left { ReadsDisk D.Disk CountsMerge result disk.old disk.new }
 {
     let mut walk = Walk::new(alloc, read, left.documents.len())?;
     let index = plan_words(alloc, disk, &mut walk)?;
@@ -120,8 +119,7 @@ pub fn prepare<D: Disk>(
         → PreparesAs (D.content disk.old) inputs.now stored result }
     ensures ready { IsReady (length (D.content disk.old)) inputs.now result }
     ensures enough { D.honest → LeavesEnough (D.content disk.old) inputs.now result }
-    ensures keeps { KeepsDisk D.Disk disk.old disk.new }
-    ensures reads { CountsMerge (D.failed_reads disk.old) (D.failed_reads disk.new) result }
+    ensures left { ReadsDisk D.Disk CountsMerge result disk.old disk.new }
 {
     let (read, left) = read_all(alloc, disk, inputs)?;
     if left.documents.is_empty() {

@@ -15,7 +15,6 @@ ghost use Rattle.std.specs.Prelude.{
   OnOk,
 };
 ghost use Rattle.std.specs.List.Sorted.{IsStrictlyIncreasing};
-ghost use Rattle.pk_disk.specs.Frames.{KeepsDisk};
 ghost use Rattle.pk_disk.specs.Units.{extent_bytes, start_of};
 ghost use Rattle.pk_join.specs.Inputs.{HasKind, LiesInside, SpellsInputs};
 ghost use Rattle.pk_join.specs.WalkInput.{HaveExtentsOf, IsBefore};
@@ -27,6 +26,7 @@ ghost use Rattle.pk_merge.specs.Left.{kept_in};
 ghost use Rattle.pk_merge.specs.Merging.{CountsMerge};
 ghost use Rattle.pk_merge.specs.ReadAll.{ReadsAllAs};
 ghost use Rattle.pk_model.specs.Collection.{Doc, numbers_of};
+ghost use Rattle.pk_segment.specs.OnlyRead.{ReadsDisk, ReadsSource};
 ghost use Rattle.pk_segment.specs.Spelling.{SegmentSpells};
 ghost use Rattle.pk_state.specs.Committed.{Stored, all_in};
 
@@ -61,8 +61,7 @@ fn read_from<S: ByteSource>(
         (count_said (S.content source.old) + length (kept_in left.old)
         ≤ length (kept_in left.new) + length input.now.dead.now) }
     ensures disk_bytes { left.new.disk_bytes ≡ left.old.disk_bytes }
-    ensures keeps { S.keeps source.old source.new }
-    ensures faults { CountsMerge (S.failures source.old) (S.failures source.new) result }
+    ensures left { ReadsSource S.ByteSource CountsMerge result source.old source.new }
 {
     let bytes = source.len();
     let segment = Segment::open(source, bytes, input.kind)?;
@@ -105,8 +104,7 @@ pub(crate) fn read_input<D: Disk>(
         (count_said (extent_bytes (D.content disk.old) input.now.extent)
         + length (kept_in left.old) ≤ length (kept_in left.new) + length input.now.dead.now) }
     ensures disk_bytes { left.new.disk_bytes ≡ left.old.disk_bytes }
-    ensures keeps { KeepsDisk D.Disk disk.old disk.new }
-    ensures reads { CountsMerge (D.failed_reads disk.old) (D.failed_reads disk.new) result }
+    ensures left { ReadsDisk D.Disk CountsMerge result disk.old disk.new }
 {
     let start = UNIT * u64::from(input.extent.first);
     let mut ahead = Ahead::new(alloc, READ_AHEAD)?;
@@ -132,8 +130,7 @@ pub(crate) fn read_all<D: Disk>(
     ensures extents { IfOk result (λ r. HaveExtentsOf inputs.now r.0.items) }
     ensures before { IfOk result (λ r. All IsBefore r.0.items) }
     ensures disk_bytes { IfOk result (λ r. r.1.disk_bytes ≡ length (D.content disk.old)) }
-    ensures keeps { KeepsDisk D.Disk disk.old disk.new }
-    ensures reads { CountsMerge (D.failed_reads disk.old) (D.failed_reads disk.new) result }
+    ensures left { ReadsDisk D.Disk CountsMerge result disk.old disk.new }
 {
     let mut left = Left::new(alloc, disk.len());
     let mut read = Vec::with_capacity(alloc, inputs.len())?;

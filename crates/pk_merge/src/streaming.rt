@@ -132,7 +132,6 @@ impl Prepared {
             → SpellsInputs (D.content disk.old) inputs stored
             → IsPrepared (D.content disk.old) inputs stored self
             → IfErr result (λ f. (f ≡ MergeFault.Disk) ⊎ (f ≡ MergeFault.NotWritten)) }
-        ensures size { length (D.content disk.new) ≡ length (D.content disk.old) }
         ensures cause { IsMergeCause D.Disk disk.old disk.new result }
     {
         self.write_segment(disk, first)?;

@@ -1,13 +1,12 @@
 -- What was gathered is what all inputs leave.
 use Rattle.std.proofs.Common.{◌∙◌, ◌++◌, ap, sym, subst, List, ℕ}
-use Rattle.std.proofs.lemmas.Result.{err_from_is_err_and}
 use Rattle.pk_model.specs.Collection.{Doc}
 use Rattle.pk_segment.specs.Spelling.{docs_of}
 use Rattle.pk_state.specs.Committed.{all_in, live_in}
-use Rattle.pk_merge.specs.declared.fault.MergeFault.{MergeFault}
 use Rattle.pk_merge.specs.Gathering.{RiseFrom}
-use Rattle.pk_merge.specs.Merging.{MergeFails}
-use Rattle.pk_merge.proofs.GatherLemmas.{merged_fault, merged_all}
+use Rattle.pk_merge.specs.Merging.{MergeFails, MergedAs}
+use Rattle.pk_merge.proofs.FaultLemmas.{passed_on}
+use Rattle.pk_merge.proofs.GatherLemmas.{fails_in, merged_all}
 use Rattle.pk_merge.proofs.InputLemmas.{rise_all}
 use Rattle.pk_merge.proofs.merging.merged.Goals as goal
 
@@ -15,12 +14,11 @@ pub returns-in_err-gather_all-clause-merged : goal.returns-in_err-gather_all-cla
 returns-in_err-gather_all-clause-merged g c = λ honest stored spells rising.
     let rise = rise_all (g.D.Disk.content c.args.disk.now) c.args.inputs.now stored spells rising in
     let start = subst (λ (n : ℕ). RiseFrom n (all_in stored)) (sym c.new-gathered.ensures.last) rise in
-    let found = err_from_is_err_and c.from_residual.result c.from_residual.ensures.1 in
     let none = ap docs_of c.new-gathered.ensures.documents in
     let fault = subst (λ (ds : List Doc). MergeFails (ds ++ live_in stored) 1 c.in_err-gather_all.field-0.0)
     none (c.in_err-gather_all.ensures.gathered honest stored spells start) in
-    merged_fault (live_in stored) c.args.kind c.from_residual.result found.0 found.1
-    (subst (λ (x : MergeFault). MergeFails (live_in stored) 1 x) (sym found.2) fault)
+    passed_on (MergedAs (live_in stored) c.args.kind) c.from_residual.result c.from_residual.ensures.1
+    (fails_in (live_in stored) c.args.kind c.in_err-gather_all.field-0.0 fault)
 
 pub returns-clause-merged : goal.returns-clause-merged
 returns-clause-merged g c = λ honest stored spells rising.

@@ -1,6 +1,5 @@
 -- At first no term is planned, and all are to come.
-use Rattle.std.proofs.Common.{[], refl, ℕ, length, subst, sym}
-use Rattle.pk_disk.proofs.FrameLemmas.{keeps_disk_none}
+use Rattle.std.proofs.Common.{[], ℕ, length, rules, subst, sym}
 use Rattle.pk_join.specs.Walk.{WalksWithin}
 use Rattle.pk_join.proofs.ComeLemmas.{same_walk_none, within_same}
 use Rattle.pk_model.specs.Terms.{terms_of}
@@ -9,8 +8,7 @@ use Rattle.pk_merge.proofs.planning.plan_words.Goals as goal
 
 pub words-init : goal.words-init
 words-init g c = record {
-  keeps = keeps_disk_none _ _;
-  reads = refl;
+  left = search rules;
   same = same_walk_none c.args.walk.now;
   entries = c.new-index.ensures.entries;
   most_kept = c.new-index.ensures.most_kept;
@@ -27,4 +25,4 @@ pub next-requires : goal.next-requires
 next-requires g c =
     let inv = c.words.invariant in
     within_same (length (g.D.Disk.content c.words.disk)) c.args.walk.now c.words.walk inv.same
-    (subst (λ (n : ℕ). WalksWithin n c.args.walk.now) (sym inv.keeps.size) c.requires)
+    (subst (λ (n : ℕ). WalksWithin n c.args.walk.now) (sym inv.left.keeps.size) c.requires)

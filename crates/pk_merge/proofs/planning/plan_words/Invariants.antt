@@ -1,10 +1,11 @@
 -- The terms that were passed are planned, and the others are to come.
-use Rattle.std.proofs.Common.{◌≡◌, List, ℕ, []}
-use Rattle.pk_disk.specs.Frames.{KeepsDisk}
+use Rattle.std.proofs.Common.{◌≡◌, List, Ok, ℕ, []}
 use Rattle.pk_join.specs.declared.input.MergeInput.{MergeInput}
 use Rattle.pk_join.specs.Walk.{HasCome, IsSameWalk, words_to_come}
 use Rattle.pk_model.specs.Terms.{terms_of}
 use Rattle.pk_merge.specs.declared.lists.TheConstants.{MOST_KEPT_LISTS}
+use Rattle.pk_merge.specs.Merging.{CountsMerge}
+use Rattle.pk_segment.specs.OnlyRead.{ReadsDisk}
 use Rattle.pk_segment.specs.Planning.{HasEntries, HasWords}
 use Rattle.pk_state.specs.Committed.{Stored, live_in}
 use Rattle.pk_merge.proofs.planning.plan_words.Given as goal
@@ -16,8 +17,7 @@ abbrev pub invariant-words : goal.invariant-words
 invariant-words g l =
     let disk = g.D.Disk in
     record {
-      keeps : KeepsDisk disk l.fn.disk l.disk;
-      reads : disk.failed_reads l.disk ≡ disk.failed_reads l.fn.disk;
+      left : ReadsDisk disk CountsMerge (Ok (tt {0})) l.fn.disk l.disk;
       same : IsSameWalk l.fn.walk l.walk;
       entries : HasEntries l.index;
       most_kept : l.index.most_kept ≡ MOST_KEPT_LISTS;

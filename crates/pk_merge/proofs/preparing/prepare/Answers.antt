@@ -3,19 +3,17 @@ use Rattle.std.proofs.Common.{◌≡◌, ◌∙◌, ◌<◌, inl, inr, List, ℕ
 use Rattle.std.specs.Prelude.{◌==◌, All}
 use Rattle.std.specs.List.Sorted.{IsStrictlyIncreasing}
 use Rattle.std.proofs.lemmas.Bool.{cases_lt, eq-eqb, eqb-true}
-use Rattle.std.proofs.lemmas.Result.{err_from_is_err_and}
 use Rattle.pk_join.specs.declared.input.MergeInput.{MergeInput}
 use Rattle.pk_join.specs.Inputs.{LiesInside, SpellsInputs}
 use Rattle.pk_join.proofs.ComeLemmas.{within_given}
 use Rattle.pk_model.specs.Collection.{numbers_of}
 use Rattle.pk_segment.specs.Spelling.{AreDocuments}
 use Rattle.pk_state.specs.Committed.{Stored, all_in, live_in}
-use Rattle.pk_merge.specs.declared.fault.MergeFault.{MergeFault}
 use Rattle.pk_merge.specs.declared.kept.Kept.{Kept}
 use Rattle.pk_merge.specs.Keeping.{AreKept, StayApart}
 use Rattle.pk_merge.specs.Left.{kept_in}
-use Rattle.pk_merge.specs.Merging.{MergeFails}
-use Rattle.pk_merge.specs.Prepared.{IsPrepared}
+use Rattle.pk_merge.specs.Prepared.{IsPrepared, PreparesAs}
+use Rattle.pk_merge.proofs.FaultLemmas.{passed_on}
 use Rattle.pk_merge.proofs.GatherLemmas.{fails_in}
 use Rattle.pk_merge.proofs.InputLemmas.{rise_all}
 use Rattle.pk_merge.proofs.KeepLemmas.{kept_long, none_kept}
@@ -41,15 +39,15 @@ prepare_left-requires-clause-some g c = omega (
 pub prepare_left-requires-clause-within : goal.prepare_left-requires-clause-within
 prepare_left-requires-clause-within g c =
     within_given _ c.args.inputs.now c.in_ok-read.read.items c.in_ok-read.ensures.extents
-    (subst (λ (n : ℕ). All (LiesInside n) c.args.inputs.now) (sym c.read_all.ensures.keeps.size)
+    (subst (λ (n : ℕ). All (LiesInside n) c.args.inputs.now) (sym c.read_all.ensures.left.keeps.size)
     c.requires.inside)
 
 pub returns-in_err-read-clause-prepared : goal.returns-in_err-read-clause-prepared
 returns-in_err-read-clause-prepared g c = λ honest stored spells rising.
     let fault = c.in_err-read.ensures.read honest stored spells rising in
-    let found = err_from_is_err_and c.from_residual.result c.from_residual.ensures.1 in
-    rw found.1 (subst (λ (x : MergeFault). MergeFails (live_in stored) 2 x) (sym found.2)
-    (fails_in (live_in stored) 2 c.in_err-read.field-0.0 fault))
+    passed_on (PreparesAs (g.D.Disk.content c.args.disk.now) c.args.inputs.now stored)
+    c.from_residual.result c.from_residual.ensures.1
+    (fails_in (live_in stored) 2 c.in_err-read.field-0.0 fault)
 
 pub returns-then-is_empty-clause-prepared : goal.returns-then-is_empty-clause-prepared
 returns-then-is_empty-clause-prepared g c = λ honest stored spells rising.
@@ -81,13 +79,12 @@ returns-in_err-prepared-clause-prepared g c = λ honest stored spells rising.
     let left = c.in_ok-read.left in
     let read = c.in_ok-read.ensures.read honest stored spells rising in
     let is = known (content c.args.disk.now) (content c.read_all.new.disk) inputs stored (kept_in left)
-    (c.read_all.ensures.keeps.read honest).bytes spells rising read.1
+    (c.read_all.ensures.left.keeps.read honest).bytes spells rising read.1
     (omega (arith, some_of left.documents.len (sym c.is_empty.ensures ∙ c.if-is_empty.false), left.documents.ok)) in
     let fault = c.in_err-prepared.ensures.prepared honest inputs stored is.0 c.in_ok-read.ensures.extents read.0
     is.1 is.2 in
-    let found = err_from_is_err_and c.from_residual-in_err-prepared.result
-    c.from_residual-in_err-prepared.ensures.1 in
-    rw found.1 (subst (λ (x : MergeFault). MergeFails (live_in stored) 2 x) (sym found.2) fault)
+    passed_on (PreparesAs (content c.args.disk.now) inputs stored)
+    c.from_residual-in_err-prepared.result c.from_residual-in_err-prepared.ensures.1 fault
 
 pub returns-clause-prepared : goal.returns-clause-prepared
 returns-clause-prepared g c = λ honest stored spells rising.
@@ -95,7 +92,7 @@ returns-clause-prepared g c = λ honest stored spells rising.
     let inputs = c.args.inputs.now in
     let left = c.in_ok-read.left in
     let read = c.in_ok-read.ensures.read honest stored spells rising in
-    let same = (c.read_all.ensures.keeps.read honest).bytes in
+    let same = (c.read_all.ensures.left.keeps.read honest).bytes in
     let is = known (content c.args.disk.now) (content c.read_all.new.disk) inputs stored (kept_in left) same
     spells rising read.1
     (omega (arith, some_of left.documents.len (sym c.is_empty.ensures ∙ c.if-is_empty.false), left.documents.ok)) in

@@ -2,7 +2,6 @@
 use Rattle.std.proofs.Common.{◌≡◌, ◌∙◌, List, ℕ, [], length, sym, ap, subst, arith}
 use Rattle.std.specs.Prelude.{All}
 use Rattle.std.specs.Global.{Vec}
-use Rattle.std.proofs.lemmas.Result.{err_from_is_err_and}
 use Rattle.pk_join.specs.declared.input.MergeInput.{MergeInput}
 use Rattle.pk_join.specs.declared.lists.InputLists.{InputLists}
 use Rattle.pk_join.specs.declared.walk.Walk.{Walk}
@@ -15,11 +14,11 @@ use Rattle.pk_join.proofs.ComeLemmas.{come_start}
 use Rattle.pk_model.specs.Terms.{terms_of}
 use Rattle.pk_segment.specs.Spelling.{AreDocuments}
 use Rattle.pk_state.specs.Committed.{Stored, live_in}
-use Rattle.pk_merge.specs.declared.fault.MergeFault.{MergeFault}
 use Rattle.pk_merge.specs.declared.left.Left.{Left}
 use Rattle.pk_merge.specs.Keeping.{AreKept}
 use Rattle.pk_merge.specs.Left.{kept_in}
-use Rattle.pk_merge.specs.Merging.{MergeFails}
+use Rattle.pk_merge.specs.Prepared.{PreparesOneAs}
+use Rattle.pk_merge.proofs.FaultLemmas.{passed_on}
 use Rattle.pk_merge.proofs.KeepLemmas.{kept_long, kept_size}
 use Rattle.pk_merge.proofs.preparing.prepare_left.Goals as goal
 
@@ -54,9 +53,8 @@ returns-in_err-index-clause-prepared g c = λ honest inputs stored spells extent
     let fault = c.in_err-index.ensures.planned honest inputs stored
     (comes _ inputs stored c.args.read c.args.left walk c.in_ok-walk.ensures.inputs room c.requires.before spells
     extents listed kept are) in
-    let found = err_from_is_err_and c.from_residual-in_err-index.result
-    c.from_residual-in_err-index.ensures.1 in
-    rw found.1 (subst (λ (x : MergeFault). MergeFails (live_in stored) 2 x) (sym found.2) fault)
+    passed_on (PreparesOneAs (g.D.Disk.content c.args.disk.now) inputs stored)
+    c.from_residual-in_err-index.result c.from_residual-in_err-index.ensures.1 fault
 
 pub returns-in_err-prepared-clause-prepared : goal.returns-in_err-prepared-clause-prepared
 returns-in_err-prepared-clause-prepared g c = λ honest inputs stored spells extents listed kept are.
@@ -70,9 +68,8 @@ returns-in_err-prepared-clause-prepared g c = λ honest inputs stored spells ext
     (subst (λ (ls : List InputLists). AreListed inputs ls stored) (sym same.lists) come.listed) kept
     (subst (CanHold stored) (sym same.room) come.can)
     (c.in_ok-index.ensures.planned honest inputs stored come) in
-    let found = err_from_is_err_and c.from_residual-in_err-prepared.result
-    c.from_residual-in_err-prepared.ensures.1 in
-    rw found.1 (subst (λ (x : MergeFault). MergeFails (live_in stored) 2 x) (sym found.2) fault)
+    passed_on (PreparesOneAs (g.D.Disk.content c.args.disk.now) inputs stored)
+    c.from_residual-in_err-prepared.result c.from_residual-in_err-prepared.ensures.1 fault
 
 pub returns-clause-prepared : goal.returns-clause-prepared
 returns-clause-prepared g c = λ honest inputs stored spells extents listed kept are.

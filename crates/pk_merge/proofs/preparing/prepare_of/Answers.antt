@@ -1,13 +1,12 @@
 -- Header, directory, lists and dictionary are those of the documents that are left.
 use Rattle.std.proofs.Common.{◌≡◌, ◌∙◌, length, ap, sym, subst, arith}
-use Rattle.std.proofs.lemmas.Result.{err_from_is_err_and}
 use Rattle.pk_dict.specs.declared.writer.DictWriter.{DictWriter}
 use Rattle.pk_dict.specs.Writer.{HasAdded}
 use Rattle.pk_segment.specs.Indexed.{items_of}
-use Rattle.pk_merge.specs.declared.fault.MergeFault.{MergeFault}
-use Rattle.pk_merge.specs.Merging.{MergeFails}
 use Rattle.pk_merge.specs.Keeping.{kept_directory}
 use Rattle.pk_merge.specs.Left.{kept_in}
+use Rattle.pk_merge.specs.Prepared.{PreparesOneAs}
+use Rattle.pk_merge.proofs.FaultLemmas.{passed_on}
 use Rattle.pk_merge.proofs.GatherLemmas.{fails_planned}
 use Rattle.pk_merge.proofs.KeepLemmas.{directory_is, front_same, kept_long, kept_size}
 use Rattle.pk_segment.proofs.PlanLemmas.{header_size}
@@ -58,5 +57,4 @@ returns-in_err-header-clause-prepared c = λ bytes inputs stored listed kept can
     let front = c.bytes.ensures.value ∙ kept_size bytes ks docs kept in
     let count : c.len.result ≡ length docs = omega (arith, kept_long bytes ks docs kept, c.args.left.documents.ok, c.len.ensures) in
     let fault = fails_planned docs c.in_err-header.field-0.0 (c.in_err-header.ensures.header docs has count front) in
-    let found = err_from_is_err_and c.from_residual.result c.from_residual.ensures.1 in
-    rw found.1 (subst (λ (x : MergeFault). MergeFails docs 2 x) (sym found.2) fault)
+    passed_on (PreparesOneAs bytes inputs stored) c.from_residual.result c.from_residual.ensures.1 fault

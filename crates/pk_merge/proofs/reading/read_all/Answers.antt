@@ -1,77 +1,58 @@
 -- One input after the other.
-use Rattle.std.proofs.Common.{◌∙◌, ◌∷◌, ◌++◌, [], ◌<◌, ◌≤◌, ◌+◌, List, ℕ, length, take, drop, refl, sym, ap, subst, arith}
+use Rattle.std.proofs.Common.{◌∙◌, ◌∷◌, ◌++◌, [], ◌≤◌, ◌+◌, List, ℕ, length, take, drop, refl, sym, ap, subst, rules, arith}
 use Rattle.std.specs.Prelude.{All}
 use Rattle.std.proofs.lemmas.List.{take_all}
 use Rattle.std.proofs.lemmas.List.Elements.{All-nil, All-push}
-use Rattle.std.proofs.lemmas.Result.{err_from_is_err_and}
 use Rattle.pk_disk.specs.Units.{extent_bytes}
-use Rattle.pk_disk.proofs.FrameLemmas.{keeps_disk_none, keeps_disk_then}
 use Rattle.pk_join.specs.declared.input.MergeInput.{MergeInput}
 use Rattle.pk_join.specs.declared.lists.InputLists.{InputLists}
 use Rattle.pk_join.specs.declared.walk_input.Input.{Input}
 use Rattle.pk_join.specs.WalkInput.{HaveExtentsOf, IsBefore, extents_of, lists_of}
-use Rattle.pk_join.specs.Inputs.{SpellsInputs}
 use Rattle.pk_join.specs.Listed.{AreListsOf}
 use Rattle.pk_join.specs.Walking.{AreListed, stored_at}
-use Rattle.pk_join.proofs.InputLemmas.{input_at, inputs_long, live_append, take_stored}
+use Rattle.pk_join.proofs.InputLemmas.{inputs_long, live_append, take_stored}
 use Rattle.pk_join.proofs.WalkLemmas.{inputs_more, listed_snoc}
-use Rattle.pk_model.specs.Collection.{Doc}
 use Rattle.pk_state.specs.Committed.{Stored, all_in, live_in}
-use Rattle.pk_merge.specs.declared.fault.MergeFault.{MergeFault}
 use Rattle.pk_merge.specs.Counting.{count_said, counts_said, numbers_listed}
 use Rattle.pk_merge.specs.Gathering.{RiseFrom, left_by}
 use Rattle.pk_merge.specs.declared.kept.Kept.{Kept}
 use Rattle.pk_merge.specs.Keeping.{AreKept, StayApart}
 use Rattle.pk_merge.specs.Left.{kept_in}
-use Rattle.pk_merge.specs.Merging.{MergeFails}
 use Rattle.pk_merge.specs.Output.{LiesApart}
+use Rattle.pk_merge.specs.ReadAll.{ReadsAllAs}
 use Rattle.pk_merge.proofs.CountLemmas.{counts_next, numbers_next}
-use Rattle.pk_merge.proofs.GatherLemmas.{fails_longer, left_next, left_on}
-use Rattle.pk_merge.proofs.InputLemmas.{all_on, live_here, rise_all}
+use Rattle.pk_merge.proofs.FaultLemmas.{passed_on}
+use Rattle.pk_merge.proofs.GatherLemmas.{fails_on, left_next}
+use Rattle.pk_merge.proofs.InputLemmas.{live_here, next_of, rise_all}
 use Rattle.pk_merge.proofs.ReadLemmas.{pushed_extents, pushed_lists}
 use Rattle.pk_merge.proofs.reading.read_all.Goals as goal
 
 pub returns-in_err-lists-clause-read : goal.returns-in_err-lists-clause-read
 returns-in_err-lists-clause-read g c = λ honest stored spells rising.
-    let content = g.D.Disk.content in
-    let inv = c.loop-input.invariant in
-    let i = c.loop-input.input-index in
-    let s = stored_at stored i in
+    let l = c.loop-input in
+    let i = l.input-index in
     let x = c.input-item.result in
-    let dead = x.dead.now in
-    let lt : i < length stored =
-    omega (
-      arith,
-      c.loop-input-test.true,
-      inputs_long (content c.args.disk.now) c.args.inputs.now stored
-          spells,
-    ) in
-    let same = (inv.keeps.read honest).bytes in
-    let here = subst (λ (b : List ℕ). SpellsInputs b c.args.inputs.now stored) (sym same) spells in
-    let input = input_at (content c.loop-input.disk) c.args.inputs.now stored i x here c.loop-input-test.true
-    c.input-item.is in
-    let known = inv.read honest stored spells rising in
-    let next = subst (λ (ds : List Doc). RiseFrom c.loop-input.left.last ds) (all_on stored i lt) known.2 in
+    let s = stored_at stored i in
+    let same = (l.invariant.left.keeps.read honest).bytes in
+    let known = l.invariant.read honest stored spells rising in
+    let next = next_of _ _ c.args.inputs.now stored i l.left.last x spells same c.loop-input-test.true
+    c.input-item.is known.2 in
     let before = live_in (take i stored) in
-    let kept = subst (λ (b : List ℕ). AreKept b (kept_in c.loop-input.left) before) (sym same) known.1 in
-    let part = left_by dead s.documents in
-    let fault = c.in_err-lists.ensures.read honest before s.documents (all_in (drop (i + 1) stored))
-    input.segment next kept in
-    let on = left_on live_in live_append stored i s [] before part (take_stored stored i lt)
-    (live_here dead s input.dead) refl in
-    let found = err_from_is_err_and c.from_residual-in_err-lists.result
-    c.from_residual-in_err-lists.ensures.1 in
-    rw found.1 (subst (λ (y : MergeFault). MergeFails (live_in stored) 1 y) (sym found.2)
-    (fails_longer (before ++ part) (live_in (drop (i + 1) stored)) (live_in stored)
-    c.in_err-lists.field-0.0 on fault))
+    let kept = subst (λ (b : List ℕ). AreKept b (kept_in l.left) before) (sym same) known.1 in
+    passed_on (ReadsAllAs (g.D.Disk.content c.args.disk.now) c.args.inputs.now stored)
+    c.from_residual-in_err-lists.result c.from_residual-in_err-lists.ensures.1
+    (fails_on live_in live_append stored i s [] before (left_by x.dead.now s.documents)
+    c.in_err-lists.field-0.0 (take_stored stored i next.within)
+    (live_here x.dead.now s next.input.dead) refl
+    (c.in_err-lists.ensures.read honest before s.documents (all_in (drop (i + 1) stored))
+    next.input.segment next.rise kept))
 
 pub loop-input-init : goal.loop-input-init
 loop-input-init g c =
     let content = g.D.Disk.content c.args.disk.now in
     let none = c.new-left.ensures.documents in
     record {
-      keeps = keeps_disk_none _ _;
-      reads = refl;
+      left = search rules;
       disk_bytes = c.new-left.ensures.disk_bytes ∙ c.len.ensures;
       apart = subst (StayApart c.args.inputs.now) (sym none) (λ start end all k d within. absurd (omega (arith, within)));
       enough = λ honest. omega arith;
@@ -93,8 +74,7 @@ loop-input-preserved g c =
     let x = c.input-item.result in
     let y = c.in_ok-before.before in
     record {
-      keeps = keeps_disk_then _ _ _ _ inv.keeps c.read_input.ensures.keeps;
-      reads = c.in_ok-lists.ensures.reads.ok ∙ inv.reads;
+      left = search rules;
       disk_bytes = c.read_input.ensures.disk_bytes ∙ inv.disk_bytes;
       apart = λ start end all. c.in_ok-lists.ensures.between start end
           (subst (LiesApart start end) (sym c.input-item.is) (all i x c.loop-input-test.true))
@@ -110,7 +90,7 @@ loop-input-preserved g c =
             ap numbers_listed more,
             numbers_next before x,
             subst (λ (b : List ℕ). count_said (extent_bytes b x.extent) + length (kept_in c.loop-input.left)
-                ≤ length (kept_in c.read_input.new.left) + length x.dead.now) (inv.keeps.read honest).bytes
+                ≤ length (kept_in c.read_input.new.left) + length x.dead.now) (inv.left.keeps.read honest).bytes
                 (c.in_ok-lists.ensures.enough honest),
           );
       extents = pushed_extents c.args.inputs.now i x c.loop-input.read.items c.push.new.self.items y
@@ -121,30 +101,18 @@ loop-input-preserved g c =
           (record { head = c.in_ok-before.ensures.start; ahead = c.in_ok-before.ensures.none }));
       read = λ honest stored spells rising.
           let s = stored_at stored i in
-          let dead = x.dead.now in
-          let lt : i < length stored =
-          omega (
-            arith,
-            c.loop-input-test.true,
-            inputs_long (content c.args.disk.now) c.args.inputs.now
-                stored spells,
-          ) in
-          let same = (inv.keeps.read honest).bytes in
-          let here = subst (λ (b : List ℕ). SpellsInputs b c.args.inputs.now stored) (sym same) spells in
-          let input = input_at (content c.loop-input.disk) c.args.inputs.now stored i x here
-          c.loop-input-test.true c.input-item.is in
+          let same = (inv.left.keeps.read honest).bytes in
           let known = inv.read honest stored spells rising in
-          let next = subst (λ (ds : List Doc). RiseFrom c.loop-input.left.last ds) (all_on stored i lt)
-          known.2 in
+          let next = next_of _ _ c.args.inputs.now stored i c.loop-input.left.last x spells same
+          c.loop-input-test.true c.input-item.is known.2 in
           let before = live_in (take i stored) in
           let kept = subst (λ (b : List ℕ). AreKept b (kept_in c.loop-input.left) before) (sym same)
           known.1 in
-          let part = left_by dead s.documents in
           let has = c.in_ok-lists.ensures.read honest before s.documents (all_in (drop (i + 1) stored))
-          input.segment next kept in
-          let all = left_next live_in live_append stored i s [] before part (take_stored stored i lt)
-          (live_here dead s input.dead) refl in
-          let listed = subst (AreListsOf c.in_ok-lists.lists x.kind s.documents) input.dead has.listed in
+          next.input.segment next.rise kept in
+          let all = left_next live_in live_append stored i s [] before (left_by x.dead.now s.documents)
+          (take_stored stored i next.within) (live_here x.dead.now s next.input.dead) refl in
+          let listed = subst (AreListsOf c.in_ok-lists.lists x.kind s.documents) next.input.dead has.listed in
           let more = listed_snoc (take i c.args.inputs.now) (lists_of c.loop-input.read.items) (take i stored)
           x c.in_ok-lists.lists s known.0 listed in
           let pushed = pushed_lists c.loop-input.read.items c.push.new.self.items y c.in_ok-lists.lists
@@ -156,7 +124,7 @@ loop-input-preserved g c =
                 (take (i + 1) stored)) (sym pushed)
                 (subst (AreListed (take i c.args.inputs.now ++ x ∷ [])
                 (lists_of c.loop-input.read.items ++ c.in_ok-lists.lists ∷ []))
-                (sym (take_stored stored i lt)) more)),
+                (sym (take_stored stored i next.within)) more)),
             subst (λ (b : List ℕ). AreKept b (kept_in c.read_input.new.left)
                 (live_in (take (i + 1) stored))) same
                 (subst (AreKept (content c.loop-input.disk) (kept_in c.read_input.new.left)) all has.kept),

@@ -1,25 +1,25 @@
 -- The inputs so far were read, and the documents of the others rise.
-use Rattle.std.proofs.Common.{◌≡◌, ◌≤◌, ◌+◌, List, length, take, drop}
+use Rattle.std.proofs.Common.{◌≡◌, ◌≤◌, ◌+◌, List, Ok, length, take, drop}
 use Rattle.std.specs.Prelude.{All}
 use Rattle.std.specs.List.Sorted.{IsStrictlyIncreasing}
-use Rattle.pk_disk.specs.Frames.{KeepsDisk}
 use Rattle.pk_join.specs.Inputs.{SpellsInputs}
 use Rattle.pk_join.specs.WalkInput.{HaveExtentsOf, IsBefore, lists_of}
 use Rattle.pk_join.specs.Walking.{AreListed}
 use Rattle.pk_model.specs.Collection.{numbers_of}
+use Rattle.pk_segment.specs.OnlyRead.{ReadsDisk}
 use Rattle.pk_state.specs.Committed.{Stored, all_in, live_in}
 use Rattle.pk_merge.specs.Counting.{counts_said, numbers_listed}
 use Rattle.pk_merge.specs.Gathering.{RiseFrom}
 use Rattle.pk_merge.specs.Keeping.{AreKept, StayApart}
 use Rattle.pk_merge.specs.Left.{kept_in}
+use Rattle.pk_merge.specs.Merging.{CountsMerge}
 use Rattle.pk_merge.proofs.reading.read_all.Given as goal
 
 abbrev pub invariant-loop-input : goal.invariant-loop-input
 invariant-loop-input g l =
     let disk = g.D.Disk in
     record {
-      keeps : KeepsDisk disk l.fn.disk l.disk;
-      reads : disk.failed_reads l.disk ≡ disk.failed_reads l.fn.disk;
+      left : ReadsDisk disk CountsMerge (Ok (tt {0})) l.fn.disk l.disk;
       disk_bytes : l.left.disk_bytes ≡ length (disk.content l.fn.disk);
       apart : StayApart l.inputs (kept_in l.left);
       enough : disk.honest → counts_said (disk.content l.fn.disk) (take l.input-index l.inputs)

@@ -1,15 +1,11 @@
 -- One text after the other, out of what was read.
-use Rattle.std.proofs.Common.{◌∙◌, ◌++◌, ◌+◌, ◌-◌, ◌<◌, List, ℕ, length, take, get_or, sym, ap, subst, arith, Err}
+use Rattle.std.proofs.Common.{◌∙◌, ◌++◌, ◌+◌, ◌-◌, ◌<◌, List, ℕ, length, take, get_or, sym, ap, subst, arith}
 use Rattle.std.specs.Prelude.{slice_range}
 use Rattle.std.proofs.lemmas.List.{take_all}
-use Rattle.std.proofs.lemmas.Result.{err_from_is_err_and}
-use Rattle.pk_model.specs.Collection.{Doc}
-use Rattle.pk_replace.specs.declared.stream.StreamFault.{StreamFault}
-use Rattle.pk_replace.specs.Cause.{IsUndamaged}
 use Rattle.pk_segment.specs.Spelling.{texts}
 use Rattle.pk_merge.specs.declared.kept.Kept.{Kept}
 use Rattle.pk_merge.specs.Output.{AreGiven}
-use Rattle.pk_merge.proofs.GivenLemmas.{are_given_then, err_given, is_given_then, well}
+use Rattle.pk_merge.proofs.GivenLemmas.{are_given_all, are_given_then, err_given, is_given_then, well}
 use Rattle.pk_merge.proofs.KeepLemmas.{kept_long}
 use Rattle.pk_merge.proofs.SpanLemmas.{next_within, text_there}
 use Rattle.pk_merge.proofs.TextLemmas.{texts_next}
@@ -33,10 +29,8 @@ returns-in_err-offer-clause-bytes g c = λ honest docs are room.
     let given =
     c.in_err-offer.ensures.bytes honest
     (omega (arith, so_far.count, next_within docs i lt, room, ap length text, inv.given.stretch.end)) in
-    let found = err_from_is_err_and c.from_residual.result c.from_residual.ensures.1 in
     err_given d c.args.disk.now c.offer.new.disk c.args.output.now c.offer.new.self (texts docs)
-    c.from_residual.result found.0 found.1
-    (subst (λ (x : StreamFault). IsUndamaged {T = Unit {0}} (Err x)) (sym found.2) given.undamaged)
+    c.from_residual.result c.in_err-offer.field-0.0 c.from_residual.ensures.1 given.undamaged
 
 pub loop-kept-preserved : goal.loop-kept-preserved
 unfolding none
@@ -76,14 +70,7 @@ loop-kept-preserved g c =
 pub returns-clause-bytes : goal.returns-clause-bytes
 returns-clause-bytes g c = λ honest docs are room.
     let i = c.loop-kept.kept-index in
-    let all =
-    take_all i docs (omega (
-      arith,
-      c.loop-kept-test.false,
-      kept_long (g.D.Disk.content c.args.disk.now)
-          c.args.documents.now docs are,
-    )) in
-    let so_far =
-    subst (λ (ds : List Doc). AreGiven g.D.Disk c.args.disk.now c.loop-kept.disk c.args.output.now
-    c.loop-kept.output (texts ds) well) all (c.loop-kept.invariant.texts honest docs are room) in
-    record { count = so_far.count; given_are = so_far.given_are; undamaged = tt }
+    let long = kept_long (g.D.Disk.content c.args.disk.now) c.args.documents.now docs are in
+    are_given_all g.D.Disk c.args.disk.now c.loop-kept.disk c.args.output.now c.loop-kept.output (texts (take i docs))
+    (texts docs) (ap texts (take_all i docs (omega (arith, c.loop-kept-test.false, long))))
+    (c.loop-kept.invariant.texts honest docs are room)

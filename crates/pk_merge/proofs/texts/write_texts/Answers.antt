@@ -1,14 +1,10 @@
 -- One span after the other.
-use Rattle.std.proofs.Common.{◌∙◌, ◌-◌, List, ℕ, length, take, drop, sym, ap, subst, arith, length-drop, Err}
+use Rattle.std.proofs.Common.{◌∙◌, ◌-◌, List, ℕ, length, take, drop, sym, ap, subst, arith, length-drop}
 use Rattle.std.proofs.lemmas.List.{take_all, take_rest}
-use Rattle.std.proofs.lemmas.Result.{err_from_is_err_and}
-use Rattle.pk_model.specs.Collection.{Doc}
-use Rattle.pk_replace.specs.declared.stream.StreamFault.{StreamFault}
-use Rattle.pk_replace.specs.Cause.{IsUndamaged}
 use Rattle.pk_segment.specs.Spelling.{texts}
 use Rattle.pk_merge.specs.Output.{AreGiven}
 use Rattle.pk_merge.specs.Spans.{IsSpanOf}
-use Rattle.pk_merge.proofs.GivenLemmas.{are_given_then, err_given, is_given_then, well}
+use Rattle.pk_merge.proofs.GivenLemmas.{are_given_all, are_given_then, err_given, is_given_then, well}
 use Rattle.pk_merge.proofs.KeepLemmas.{kept_long}
 use Rattle.pk_merge.proofs.SpanLemmas.{more_within, rest_inside, rest_kept, texts_more}
 use Rattle.pk_merge.proofs.texts.write_texts.Goals as goal
@@ -45,10 +41,8 @@ returns-in_err-write_span-clause-bytes g c = λ honest docs are room.
     are in
     let given = c.in_err-write_span.ensures.bytes honest (drop i docs) kept
     (omega (arith, so_far.count, more_within docs i n, room, inv.given.stretch.end)) in
-    let found = err_from_is_err_and c.from_residual.result c.from_residual.ensures.1 in
     err_given d c.args.disk.now c.write_span.new.disk c.args.output.now c.write_span.new.output (texts docs)
-    c.from_residual.result found.0 found.1
-    (subst (λ (x : StreamFault). IsUndamaged {T = Unit {0}} (Err x)) (sym found.2) given.undamaged)
+    c.from_residual.result c.in_err-write_span.field-0.0 c.from_residual.ensures.1 given.undamaged
 
 pub loop-done-preserved : goal.loop-done-preserved
 loop-done-preserved g c =
@@ -88,14 +82,7 @@ loop-done-preserved g c =
 pub returns-clause-bytes : goal.returns-clause-bytes
 returns-clause-bytes g c = λ honest docs are room.
     let i = c.loop-done.done in
-    let all =
-    take_all i docs (omega (
-      arith,
-      c.loop-done-test.false,
-      kept_long (g.D.Disk.content c.args.disk.now)
-          c.args.documents.now docs are,
-    )) in
-    let so_far =
-    subst (λ (ds : List Doc). AreGiven g.D.Disk c.args.disk.now c.loop-done.disk c.args.output.now
-    c.loop-done.output (texts ds) well) all (c.loop-done.invariant.texts honest docs are room) in
-    record { count = so_far.count; given_are = so_far.given_are; undamaged = tt }
+    let long = kept_long (g.D.Disk.content c.args.disk.now) c.args.documents.now docs are in
+    are_given_all g.D.Disk c.args.disk.now c.loop-done.disk c.args.output.now c.loop-done.output (texts (take i docs))
+    (texts docs) (ap texts (take_all i docs (omega (arith, c.loop-done-test.false, long))))
+    (c.loop-done.invariant.texts honest docs are room)

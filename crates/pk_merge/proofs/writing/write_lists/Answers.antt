@@ -1,18 +1,15 @@
 -- One word after the other.
-use Rattle.std.proofs.Common.{◌≡◌, ◌∙◌, ◌≤◌, ◌++◌, ◌∷◌, [], refl, ap, sym, subst, append_assoc, append-nil, arith, List, ℕ, length, Err}
+use Rattle.std.proofs.Common.{◌≡◌, ◌∙◌, ◌≤◌, ◌++◌, ◌∷◌, [], refl, ap, sym, subst, append_assoc, append-nil, arith, List, ℕ, length}
 use Rattle.std.specs.Prelude.{All}
-use Rattle.std.proofs.lemmas.Result.{err_from_is_err_and}
 use Rattle.pk_join.specs.Walk.{GoesAs, WalksWithin, walk_word}
 use Rattle.pk_join.proofs.ComeLemmas.{come_stays, same_walk_then, within_same}
 use Rattle.pk_model.specs.Terms.{terms_of}
 use Rattle.pk_posting.specs.Spelling.{spelling as list_spelling}
-use Rattle.pk_replace.specs.declared.stream.StreamFault.{StreamFault}
-use Rattle.pk_replace.specs.Cause.{IsUndamaged}
 use Rattle.pk_segment.specs.Indexed.{list_with, lists_of, postings}
 use Rattle.pk_segment.proofs.PlanLemmas.{lists_all, lists_next}
 use Rattle.pk_state.specs.Committed.{live_in}
 use Rattle.pk_merge.specs.Output.{AreGiven}
-use Rattle.pk_merge.proofs.GivenLemmas.{all_mid, are_given_read, are_given_then, err_given, is_given_read, is_given_then, lists_within, same_bytes, well}
+use Rattle.pk_merge.proofs.GivenLemmas.{all_mid, are_given_all, are_given_read, are_given_then, err_given, is_given_read, is_given_then, lists_within, same_bytes, well}
 use Rattle.pk_merge.proofs.StreamLemmas.{apart_there}
 use Rattle.pk_merge.proofs.writing.write_lists.Goals as goal
 
@@ -38,11 +35,9 @@ returns-in_err-write_list-clause-bytes g c = λ honest inputs stored start apart
       lists_within docs known.0 w to.rest terms,
       inv.given.stretch.end,
     )) in
-    let found = err_from_is_err_and c.from_residual-in_err-write_list.result
-    c.from_residual-in_err-write_list.ensures.1 in
     err_given g.D.Disk c.args.disk.now c.write_list.new.disk c.args.output.now c.write_list.new.output
-    (postings docs) c.from_residual-in_err-write_list.result found.0 found.1
-    (subst (λ (x : StreamFault). IsUndamaged {T = Unit {0}} (Err x)) (sym found.2) given.undamaged)
+    (postings docs) c.from_residual-in_err-write_list.result c.in_err-write_list.field-0.0
+    c.from_residual-in_err-write_list.ensures.1 given.undamaged
 
 pub words-preserved : goal.words-preserved
 words-preserved g c =
@@ -113,12 +108,10 @@ returns-clause-bytes g c = λ honest inputs stored start apart enough room.
     let lists = ap (λ (ws : List (List ℕ)). lists_of ws docs) (sym terms)
     ∙ lists_all docs (terms_of docs) refl in
     let same = (c.go_on.ensures.keeps.read honest).bytes in
-    let so_far =
-    subst (λ (l : List ℕ). AreGiven g.D.Disk c.args.disk.now c.go_on.new.disk c.args.output.now
-    c.words.output l well) lists
+    are_given_all g.D.Disk c.args.disk.now c.go_on.new.disk c.args.output.now c.words.output
+    (lists_of known.0 docs) (postings docs) lists
     (are_given_read g.D.Disk c.args.disk.now c.words.disk c.go_on.new.disk c.args.output.now c.words.output
-    (lists_of known.0 docs) same known.3) in
-    record { count = so_far.count; given_are = so_far.given_are; undamaged = tt }
+    (lists_of known.0 docs) same known.3)
 
 pub go_on-requires : goal.go_on-requires
 go_on-requires g c =

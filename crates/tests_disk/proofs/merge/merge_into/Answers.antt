@@ -11,7 +11,7 @@ merge_into-requires g c =
     let inputs = c.inputs-inputs.result in
     let p = c.in-Some.prepared in
     let size = length (g.D.Disk.content c.prepare.new.disk) in
-    let keeps = c.in_ok-prepared.ensures.keeps in
+    let keeps = c.in_ok-prepared.ensures.left.keeps in
     let is : size ≡ 2048 = keeps.size ∙ c.requires in
     let ready = subst (λ (o : Option Prepared). IsReady (length (g.D.Disk.content c.args.disk.now)) inputs (Ok o)) c.in-Some.is c.in_ok-prepared.ensures.ready in (
       inputs,

@@ -1,18 +1,15 @@
 -- One document after the other.
-use Rattle.std.proofs.Common.{◌∙◌, ◌∷◌, ◌++◌, [], ◌<◌, ◌≤◌, ◌+◌, List, length, take, drop, refl, sym, subst, arith}
+use Rattle.std.proofs.Common.{◌∙◌, ◌∷◌, ◌++◌, [], ◌<◌, ◌≤◌, List, length, take, refl, subst, arith}
 use Rattle.std.proofs.lemmas.List.{drop_all, take_all}
-use Rattle.std.proofs.lemmas.Result.{err_from_is_err_and}
 use Rattle.pk_join.proofs.DocLemmas.{take_doc}
 use Rattle.pk_model.specs.Collection.{Doc}
 use Rattle.pk_segment.specs.Directory.{doc_in}
-use Rattle.pk_merge.specs.declared.fault.MergeFault.{MergeFault}
 use Rattle.pk_merge.specs.Gathering.{RiseFrom, left_by}
 use Rattle.pk_merge.specs.Keeping.{AreKept}
-use Rattle.pk_merge.specs.Left.{kept_in}
-use Rattle.pk_merge.specs.Merging.{MergeFails}
+use Rattle.pk_merge.specs.Left.{TakesAs, kept_in}
 use Rattle.pk_merge.proofs.CountLemmas.{to_most}
-use Rattle.pk_merge.proofs.GatherLemmas.{fails_longer, left_append, left_next, left_on}
-use Rattle.pk_merge.proofs.KeepLemmas.{takes_fault}
+use Rattle.pk_merge.proofs.FaultLemmas.{passed_on}
+use Rattle.pk_merge.proofs.GatherLemmas.{fails_on, left_append, left_next}
 use Rattle.pk_merge.proofs.left.Left.take_all.Goals as goal
 
 pub returns-in_err-take-clause-taken : goal.returns-in_err-take-clause-taken
@@ -23,15 +20,11 @@ returns-in_err-take-clause-taken c = λ bytes so_far docs more kind is stand ris
     omega (arith, c.loop-i-test.true, c.len-i-end.ensures.documents docs kind is) in
     let inv = c.loop-i.invariant.taken bytes so_far docs more kind is stand rise are in
     let before = so_far ++ left_by dead (take i docs) in
-    let part = left_by dead (doc_in docs i ∷ []) in
-    let fault = c.in_err-take.ensures.taken bytes before docs more kind is stand inv.1 inv.0 in
-    let on = left_on (left_by dead) (left_append dead) docs i (doc_in docs i) so_far before part
-    (take_doc docs i lt) refl refl in
-    let found = err_from_is_err_and c.from_residual.result c.from_residual.ensures.1 in
-    takes_fault bytes so_far (left_by dead docs) more c.take.new.self c.from_residual.result found.0 found.1
-    (subst (λ (x : MergeFault). MergeFails (so_far ++ left_by dead docs) 1 x) (sym found.2)
-    (fails_longer (before ++ part) (left_by dead (drop (i + 1) docs)) (so_far ++ left_by dead docs)
-    c.in_err-take.field-0.0 on fault))
+    passed_on (TakesAs bytes so_far (left_by dead docs) more c.take.new.self) c.from_residual.result
+    c.from_residual.ensures.1
+    (fails_on (left_by dead) (left_append dead) docs i (doc_in docs i) so_far before
+    (left_by dead (doc_in docs i ∷ [])) c.in_err-take.field-0.0 (take_doc docs i lt) refl refl
+    (c.in_err-take.ensures.taken bytes before docs more kind is stand inv.1 inv.0))
 
 pub loop-i-preserved : goal.loop-i-preserved
 loop-i-preserved c = record {

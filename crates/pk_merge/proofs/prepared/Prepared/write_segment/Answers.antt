@@ -1,20 +1,25 @@
 -- Two halves of a segment: header, directory and texts, and then the index.
-use Rattle.std.proofs.Common.{◌≡◌, ◌∙◌, ◌≤◌, ◌+◌, ◌*◌, ◌++◌, List, ℕ, Bool, Result, Ok, Err, length, sym, ap, subst, arith, length-append}
+use Rattle.std.proofs.Common.{◌≡◌, ◌∙◌, ◌≤◌, ◌+◌, ◌*◌, ◌++◌, List, ℕ, Bool, length, sym, ap, subst, arith, length-append}
 use Rattle.std.specs.Prelude.{All}
-use Rattle.std.proofs.lemmas.Result.{err_from_is_err_and}
-use Rattle.pk_replace.specs.declared.stream.StreamFault.{StreamFault}
+use Rattle.pk_join.specs.declared.input.MergeInput.{MergeInput}
+use Rattle.pk_join.specs.Inputs.{SpellsInputs}
 use Rattle.pk_replace.specs.Cause.{IsUndamaged}
 use Rattle.pk_replace.specs.Writing.{WritesOnly}
 use Rattle.pk_segment.specs.Indexed.{postings}
 use Rattle.pk_segment.specs.Spelling.{texts}
-use Rattle.pk_state.specs.Committed.{live_in}
+use Rattle.pk_state.specs.Committed.{Stored, live_in}
 use Rattle.pk_merge.specs.declared.kept.Kept.{Kept}
 use Rattle.pk_merge.specs.Keeping.{AreKept, EndBy, KeptApart}
 use Rattle.pk_merge.specs.Lists.{AreWithin}
+use Rattle.pk_merge.specs.Output.{AreGiven}
+use Rattle.pk_merge.specs.Prepared.{CanMerge, IsPrepared}
+use Rattle.pk_merge.proofs.FaultLemmas.{passed_on}
 use Rattle.pk_merge.proofs.GivenLemmas.{are_given_next, spells_stays}
 use Rattle.pk_merge.proofs.OutputLemmas.{stretch_then, writes_next}
-use Rattle.pk_merge.proofs.StreamLemmas.{all_bytes, apart_there, flushed, fresh_given, lists_within, places_are, two_lengths}
+use Rattle.pk_merge.proofs.StreamLemmas.{all_bytes, apart_there, flushed, fresh_given, front_fits, lists_within, places_are, two_lengths}
+use Rattle.pk_merge.proofs.prepared.Prepared.write_segment.Given as given
 use Rattle.pk_merge.proofs.prepared.Prepared.write_segment.Goals as goal
+use Rattle.pk_merge.proofs.prepared.Prepared.write_segment.Goals.{After-write_index}
 
 pub write_front-requires-clause-apart : goal.write_front-requires-clause-apart
 write_front-requires-clause-apart g c =
@@ -43,70 +48,72 @@ write_index-requires-clause-within g c =
 
 pub returns-in_err-write_front-clause-undamaged : goal.returns-in_err-write_front-clause-undamaged
 returns-in_err-write_front-clause-undamaged g c = λ honest inputs stored can spells is.
-    let d = g.D.Disk in
-    let content = d.content in
-    let self = c.args.self in
     let docs = live_in stored in
-    let o = c.over-output.result in
-    let fresh = c.over-output.ensures in
-    let front = c.deref.ensures.value ∙ is.front_is in
-    let long = two_lengths docs c.deref.result.now self.dictionary.items front is.dictionary_is in
-    let kept = subst (λ (ks : List Kept). AreKept (content c.args.disk.now) ks docs)
+    let kept = subst (λ (ks : List Kept). AreKept (g.D.Disk.content c.args.disk.now) ks docs)
     (sym c.deref-2.ensures.value) is.kept in
-    let room : o.at + o.filled + length (c.deref.result.now ++ texts docs) ≤ o.end =
-    omega (arith, long, is.size_is, fresh.at_is, fresh.end_is, fresh.none_held, c.from.ensures) in
-    let cause = (c.in_err-write_front.ensures.bytes honest docs kept room).undamaged in
-    let found = err_from_is_err_and c.from_residual.result c.from_residual.ensures.1 in
-    subst (λ (r : Result (Unit {0}) StreamFault). IsUndamaged r) (sym found.1)
-    (subst (λ (x : StreamFault). IsUndamaged {T = Unit {0}} (Err x)) (sym found.2) cause)
+    let room = front_fits docs c.deref.result.now c.args.self.dictionary.items c.over-output.result _ _
+    (c.deref.ensures.value ∙ is.front_is) is.dictionary_is (c.from.ensures ∙ is.size_is)
+    c.over-output.ensures in
+    passed_on IsUndamaged c.from_residual.result c.from_residual.ensures.1
+    (c.in_err-write_front.ensures.bytes honest docs kept room).undamaged
 
-pub returns-in_err-write_index-clause-undamaged : goal.returns-in_err-write_index-clause-undamaged
-returns-in_err-write_index-clause-undamaged g c = λ honest inputs stored can spells is.
-    let d = g.D.Disk in
-    let content = d.content in
+-- both halves are given, or something failed
+both : (g : given.Over) (c : goal.After-write_index g) → g.D.Disk.honest → (inputs : List MergeInput)
+    (stored : List Stored)
+    → CanMerge (length (g.D.Disk.content c.args.disk.now)) c.args.first inputs c.args.self
+    → SpellsInputs (g.D.Disk.content c.args.disk.now) inputs stored
+    → IsPrepared (g.D.Disk.content c.args.disk.now) inputs stored c.args.self
+    → AreGiven g.D.Disk c.args.disk.now c.write_index.new.disk c.over-output.result
+    c.write_index.new.output ((c.deref.result.now ++ texts (live_in stored))
+    ++ (postings (live_in stored) ++ c.deref-3.result.now)) c.write_index.result
+both g c honest inputs stored can spells is =
+    let content = g.D.Disk.content in
     let self = c.args.self in
     let docs = live_in stored in
     let o = c.over-output.result in
     let fresh = c.over-output.ensures in
     let front = c.deref.ensures.value ∙ is.front_is in
-    let long = two_lengths docs c.deref.result.now self.dictionary.items front is.dictionary_is in
     let kept = subst (λ (ks : List Kept). AreKept (content c.args.disk.now) ks docs)
     (sym c.deref-2.ensures.value) is.kept in
-    let room : o.at + o.filled + length (c.deref.result.now ++ texts docs) ≤ o.end =
-    omega (arith, long, is.size_is, fresh.at_is, fresh.end_is, fresh.none_held, c.from.ensures) in
+    let room = front_fits docs c.deref.result.now self.dictionary.items o _ _ front is.dictionary_is
+    (c.from.ensures ∙ is.size_is) fresh in
     let one = c.in_ok-write_front.ensures.bytes honest docs kept room in
-    let given = c.in_ok-write_front.ensures.given in
+    let first = c.in_ok-write_front.ensures.given in
     let p = c.write_front.new.output in
     let start : p.start ≡ 512 * c.args.first =
-    omega (arith, given.stretch.start, fresh.start_is, c.from-start.ensures) in
+    omega (arith, first.stretch.start, fresh.start_is, c.from-start.ensures) in
     let end : p.end ≡ 512 * c.args.first + self.size =
-    omega (arith, given.stretch.end, fresh.end_is, c.from-start.ensures, c.from.ensures) in
+    omega (arith, first.stretch.end, fresh.end_is, c.from-start.ensures, c.from.ensures) in
     let apart = apart_there inputs (512 * c.args.first) (512 * c.args.first + self.size) p.start
     p.end start end can.apart in
-    let before = apart_there inputs p.start p.end o.start o.end (sym given.stretch.start)
-    (sym given.stretch.end) apart in
+    let before = apart_there inputs p.start p.end o.start o.end (sym first.stretch.start)
+    (sym first.stretch.end) apart in
     let here = spells_stays (content c.args.disk.now) (content c.write_front.new.disk) inputs
-    stored o.start o.end given.writes.size (given.writes.changed honest).same before spells in
+    stored o.start o.end first.writes.size (first.writes.changed honest).same before spells in
     let words = c.deref-3.ensures.value ∙ is.dictionary_is in
-    let whole = two_lengths docs c.deref.result.now c.deref-3.result.now front words in
     let more : p.at + p.filled + length (postings docs ++ c.deref-3.result.now) ≤ p.end =
     omega (
       arith,
-      whole,
+      two_lengths docs c.deref.result.now c.deref-3.result.now front words,
       is.size_is,
       one.count,
       fresh.at_is,
       fresh.end_is,
       fresh.none_held,
-      given.stretch.end,
+      first.stretch.end,
       c.from.ensures,
     ) in
-    let cause =
-    (c.in_err-write_index.ensures.bytes honest inputs stored is.lists_are can.ready.1 here apart more).undamaged in
-    let found = err_from_is_err_and c.from_residual-in_err-write_index.result
-    c.from_residual-in_err-write_index.ensures.1 in
-    subst (λ (r : Result (Unit {0}) StreamFault). IsUndamaged r) (sym found.1)
-    (subst (λ (x : StreamFault). IsUndamaged {T = Unit {0}} (Err x)) (sym found.2) cause)
+    are_given_next g.D.Disk c.args.disk.now c.write_front.new.disk c.write_index.new.disk o p
+    c.write_index.new.output (c.deref.result.now ++ texts docs) (postings docs ++ c.deref-3.result.now)
+    c.in_ok-write_front.field-0 c.write_index.result one
+    (c.write_index.ensures.bytes honest inputs stored is.lists_are can.ready.1 here apart more)
+
+pub returns-in_err-write_index-clause-undamaged : goal.returns-in_err-write_index-clause-undamaged
+returns-in_err-write_index-clause-undamaged g c = λ honest inputs stored can spells is.
+    let a = (goal.at.returns-in_err-write_index-clause-undamaged g c).After-write_index in
+    passed_on IsUndamaged c.from_residual-in_err-write_index.result
+    c.from_residual-in_err-write_index.ensures.1
+    (subst IsUndamaged c.in_err-write_index.was (both g a honest inputs stored can spells is).undamaged)
 
 pub returns-clause-writes : goal.returns-clause-writes
 returns-clause-writes g c =
@@ -127,68 +134,43 @@ returns-clause-writes g c =
 
 pub returns-clause-there : goal.returns-clause-there
 returns-clause-there g c = λ honest inputs stored can spells is.
-    let d = g.D.Disk in
-    let content = d.content in
-    let self = c.args.self in
+    let content = g.D.Disk.content in
     let docs = live_in stored in
     let o = c.over-output.result in
     let fresh = c.over-output.ensures in
-    let front = c.deref.ensures.value ∙ is.front_is in
-    let long = two_lengths docs c.deref.result.now self.dictionary.items front is.dictionary_is in
-    let kept = subst (λ (ks : List Kept). AreKept (content c.args.disk.now) ks docs)
-    (sym c.deref-2.ensures.value) is.kept in
-    let room : o.at + o.filled + length (c.deref.result.now ++ texts docs) ≤ o.end =
-    omega (arith, long, is.size_is, fresh.at_is, fresh.end_is, fresh.none_held, c.from.ensures) in
-    let one = c.in_ok-write_front.ensures.bytes honest docs kept room in
-    let given = c.in_ok-write_front.ensures.given in
-    let p = c.write_front.new.output in
-    let start : p.start ≡ 512 * c.args.first =
-    omega (arith, given.stretch.start, fresh.start_is, c.from-start.ensures) in
-    let end : p.end ≡ 512 * c.args.first + self.size =
-    omega (arith, given.stretch.end, fresh.end_is, c.from-start.ensures, c.from.ensures) in
-    let apart = apart_there inputs (512 * c.args.first) (512 * c.args.first + self.size) p.start
-    p.end start end can.apart in
-    let before = apart_there inputs p.start p.end o.start o.end (sym given.stretch.start)
-    (sym given.stretch.end) apart in
-    let here = spells_stays (content c.args.disk.now) (content c.write_front.new.disk) inputs
-    stored o.start o.end given.writes.size (given.writes.changed honest).same before spells in
-    let words = c.deref-3.ensures.value ∙ is.dictionary_is in
-    let whole = two_lengths docs c.deref.result.now c.deref-3.result.now front words in
-    let more : p.at + p.filled + length (postings docs ++ c.deref-3.result.now) ≤ p.end =
-    omega (
-      arith,
-      whole,
-      is.size_is,
-      one.count,
-      fresh.at_is,
-      fresh.end_is,
-      fresh.none_held,
-      given.stretch.end,
-      c.from.ensures,
-    ) in
-    let two = c.in_ok-write_index.ensures.bytes honest inputs stored is.lists_are can.ready.1 here apart more in
     let q = c.write_index.new.output in
     let xs = c.deref.result.now ++ texts docs in
     let ys = postings docs ++ c.deref-3.result.now in
-    let all = are_given_next d c.args.disk.now c.write_front.new.disk c.write_index.new.disk o p q xs ys
-    c.in_ok-write_front.field-0 (Ok c.in_ok-write_index.field-0) one two in
+    let front = c.deref.ensures.value ∙ is.front_is in
+    let words = c.deref-3.ensures.value ∙ is.dictionary_is in
+    let all = subst (AreGiven g.D.Disk c.args.disk.now c.write_index.new.disk o q (xs ++ ys))
+    c.in_ok-write_index.was
+    (both g (goal.at.returns-clause-there g c).After-write_index honest inputs stored can spells is) in
     let bytes = all.given_are
     ∙ ap (λ (l : List ℕ). l ++ (xs ++ ys)) (fresh_given (content c.args.disk.now) _ _ o fresh)
     ∙ all_bytes docs c.deref.result.now c.deref-3.result.now front words in
-    let same = c.in_ok-write_index.ensures.given.stretch in
+    let first = c.in_ok-write_front.ensures.given.stretch in
+    let second = c.in_ok-write_index.ensures.given.stretch in
     flushed c.flush.result (content c.write_index.new.disk) (content c.flush.new.disk) _ q c.flush.new.self
-    (512 * c.args.first) self.size
+    (512 * c.args.first) c.args.self.size
     (c.flush.ensures.given honest) c.flush.ensures.empty c.flush.ensures.count
-    (omega (arith, c.flush.ensures.stretch.start, same.start, start)) bytes
+    (omega (
+      arith,
+      c.flush.ensures.stretch.start,
+      second.start,
+      first.start,
+      fresh.start_is,
+      c.from-start.ensures,
+    )) bytes
     (omega (
       arith,
       all.count,
       length-append xs ys,
-      whole,
+      two_lengths docs c.deref.result.now c.deref-3.result.now front words,
       is.size_is,
       fresh.at_is,
       fresh.start_is,
       fresh.none_held,
-      same.start,
-      given.stretch.start,
+      second.start,
+      first.start,
     ))
