@@ -9,7 +9,7 @@ use Rattle.pk_disk.proofs.Ranges.{or_both}
 use Rattle.pk_disk.specs.Units.{IsFitted, apart, lies_within, overlap, start_of, units_for}
 use Rattle.pk_disk.specs.declared.units.Extent.{Extent}
 use Rattle.pk_manifest.specs.declared.manifest.Part.{Part as Entry}
-use Rattle.pk_manifest.specs.Sound.{IsBody, SaysSound, dead_extents, entry_limit, extents_of, is_dead, is_extent, is_part, is_table, named, same_segment, table_extents}
+use Rattle.pk_manifest.specs.Sound.{IsBody, SaysSound, dead_extents, entry_limit, extents_of, is_dead, is_extent, is_part, is_table, named, same_segment, table_extents, segment_limit}
 use Rattle.pk_manifest.specs.Spelling.{Body, no_extent, table_of, table_size}
 use Rattle.pk_manifest.proofs.Sound.{eqb_same, is_sound_by, says_sound}
 use Rattle.pk_manifest.proofs.Fields.{if_false, length_table, table_extent, table_long}
@@ -111,7 +111,7 @@ next_sound units b next given entries table is left ids some most few parts own 
     }
 
 -- a table that is placed
-fitted_extent : (units least : ℕ) (e : Extent) → least ≤ e.bytes → e.bytes ≤ 1073741824 → IsFitted e → lies_within units e ≡ true → is_extent units least e ≡ true
+fitted_extent : (units least : ℕ) (e : Extent) → least ≤ e.bytes → e.bytes ≤ segment_limit → IsFitted e → lies_within units e ≡ true → is_extent units least e ≡ true
 fitted_extent units least e low most fitted within = and_from _ _ (and_from _ _ (and_from _ _ (le-leb _ _ low) (le-leb _ _ most)) (eqb_same _ _ fitted)) within
 
 -- none is that of no entry
@@ -128,14 +128,14 @@ one_table units n e few long fitted within = record {
     other m some = grind (arith, nat_tests, some)
 
 -- the entry of a new segment in an extent of the disk
-pub new_part : (units : ℕ) (b : Body) (e : Extent) → 1 ≤ b.next_segment → 1 ≤ e.bytes → e.bytes ≤ 1073741824 → IsFitted e → lies_within units e ≡ true → is_part units (b.next_segment + 1) (new_entry b e) ≡ true
+pub new_part : (units : ℕ) (b : Body) (e : Extent) → 1 ≤ b.next_segment → 1 ≤ e.bytes → e.bytes ≤ segment_limit → IsFitted e → lies_within units e ≡ true → is_part units (b.next_segment + 1) (new_entry b e) ≡ true
 new_part units b e id least most fitted within =
     let kind = kind_within written_kind written_is_kind in
     and_from _ _ (and_from _ _ (and_from _ _ (and_from _ _ (and_from _ _ (le-leb _ _ id) (lt-ltb b.next_segment (b.next_segment + 1) (omega arith))) (le-leb _ _ kind.0)) (le-leb _ _ kind.1))
     (and_from _ _ (and_from _ _ (and_from _ _ (le-leb _ _ least) (le-leb _ _ most)) (eqb_same _ _ fitted)) within)) refl
 
 -- that of a new list
-pub list_extent : (units : ℕ) (e : Extent) → 5 ≤ e.bytes → e.bytes ≤ 1073741824 → IsFitted e → lies_within units e ≡ true → is_extent units 5 e ≡ true
+pub list_extent : (units : ℕ) (e : Extent) → 5 ≤ e.bytes → e.bytes ≤ segment_limit → IsFitted e → lies_within units e ≡ true → is_extent units 5 e ≡ true
 list_extent units e least most fitted within = fitted_extent units 5 e least most fitted within
 
 -- ---- what entries and segments stand for, with one more
@@ -176,7 +176,7 @@ entries_laid units next (e ∷ es) (x ∷ stored) h are =
 
 -- THE TABLE'S CLAIM lies in its extent, and so do all claims of a body in those that it names.
 fitted_is : (units least : ℕ) (e : Extent) → is_extent units least e ≡ true → IsFitted e
-fitted_is units least e h = eqb-true _ _ (and_parts (leb least e.bytes && leb e.bytes 1073741824) (eqb e.units (units_for e.bytes)) (and_parts (leb least e.bytes && leb e.bytes 1073741824 && eqb e.units (units_for e.bytes)) (lies_within units e) h).0).1
+fitted_is units least e h = eqb-true _ _ (and_parts (leb least e.bytes && leb e.bytes segment_limit) (eqb e.units (units_for e.bytes)) (and_parts (leb least e.bytes && leb e.bytes segment_limit && eqb e.units (units_for e.bytes)) (lies_within units e) h).0).1
 
 -- a table with bytes has the units for them
 pub table_fitted : (units : ℕ) (b : Body) → is_table units (table_size b) b.table ≡ true → eqb b.table.bytes 0 ≡ false → IsFitted b.table

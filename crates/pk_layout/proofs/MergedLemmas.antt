@@ -1,5 +1,5 @@
 -- The plan of a merge is a plan, and takes what is committed over to the live documents of a run in one segment.
-use Rattle.std.proofs.Common.{◌≡◌, ◌⊎◌, inl, inr, ⊎_elim, ℕ, ◌+◌, ◌-◌, ◌<◌, ◌≤◌, ◌++◌, true, false, nat_lt, List, [], ◌∷◌, drop, length, map, take, refl, sym, ◌∙◌, ap, subst, arith, append-nil, append_assoc, Bool, ◌||◌, Result, Ok, Err, Option, Some, None}
+use Rattle.std.proofs.Common.{◌≡◌, ◌⊎◌, inl, inr, ⊎_elim, ℕ, ◌+◌, ◌-◌, ◌<◌, ◌≤◌, ◌++◌, true, false, nat_lt, List, [], ◌∷◌, drop, length, map, take, refl, sym, ◌∙◌, ap, subst, arith, append-nil, append_assoc, Bool, ◌||◌, Ok, Err, Option, Some, None}
 use Rattle.std.proofs.Math.ListN.{replicate}
 use Rattle.std.proofs.lemmas.List.{length-map, length-replicate}
 use Rattle.pk_disk.specs.Disk.{in_range}
@@ -12,11 +12,9 @@ use Rattle.std.proofs.lemmas.List.Elements.{All-cons, All-nil, All-same}
 use Rattle.pk_disk.specs.Units.{IsFitted, apart, lies_within, overlap, start_of, units_in}
 use Rattle.pk_disk.specs.declared.units.Extent.{Extent}
 use Rattle.pk_manifest.specs.declared.manifest.Part.{Part as Entry}
-use Rattle.pk_manifest.specs.Sound.{IsBody, SaysSound, extents_of, is_part, named, same_segment}
+use Rattle.pk_manifest.specs.Sound.{IsBody, SaysSound, extents_of, is_part, named, same_segment, segment_limit}
 use Rattle.pk_manifest.specs.Spelling.{Body}
 use Rattle.pk_manifest.proofs.Sound.{few_in, says_sound}
-use Rattle.pk_model.specs.declared.commands.Refusal.{Refusal}
-use Rattle.pk_model.specs.declared.commands.Refusal.TheVariants.{Reopen, TextTooLong, BufferFull, NumbersUsedUp, NoSuchDocument, TooManySegments, SegmentTooLarge, Memory, Full, Damaged, Disk}
 use Rattle.pk_model.specs.Collection.{Doc, IsCollection}
 use Rattle.pk_model.specs.Limits.{end_of_ids}
 use Rattle.pk_posting.specs.Posting.{IsPosting}
@@ -37,10 +35,13 @@ use Rattle.pk_state.specs.Writing.{after_merge, is_too_large, new_entry, new_sto
 use Rattle.pk_state.proofs.KindLemmas.{written_is_kind}
 use Rattle.pk_state.proofs.MemberLemmas.{Above}
 use Rattle.pk_state.proofs.WholeLemmas.{collection_above}
+use Rattle.pk_layout.specs.declared.fault.LayoutFault.{LayoutFault}
+use Rattle.pk_layout.specs.declared.fault.LayoutFault.TheVariants.{TooLarge, Full, Damaged, Memory}
 use Rattle.pk_layout.specs.declared.merging.MergePlan.{MergePlan}
 use Rattle.pk_layout.specs.declared.merging.NewSegment.{NewSegment}
 use Rattle.pk_layout.proofs.TakenLemmas.{taken_new, taken_replaced}
 use Rattle.pk_layout.specs.Merging.{AreMerged, IsMergedOpen, IsNewOf, IsSegmentTo, IsSized, MayFollow, PlansMerge, PlansMergeAs, PlansMergeRightly, PlansMerged, PlansRightly, body_merged, bytes_in, count_merged, extents_in, lengths_in, lengths_merged, merge_touches, pieces_behind, run_of}
+use Rattle.pk_layout.specs.Faults.{layout_refusal}
 use Rattle.pk_layout.specs.Placed.{AreLaid}
 use Rattle.pk_layout.specs.declared.planning.Plan.{Plan}
 use Rattle.pk_layout.specs.Plan.{GoesTo, GoesOn, IsPlan, IsPlanOf, PromisesTable, entry_in, ids_in, laid_in, new_segments, table_bytes, tabled}
@@ -91,9 +92,6 @@ places_laid units taken (w ∷ ws) [] placed p = absurd placed
 places_laid units taken (w ∷ ws) (e ∷ es) placed p =
     ap (λ n. in_range (start_of e) n p || places (laid_in es ws) p) (sym placed.0.long)
     ∙ ap (λ (h : Bool). in_range (start_of e) e.bytes p || h) (places_laid units (e ∷ taken) ws es placed.1 p)
-
-laid_places : (units : ℕ) (taken : List Extent) (ws : List (List ℕ)) (es : List Extent) → PlacedAs units taken (map length ws) es → places (laid_in es ws) ≡ bytes_in es
-laid_places units taken ws es placed = λ i p. places_laid units taken ws es placed p i
 
 -- what promises more
 goes_weaker : (touched : ℕ → Bool) (P Q : Claim → Type 0) → ((c : Claim) → P c → Q c) → (p : Plan) (old new : Committed) → GoesTo touched P p old new → GoesTo touched Q p old new
@@ -168,7 +166,7 @@ module _ (size : ℕ) (b : Body) (is : IsBody (units_in size) b) (generation : b
       ids_stay has
       (table_free ts names (places_of (entries_with [])) there (λ z h. let out = stay_missed z h in ap (list_any (overlap z)) none_names ∙ both_missed z before behind out.0 out.1) (ap (apart overlap) none_names ∙ own))
 
-  sound_one : (e : Extent) (ts : List Extent) → 1 ≤ e.bytes → e.bytes ≤ 1073741824 → IsFitted e → lies_within units e ≡ true → HasTable units (length (entries_with (new_entry b e ∷ []))) ts → apart overlap (named b ++ e ∷ ts) ≡ true → IsBody units (tabled ts (body_merged b from n (Some e)))
+  sound_one : (e : Extent) (ts : List Extent) → 1 ≤ e.bytes → e.bytes ≤ segment_limit → IsFitted e → lies_within units e ≡ true → HasTable units (length (entries_with (new_entry b e ∷ []))) ts → apart overlap (named b ++ e ∷ ts) ≡ true → IsBody units (tabled ts (body_merged b from n (Some e)))
   sound_one e ts least most fitted inside has beside =
       let front = take from b.entries in
       let back = drop (from + n) b.entries in
@@ -478,35 +476,23 @@ module _ (size : ℕ) (b : Body) (is : IsBody (units_in size) b) (generation : b
       }
 
   -- or there is none
-  pub merge_answers : (new : Option NewSegment) (r : Result MergePlan Refusal) → IsNewOf docs new → PlansMerged b opened from n new r → PlansMergeAs b opened stored from n r
-  merge_answers new (Ok m) new_is plans = merge_plans new m new_is plans
-  merge_answers new (Err (Full need largest)) new_is plans =
+  pub merge_refused : (new : Option NewSegment) (fault : LayoutFault) → IsNewOf docs new → PlansMerged b opened from n new (Err fault) → PlansMergeAs b opened stored from n (Err (layout_refusal fault))
+  merge_refused new (Full need largest) new_is plans =
       let fits = new_fits docs new new_is in
       (fits.1, subst (λ ns. FullAs b.units (named b) (ns ++ table_writes (length b.entries - n + length ns)) need largest) fits.0 plans)
-  merge_answers new (Err Memory) new_is plans = tt
-  merge_answers new (Err Damaged) new_is plans = absurd (not_too_many (run_of from n opened) run new run_open rise new_is plans)
-  merge_answers new (Err SegmentTooLarge) new_is plans = absurd plans
-  merge_answers new (Err Disk) new_is plans = absurd plans
-  merge_answers new (Err Reopen) new_is plans = absurd plans
-  merge_answers new (Err TextTooLong) new_is plans = absurd plans
-  merge_answers new (Err BufferFull) new_is plans = absurd plans
-  merge_answers new (Err NumbersUsedUp) new_is plans = absurd plans
-  merge_answers new (Err NoSuchDocument) new_is plans = absurd plans
-  merge_answers new (Err TooManySegments) new_is plans = absurd plans
+  merge_refused new Memory new_is plans = tt
+  merge_refused new Damaged new_is plans = absurd (not_too_many (run_of from n opened) run new run_open rise new_is plans)
+  merge_refused new TooLarge new_is plans = absurd plans
 
 -- WHATEVER THE SEGMENTS ARE
 module _ (size : ℕ) (b : Body) (is : IsBody (units_in size) b) (generation : b.generation < end_of_ids) (ids : b.next_segment < end_of_ids) (from n : ℕ) (some : 1 ≤ n) (within : from + n ≤ length b.entries)
     (opened : List OpenSegment) (even : length opened ≡ length b.entries) (grown : All IsGrown opened) where
-  pub answers_rightly : (new : Option NewSegment) (r : Result MergePlan Refusal) → IsSized new → PlansMerged b opened from n new r → PlansMergeRightly size b opened n new r
-  answers_rightly new (Ok m) sized (merged, are_merged, ts, same, placed, plan, pieces) = merge_rightly size b is generation ids from n some within opened even grown new m sized merged are_merged ts same placed plan pieces
-  answers_rightly new (Err (Full need largest)) sized plans = plans
-  answers_rightly new (Err Memory) sized plans = tt
-  answers_rightly new (Err Damaged) sized plans = tt
-  answers_rightly new (Err SegmentTooLarge) sized plans = tt
-  answers_rightly new (Err Disk) sized plans = tt
-  answers_rightly new (Err Reopen) sized plans = tt
-  answers_rightly new (Err TextTooLong) sized plans = tt
-  answers_rightly new (Err BufferFull) sized plans = tt
-  answers_rightly new (Err NumbersUsedUp) sized plans = tt
-  answers_rightly new (Err NoSuchDocument) sized plans = tt
-  answers_rightly new (Err TooManySegments) sized plans = tt
+  pub planned_rightly : (new : Option NewSegment) (m : MergePlan) → IsSized new → PlansMerged b opened from n new (Ok m) → PlansRightly size b opened n new m
+  planned_rightly new m sized (merged, are_merged, ts, same, placed, plan, pieces) = merge_rightly size b is generation ids from n some within opened even grown new m sized merged are_merged ts same placed plan pieces
+
+-- and where there is no plan
+pub refused_rightly : (size : ℕ) (b : Body) (opened : List OpenSegment) (from n : ℕ) (new : Option NewSegment) (fault : LayoutFault) → PlansMerged b opened from n new (Err fault) → PlansMergeRightly size b opened n new (Err (layout_refusal fault))
+refused_rightly size b opened from n new (Full need largest) plans = plans
+refused_rightly size b opened from n new Memory plans = tt
+refused_rightly size b opened from n new Damaged plans = tt
+refused_rightly size b opened from n new TooLarge plans = tt

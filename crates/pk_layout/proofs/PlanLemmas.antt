@@ -1,11 +1,11 @@
 -- What planning a commit rests on, and which plan it makes.
-use Rattle.std.proofs.Common.{◌≡◌, ◌⊎◌, inl, inr, ℕ, suc, ◌+◌, ◌*◌, ◌==◌, ◌<◌, ◌≤◌, ◌++◌, true, false, nat_lt, List, [], ◌∷◌, length, length-append, map, refl, sym, ◌∙◌, ap, subst, arith, append-nil, append_assoc, drop, take, None, Ok, Err, Result}
+use Rattle.std.proofs.Common.{◌≡◌, ◌⊎◌, inl, inr, ℕ, suc, ◌+◌, ◌*◌, ◌==◌, ◌<◌, ◌≤◌, ◌++◌, true, false, nat_lt, List, [], ◌∷◌, length, length-append, map, refl, sym, ◌∙◌, ap, subst, arith, append-nil, append_assoc, drop, take, Ok, Err, Result}
 use Rattle.std.specs.Prelude.{All, if◌then◌else◌}
 use Rattle.std.specs.List.{AllByRecursion, flat_map, list_all}
-use Rattle.std.proofs.lemmas.Bool.{and_from, and_parts, le-ltb, lt-ltb, or_from, or_left}
+use Rattle.std.proofs.lemmas.Bool.{and_from, and_parts, le-ltb, or_from}
 use Rattle.std.proofs.lemmas.List.{get_or-map, length-map, take-append-drop}
 use Rattle.pk_disk.proofs.Ranges.{or_both}
-use Rattle.std.proofs.lemmas.List.Elements.{All-append, All-cons, All-head, All-nil, recursion_from_All}
+use Rattle.std.proofs.lemmas.List.Elements.{All-append, All-cons, All-nil, recursion_from_All}
 use Rattle.pk_manifest.specs.Sound.{IsBody, SaysSound, entry_limit, named, segment_limit}
 use Rattle.pk_model.specs.Collection.{Doc}
 use Rattle.pk_model.specs.declared.documents.Document.{Document}
@@ -17,8 +17,6 @@ use Rattle.std.proofs.lemmas.List.Concat.{flat_map-append}
 use Rattle.std.proofs.lemmas.List.Folds.{list_all-append}
 use Rattle.pk_disk.specs.Units.{start_of}
 use Rattle.pk_manifest.specs.Sound.{extents_of}
-use Rattle.pk_model.specs.declared.commands.Refusal.{Refusal}
-use Rattle.pk_model.specs.declared.commands.Refusal.TheVariants.{Reopen, TextTooLong, BufferFull, NumbersUsedUp, NoSuchDocument, TooManySegments, SegmentTooLarge, Memory, Full, Damaged, Disk as Device}
 use Rattle.pk_posting.specs.Posting.{IsPosting}
 use Rattle.pk_replace.specs.Claims.{Claim}
 use Rattle.pk_open.specs.Opened.{IsOpenOf}
@@ -42,6 +40,8 @@ use Rattle.pk_state.proofs.MergeLemmas.{front_placed}
 use Rattle.pk_state.proofs.HoldsLemmas.{units_room}
 use Rattle.pk_state.proofs.KindLemmas.{written_is_kind}
 use Rattle.pk_layout.specs.declared.committing.CommitPlan.{CommitPlan}
+use Rattle.pk_layout.specs.declared.fault.LayoutFault.{LayoutFault}
+use Rattle.pk_layout.specs.declared.fault.LayoutFault.TheVariants.{TooLarge, Full, Damaged, Memory}
 use Rattle.pk_layout.specs.declared.planning.Plan.{Plan}
 use Rattle.pk_layout.specs.Placed.{AreLaid}
 use Rattle.pk_layout.proofs.ExtentLemmas.{laid_inside, laid_missed, next_untouched}
@@ -57,7 +57,7 @@ use Rattle.pk_layout.proofs.RelistLemmas.{AreFree, IsListExtent, among_back, amo
 use Rattle.pk_space.specs.Places.{PlacedAs}
 use Rattle.pk_layout.proofs.TableLemmas.{all_back, back_placed, has_table, laid_two, long_with, some_with, table_among, table_free, with_tabled}
 use Rattle.pk_layout.proofs.TakenLemmas.{taken_append, taken_relisted}
-use Rattle.pk_layout.specs.Plan.{AreSettled, AreTaken, BuildsAs, CanBeWritten, DueAs, GoesOn, GoesTo, HavePlace, IsPlan, IsPlanOf, PlansAs, PlansCommit, PlansWith, PromisesTable, body_with_lists, body_with_segment, fresh_segment, laid_in, lengths_with, new_lists, pieces_of, relisted, settled, table_bytes, tabled}
+use Rattle.pk_layout.specs.Plan.{AreSettled, AreTaken, CanBeWritten, GoesOn, GoesTo, HavePlace, IsPlan, IsPlanOf, LeavesRoom, PlansAs, PlansCommit, PlansWith, PromisesTable, body_with_lists, body_with_segment, fresh_segment, laid_in, lengths_with, new_lists, pieces_of, relisted, settled, table_bytes, tabled}
 use Rattle.pk_layout.specs.Plan.{IsGrown}
 
 -- documents of a buffer, in the words of those that are built
@@ -119,9 +119,6 @@ plans_with b writes count k opened body es p placed many plan pieces =
         front units taken [] ms xs placed = refl
         front units taken (w ∷ ws) ms [] placed = absurd placed
         front units taken (w ∷ ws) ms (x ∷ xs) placed = ap suc (front units (x ∷ taken) ws ms xs placed.1)
-
-pub with_first : (w : List ℕ) (ws : List (List ℕ)) → CanBeWritten (w ∷ []) → CanBeWritten ws → CanBeWritten (w ∷ ws)
-with_first w ws one all = All-cons (λ (x : List ℕ). (5 ≤ length x) × (length x ≤ segment_limit)) w ws (All-head (λ (x : List ℕ). (5 ≤ length x) × (length x ≤ segment_limit)) w [] one) all
 
 -- extents at the first fit lie on the disk, and share no unit
 pub lengths_here : (size : ℕ) (b : Body) → IsBody (units_in size) b → (lengths : List ℕ) → AllByRecursion (λ (n : ℕ). 1 ≤ n) lengths → (es : List Extent) → PlacedAs b.units (named b) lengths es
@@ -221,14 +218,14 @@ module _ (size : ℕ) (b b' : Body) (is : IsBody (units_in size) b) (left : b.ge
       }
 
 -- what is written has some bytes
-pub some_bytes : (writes : List (List ℕ)) → AllByRecursion (λ (w : List ℕ). (5 ≤ length w) × (length w ≤ 1073741824)) writes → AllByRecursion (λ (n : ℕ). 1 ≤ n) (map length writes)
+pub some_bytes : (writes : List (List ℕ)) → AllByRecursion (λ (w : List ℕ). (5 ≤ length w) × (length w ≤ segment_limit)) writes → AllByRecursion (λ (n : ℕ). 1 ≤ n) (map length writes)
 some_bytes [] all = tt
 some_bytes (w ∷ ws) all = (omega (arith, all.0.0), some_bytes ws all.1)
 
 -- ---- THE PLAN OF A COMMIT
 
 -- lists in extents of the disk
-lists_lie : (units : ℕ) (taken : List Extent) (writes : List (List ℕ)) (es : List Extent) → AllByRecursion (λ (w : List ℕ). (5 ≤ length w) × (length w ≤ 1073741824)) writes → list_all (lies_within units) es ≡ true → PlacedAs units taken (map length writes) es → AllByRecursion (IsListExtent units) es
+lists_lie : (units : ℕ) (taken : List Extent) (writes : List (List ℕ)) (es : List Extent) → AllByRecursion (λ (w : List ℕ). (5 ≤ length w) × (length w ≤ segment_limit)) writes → list_all (lies_within units) es ≡ true → PlacedAs units taken (map length writes) es → AllByRecursion (IsListExtent units) es
 lists_lie units taken [] [] all within placed = tt
 lists_lie units taken [] (e ∷ es) all within placed = absurd placed
 lists_lie units taken (w ∷ ws) [] all within placed = absurd placed
@@ -274,8 +271,8 @@ module _ (size : ℕ) (b : Body) (is : IsBody (units_in size) b) (os : List Open
   says_it : SaysSound (units_in size) b
   says_it = says_sound (units_in size) b is.sound
 
-  each_list : AllByRecursion (λ (w : List ℕ). (5 ≤ length w) × (length w ≤ 1073741824)) (new_lists os)
-  each_list = recursion_from_All (λ (w : List ℕ). (5 ≤ length w) × (length w ≤ 1073741824)) (new_lists os) can
+  each_list : AllByRecursion (λ (w : List ℕ). (5 ≤ length w) × (length w ≤ segment_limit)) (new_lists os)
+  each_list = recursion_from_All (λ (w : List ℕ). (5 ≤ length w) × (length w ≤ segment_limit)) (new_lists os) can
 
   enough_lists : AllByRecursion (λ (n : ℕ). 1 ≤ n) (map length writes')
   enough_lists = some_with (new_lists os) lists' (some_bytes (new_lists os) each_list)
@@ -397,10 +394,10 @@ module _ (size : ℕ) (b : Body) (is : IsBody (units_in size) b) (os : List Open
   says : SaysSound (units_in size) b
   says = says_sound (units_in size) b is.sound
 
-  each_write : AllByRecursion (λ (w : List ℕ). (5 ≤ length w) × (length w ≤ 1073741824)) (new_lists os)
-  each_write = recursion_from_All (λ (w : List ℕ). (5 ≤ length w) × (length w ≤ 1073741824)) (new_lists os) can
+  each_write : AllByRecursion (λ (w : List ℕ). (5 ≤ length w) × (length w ≤ segment_limit)) (new_lists os)
+  each_write = recursion_from_All (λ (w : List ℕ). (5 ≤ length w) × (length w ≤ segment_limit)) (new_lists os) can
 
-  length_is : (1 ≤ length bytes) × (length bytes ≤ 1073741824)
+  length_is : (1 ≤ length bytes) × (length bytes ≤ segment_limit)
   length_is = let l = spelled_length bytes docs spells in (some_bytes_of bytes docs spells, l.1)
 
   enough : AllByRecursion (λ (n : ℕ). 1 ≤ n) (map length all_writes)
@@ -536,19 +533,14 @@ module _ (size : ℕ) (b : Body) (is : IsBody (units_in size) b) (os : List Open
 pub fits_limit : (d : Doc) (docs : List Doc) → segment_length (d ∷ docs) written_kind ≤ longest → is_too_large (d ∷ docs) ≡ false
 fits_limit d docs short = or_from (nat_lt longest (segment_length (d ∷ docs) written_kind)) false (le-ltb longest (segment_length (d ∷ docs) written_kind) short) refl
 
--- and one that doesn't
-pub passes_limit : (docs : List Doc) → longest < segment_length docs written_kind → 0 < length docs → is_too_large docs ≡ true
-passes_limit [] long some = absurd (omega (arith, some))
-passes_limit (d ∷ docs) long some = or_left (nat_lt longest (segment_length (d ∷ docs) written_kind)) false (lt-ltb longest (segment_length (d ∷ docs) written_kind) long)
-
 -- the plan of a commit with these documents, wherever they lie
-pub planned_with : (size : ℕ) (b : Body) → IsBody (units_in size) b → (os : List OpenSegment) → length os ≡ length b.entries → (docs : List Doc) → DueAs b (length docs) None → (next : ℕ) → 1 ≤ next → next ≤ end_of_numbers → CanBeWritten (new_lists os)
+pub planned_with : (size : ℕ) (b : Body) → IsBody (units_in size) b → (os : List OpenSegment) → length os ≡ length b.entries → (docs : List Doc) → LeavesRoom b (length docs) → (next : ℕ) → 1 ≤ next → next ≤ end_of_numbers → CanBeWritten (new_lists os)
     → (bytes : List ℕ) → SegmentSpells bytes docs written_kind → (o : Segment) → IsSegmentOf o docs → (p : CommitPlan) → PlansWith b (bytes ∷ new_lists os) (length b.entries + 1) (map settled os ++ fresh_segment o ∷ []) (body_with_segment b os next) (Ok p) → PlansAs size b os docs next (Ok p)
-planned_with size b is os count [] due next some most can bytes spells o opened_is p plan = let h : 0 < 0 = spells.are.some in absurd (omega (arith, h))
-planned_with size b is os count (d ∷ docs) due next some most can bytes spells o opened_is p ([], ts, before, placed, plan, pieces) = absurd (omega (arith, before))
-planned_with size b is os count (d ∷ docs) due next some most can bytes spells o opened_is p (e ∷ xs, ts, before, placed, plan, pieces) =
-    let room = due.2 (omega arith) in (
-      segment_plan size b is os count due.0 due.1 room next some most can (d ∷ docs) bytes spells o opened_is e xs ts before placed p plan pieces,
+planned_with size b is os count [] leaves next some most can bytes spells o opened_is p plan = let h : 0 < 0 = spells.are.some in absurd (omega (arith, h))
+planned_with size b is os count (d ∷ docs) leaves next some most can bytes spells o opened_is p ([], ts, before, placed, plan, pieces) = absurd (omega (arith, before))
+planned_with size b is os count (d ∷ docs) leaves next some most can bytes spells o opened_is p (e ∷ xs, ts, before, placed, plan, pieces) =
+    let room = leaves.2 (omega arith) in (
+      segment_plan size b is os count leaves.0 leaves.1 room next some most can (d ∷ docs) bytes spells o opened_is e xs ts before placed p plan pieces,
       record {
         next_is = ap (λ (x : Body). x.next_number) plan.manifest_is;
         settled = subst AreSettled (sym plan.opened_is) (settled_append (map settled os) (fresh_segment o ∷ []) (map_settled os) (refl, tt));
@@ -557,62 +549,34 @@ planned_with size b is os count (d ∷ docs) due next some most can bytes spells
         before = before;
         placed = subst (λ (w : List ℕ). PlacedAs b.units (named b) (lengths_with (w ∷ new_lists os) (length b.entries + 1)) ((e ∷ xs) ++ ts)) spells.same placed;
         fits = fits_limit d docs spells.fits;
-        goes_on = segment_goes_on size b is os count due.0 due.1 room next some most can (d ∷ docs) bytes spells o opened_is e xs ts before placed p plan pieces;
-        tabled = segment_tabled size b is os count due.0 due.1 room next some most can (d ∷ docs) bytes spells o opened_is e xs ts before placed p plan pieces;
-        goes = segment_goes size b is os count due.0 due.1 room next some most can (d ∷ docs) bytes spells o opened_is e xs ts before placed p plan pieces;
+        goes_on = segment_goes_on size b is os count leaves.0 leaves.1 room next some most can (d ∷ docs) bytes spells o opened_is e xs ts before placed p plan pieces;
+        tabled = segment_tabled size b is os count leaves.0 leaves.1 room next some most can (d ∷ docs) bytes spells o opened_is e xs ts before placed p plan pieces;
+        goes = segment_goes size b is os count leaves.0 leaves.1 room next some most can (d ∷ docs) bytes spells o opened_is e xs ts before placed p plan pieces;
       },
-      segment_place size b is os count due.0 due.1 room next some most can (d ∷ docs) bytes spells o opened_is e xs ts before placed p plan pieces,
+      segment_place size b is os count leaves.0 leaves.1 room next some most can (d ∷ docs) bytes spells o opened_is e xs ts before placed p plan pieces,
     )
 
 -- and of one without a document
-pub planned_without : (size : ℕ) (b : Body) → IsBody (units_in size) b → (os : List OpenSegment) → length os ≡ length b.entries → (docs : List Doc) → docs ≡ [] → DueAs b (length docs) None → (next : ℕ) → 1 ≤ next → next ≤ end_of_numbers → (r : Result CommitPlan Refusal)
+pub planned_without : (size : ℕ) (b : Body) → IsBody (units_in size) b → (os : List OpenSegment) → length os ≡ length b.entries → (docs : List Doc) → docs ≡ [] → LeavesRoom b (length docs) → (next : ℕ) → 1 ≤ next → next ≤ end_of_numbers → (r : Result CommitPlan LayoutFault)
     → OnOk r (CanBeWritten (new_lists os)) → PlansWith b (new_lists os) (length b.entries) (map settled os) (body_with_lists b os next) r → PlansAs size b os docs next r
-planned_without size b is os count docs none due next some most (Ok p) can (xs, ts, before, placed, plan, pieces) = subst (λ (ds : List Doc). PlansAs size b os ds next (Ok p)) (sym none) (
-  lists_plan size b is os count due.0 due.1 next some most can xs ts before placed p plan pieces,
-  lists_commit size b is os count due.0 due.1 next some most can xs ts before placed p plan pieces,
-  lists_place size b is os count due.0 due.1 next some most can xs ts before placed p plan pieces,
+planned_without size b is os count docs none leaves next some most (Ok p) can (xs, ts, before, placed, plan, pieces) = subst (λ (ds : List Doc). PlansAs size b os ds next (Ok p)) (sym none) (
+  lists_plan size b is os count leaves.0 leaves.1 next some most can xs ts before placed p plan pieces,
+  lists_commit size b is os count leaves.0 leaves.1 next some most can xs ts before placed p plan pieces,
+  lists_place size b is os count leaves.0 leaves.1 next some most can xs ts before placed p plan pieces,
 )
-planned_without size b is os count docs none due next some most (Err (Full need largest)) can plan = subst (λ (ds : List Doc). PlansAs size b os ds next (Err (Full need largest))) (sym none) (refl, plan)
-planned_without size b is os count docs none due next some most (Err Memory) can plan = tt
-planned_without size b is os count docs none due next some most (Err SegmentTooLarge) can plan = absurd plan
-planned_without size b is os count docs none due next some most (Err Reopen) can plan = absurd plan
-planned_without size b is os count docs none due next some most (Err TextTooLong) can plan = absurd plan
-planned_without size b is os count docs none due next some most (Err BufferFull) can plan = absurd plan
-planned_without size b is os count docs none due next some most (Err NumbersUsedUp) can plan = absurd plan
-planned_without size b is os count docs none due next some most (Err NoSuchDocument) can plan = absurd plan
-planned_without size b is os count docs none due next some most (Err TooManySegments) can plan = absurd plan
-planned_without size b is os count docs none due next some most (Err Damaged) can plan = absurd plan
-planned_without size b is os count docs none due next some most (Err Device) can plan = absurd plan
+planned_without size b is os count docs none leaves next some most (Err (Full need largest)) can plan = subst (λ (ds : List Doc). PlansAs size b os ds next (Err (Full need largest))) (sym none) (refl, plan)
+planned_without size b is os count docs none leaves next some most (Err Memory) can plan = tt
+planned_without size b is os count docs none leaves next some most (Err TooLarge) can plan = absurd plan
+planned_without size b is os count docs none leaves next some most (Err Damaged) can plan = absurd plan
 
 -- what finds no place is not planned
-pub not_placed : (size : ℕ) (b : Body) (os : List OpenSegment) (docs : List Doc) (next : ℕ) (bytes : List ℕ) (opened : List OpenSegment) (body : List Extent → Body) (why : Refusal) → SegmentSpells bytes docs written_kind → PlansWith b (bytes ∷ new_lists os) (length b.entries + 1) opened body (Err why) → PlansAs size b os docs next (Err why)
+pub not_placed : (size : ℕ) (b : Body) (os : List OpenSegment) (docs : List Doc) (next : ℕ) (bytes : List ℕ) (opened : List OpenSegment) (body : List Extent → Body) (why : LayoutFault) → SegmentSpells bytes docs written_kind → PlansWith b (bytes ∷ new_lists os) (length b.entries + 1) opened body (Err why) → PlansAs size b os docs next (Err why)
 not_placed size b os [] next bytes opened body why spells plan = let h : 0 < 0 = spells.are.some in absurd (omega (arith, h))
 not_placed size b os (d ∷ docs) next bytes opened body (Full need largest) spells plan =
     (fits_limit d docs spells.fits, subst (λ (w : List ℕ). FullAs b.units (named b) (lengths_with (w ∷ new_lists os) (length b.entries + 1)) need largest) spells.same plan)
 not_placed size b os (d ∷ docs) next bytes opened body Memory spells plan = tt
-not_placed size b os (d ∷ docs) next bytes opened body SegmentTooLarge spells plan = absurd plan
-not_placed size b os (d ∷ docs) next bytes opened body Reopen spells plan = absurd plan
-not_placed size b os (d ∷ docs) next bytes opened body TextTooLong spells plan = absurd plan
-not_placed size b os (d ∷ docs) next bytes opened body BufferFull spells plan = absurd plan
-not_placed size b os (d ∷ docs) next bytes opened body NumbersUsedUp spells plan = absurd plan
-not_placed size b os (d ∷ docs) next bytes opened body NoSuchDocument spells plan = absurd plan
-not_placed size b os (d ∷ docs) next bytes opened body TooManySegments spells plan = absurd plan
+not_placed size b os (d ∷ docs) next bytes opened body TooLarge spells plan = absurd plan
 not_placed size b os (d ∷ docs) next bytes opened body Damaged spells plan = absurd plan
-not_placed size b os (d ∷ docs) next bytes opened body Device spells plan = absurd plan
-
--- nor is what isn't built
-pub not_built : (size : ℕ) (b : Body) (os : List OpenSegment) (docs : List Doc) (next : ℕ) (why : Refusal) → 0 < length docs → BuildsAs docs (Err why) → PlansAs size b os docs next (Err why)
-not_built size b os docs next SegmentTooLarge some h = passes_limit docs h some
-not_built size b os docs next Memory some h = tt
-not_built size b os docs next (Full need largest) some h = absurd h
-not_built size b os docs next Reopen some h = absurd h
-not_built size b os docs next TextTooLong some h = absurd h
-not_built size b os docs next BufferFull some h = absurd h
-not_built size b os docs next NumbersUsedUp some h = absurd h
-not_built size b os docs next NoSuchDocument some h = absurd h
-not_built size b os docs next TooManySegments some h = absurd h
-not_built size b os docs next Damaged some h = absurd h
-not_built size b os docs next Device some h = absurd h
 
 -- the segment may be written
 pub can_segment : (bytes : List ℕ) (docs : List Doc) → SegmentSpells bytes docs written_kind → CanBeWritten (bytes ∷ [])
@@ -621,7 +585,7 @@ can_segment bytes docs spells =
     All-cons (λ (w : List ℕ). (5 ≤ length w) × (length w ≤ segment_limit)) bytes [] (omega (arith, long.0, parts_of docs written_kind), long.1) (All-nil (λ (w : List ℕ). (5 ≤ length w) × (length w ≤ segment_limit)))
 
 -- what is planned with a segment, whatever the answer
-pub planned_segment : (size : ℕ) (b : Body) → IsBody (units_in size) b → (os : List OpenSegment) → length os ≡ length b.entries → (docs : List Doc) → DueAs b (length docs) None → (next : ℕ) → 1 ≤ next → next ≤ end_of_numbers
-    → (bytes : List ℕ) → SegmentSpells bytes docs written_kind → (o : Segment) → IsSegmentOf o docs → (r : Result CommitPlan Refusal) → OnOk r (CanBeWritten (new_lists os)) → PlansWith b (bytes ∷ new_lists os) (length b.entries + 1) (map settled os ++ fresh_segment o ∷ []) (body_with_segment b os next) r → PlansAs size b os docs next r
-planned_segment size b is os count docs due next some most bytes spells o opened_is (Ok p) can plan = planned_with size b is os count docs due next some most can bytes spells o opened_is p plan
-planned_segment size b is os count docs due next some most bytes spells o opened_is (Err why) can plan = not_placed size b os docs next bytes (map settled os ++ fresh_segment o ∷ []) (body_with_segment b os next) why spells plan
+pub planned_segment : (size : ℕ) (b : Body) → IsBody (units_in size) b → (os : List OpenSegment) → length os ≡ length b.entries → (docs : List Doc) → LeavesRoom b (length docs) → (next : ℕ) → 1 ≤ next → next ≤ end_of_numbers
+    → (bytes : List ℕ) → SegmentSpells bytes docs written_kind → (o : Segment) → IsSegmentOf o docs → (r : Result CommitPlan LayoutFault) → OnOk r (CanBeWritten (new_lists os)) → PlansWith b (bytes ∷ new_lists os) (length b.entries + 1) (map settled os ++ fresh_segment o ∷ []) (body_with_segment b os next) r → PlansAs size b os docs next r
+planned_segment size b is os count docs leaves next some most bytes spells o opened_is (Ok p) can plan = planned_with size b is os count docs leaves next some most can bytes spells o opened_is p plan
+planned_segment size b is os count docs leaves next some most bytes spells o opened_is (Err why) can plan = not_placed size b os docs next bytes (map settled os ++ fresh_segment o ∷ []) (body_with_segment b os next) why spells plan

@@ -9,8 +9,7 @@ use Rattle.pk_disk.specs.declared.units.Extent.{Extent}
 use Rattle.pk_manifest.specs.Sound.{named}
 use Rattle.pk_manifest.specs.Spelling.{Body, view}
 use Rattle.pk_model.specs.declared.commands.Refusal.{Refusal}
-use Rattle.pk_model.specs.declared.commands.Refusal.TheVariants.{SegmentTooLarge, Full, Memory}
-use Rattle.pk_model.specs.declared.commands.Refusal.TheVariants.{Damaged, Disk}
+use Rattle.pk_model.specs.declared.commands.Refusal.TheVariants as refusal
 use Rattle.pk_model.specs.Collection.{Doc}
 use Rattle.pk_posting.specs.Posting.{IsPosting}
 use Rattle.pk_replace.specs.Claims.{AreApart, Claim, Each, IsAmong, IsInside, IsUntouched}
@@ -24,8 +23,11 @@ use Rattle.pk_state.specs.Committed.{Stored, lists, live_in}
 use Rattle.pk_state.specs.Writing.{after_merge, is_too_large, next_body, replaced, segment_writes}
 use Rattle.pk_state.specs.Writing.{table_writes, with_table, written_kind}
 use Rattle.pk_layout.specs.Placed.{AreLaid}
+use Rattle.pk_layout.specs.declared.fault.LayoutFault.{LayoutFault}
+use Rattle.pk_layout.specs.declared.fault.LayoutFault.TheVariants.{TooLarge, Full, Damaged, Memory}
 use Rattle.pk_layout.specs.declared.merging.MergePlan.{MergePlan}
 use Rattle.pk_layout.specs.declared.merging.NewSegment.{NewSegment}
+use Rattle.pk_layout.specs.Deletions.{most_deleted}
 use Rattle.pk_layout.specs.Plan.{GoesOn, GoesTo, IsPlan, IsPlanOf, PromisesTable, entry_in, ids_in, laid_in}
 use Rattle.pk_layout.specs.Plan.{new_segments, table_bytes, tabled}
 
@@ -45,18 +47,19 @@ ArePending opened ns = (k : ℕ) → lists k ns ≡ is_pending_in k opened
 pub record AreTooMany (opened : List OpenSegment) : Type 0 where
   pub numbers : List ℕ
   pub posting : IsPosting numbers
-  pub many : 134217728 ≤ length numbers
+  pub many : most_deleted ≤ length numbers
   pub pending : (k : ℕ) → lists k numbers ≡ true → is_pending_in k opened ≡ true
 
 -- the numbers of one segment more are among them, or there is no memory, or they are too many
-abbrev pub PutsPending : {T : Type 0} → OpenSegment → List ℕ → Result T Refusal → List ℕ → Type 0
+abbrev pub PutsPending : {T : Type 0} → OpenSegment → List ℕ → Result T LayoutFault → List ℕ
+    → Type 0
 PutsPending o old (Ok v) new = (k : ℕ) → lists k new ≡ (lists k old || is_pending_of k o)
 PutsPending o old (Err Memory) new = Unit {0}
-PutsPending o old (Err Damaged) new = IsPosting new × (134217728 ≤ length new)
+PutsPending o old (Err Damaged) new = IsPosting new × (most_deleted ≤ length new)
     × ((k : ℕ) → lists k new ≡ true → (lists k old || is_pending_of k o) ≡ true)
 PutsPending o old (Err why) new = ⊥
 
-abbrev pub TakesPending : List OpenSegment → Result (List ℕ) Refusal → Type 0
+abbrev pub TakesPending : List OpenSegment → Result (List ℕ) LayoutFault → Type 0
 TakesPending opened (Ok ns) = ArePending opened ns
 TakesPending opened (Err Memory) = Unit {0}
 TakesPending opened (Err Damaged) = AreTooMany opened
@@ -140,7 +143,7 @@ merge_touches m = also (bytes_in (extents_in m.place)) (places (pieces_behind m)
 
 -- a plan for the one segment, its place, and the table behind it; or why there is none
 abbrev pub PlansMerged : Body → List OpenSegment → ℕ → ℕ → Option NewSegment
-    → Result MergePlan Refusal → Type 0
+    → Result MergePlan LayoutFault → Type 0
 PlansMerged b opened from n new (Ok m) =
     (merged : List OpenSegment) × AreMerged (run_of from n opened) new merged
     × (table : List Extent) × (length (extents_in m.place) ≡ length (lengths_in new))
@@ -151,7 +154,7 @@ PlansMerged b opened from n new (Err (Full need largest)) =
     FullAs b.units (named b) (lengths_merged b n new) need largest
 PlansMerged b opened from n new (Err Damaged) = AreTooMany (run_of from n opened)
 PlansMerged b opened from n new (Err Memory) = Unit {0}
-PlansMerged b opened from n new (Err why) = ⊥
+PlansMerged b opened from n new (Err TooLarge) = ⊥
 
 -- the lengths of the segment of these documents, and of the table
 abbrev pub writes_merged : Body → ℕ → List Doc → List ℕ
@@ -180,13 +183,13 @@ pub record PlansMerge (b : Body) (opened : List OpenSegment) (stored : List Stor
 abbrev pub PlansMergeAs : Body → List OpenSegment → List Stored → ℕ → ℕ → Result MergePlan Refusal
     → Type 0
 PlansMergeAs b opened stored from n (Ok m) = PlansMerge b opened stored from n m
-PlansMergeAs b opened stored from n (Err SegmentTooLarge) =
+PlansMergeAs b opened stored from n (Err refusal.SegmentTooLarge) =
     is_too_large (live_in (run_of from n stored)) ≡ true
-PlansMergeAs b opened stored from n (Err (Full need largest)) =
+PlansMergeAs b opened stored from n (Err (refusal.Full need largest)) =
     (is_too_large (live_in (run_of from n stored)) ≡ false)
     × FullAs b.units (named b) (writes_merged b n (live_in (run_of from n stored))) need largest
-PlansMergeAs b opened stored from n (Err Memory) = Unit {0}
-PlansMergeAs b opened stored from n (Err Disk) = Unit {0}
+PlansMergeAs b opened stored from n (Err refusal.Memory) = Unit {0}
+PlansMergeAs b opened stored from n (Err refusal.Disk) = Unit {0}
 PlansMergeAs b opened stored from n (Err why) = ⊥
 
 -- What is written behind the segment lies on the disk, is apart, and touches nothing that lies in the
@@ -213,6 +216,6 @@ pub record PlansRightly (size : ℕ) (b : Body) (opened : List OpenSegment) (n :
 abbrev pub PlansMergeRightly : ℕ → Body → List OpenSegment → ℕ → Option NewSegment
     → Result MergePlan Refusal → Type 0
 PlansMergeRightly size b opened n new (Ok m) = PlansRightly size b opened n new m
-PlansMergeRightly size b opened n new (Err (Full need largest)) =
+PlansMergeRightly size b opened n new (Err (refusal.Full need largest)) =
     FullAs b.units (named b) (lengths_merged b n new) need largest
 PlansMergeRightly size b opened n new (Err why) = Unit {0}

@@ -14,12 +14,11 @@ use Rattle.pk_manifest.specs.declared.manifest.Part.{Part as Entry}
 use Rattle.pk_manifest.specs.Spelling.{Body, entry, spelling, view}
 use Rattle.pk_model.specs.Collection.{Doc, numbers_of}
 use Rattle.pk_model.specs.Limits.{end_of_ids, end_of_numbers, max_segments}
-use Rattle.pk_model.specs.declared.commands.Refusal.{Refusal}
-use Rattle.pk_model.specs.declared.commands.Refusal.TheVariants.{NumbersUsedUp, TooManySegments}
-use Rattle.pk_model.specs.declared.commands.Refusal.TheVariants.{SegmentTooLarge, Full, Memory}
 use Rattle.pk_replace.specs.Claims.{AreApart, Claim, Each, IsAmong, IsBehind, IsInside, IsUntouched}
 use Rattle.pk_replace.specs.Claims.{claim_of, places}
 use Rattle.pk_replace.specs.Held.{IsNext}
+use Rattle.pk_segment.specs.declared.building.BuildFault.{BuildFault}
+use Rattle.pk_segment.specs.declared.building.BuildFault.TheVariants as building
 use Rattle.pk_segment.specs.declared.segment.Segment.{Segment}
 use Rattle.pk_segment.specs.Opened.{IsSegmentOf}
 use Rattle.pk_posting.specs.Spelling.{spelling as list_spelling}
@@ -37,6 +36,8 @@ use Rattle.pk_state.specs.Writing.{is_too_large, new_entry, new_stored, next_bod
 use Rattle.pk_state.specs.Writing.{with_table, written_kind}
 use Rattle.pk_layout.specs.declared.committing.Built.{Built}
 use Rattle.pk_layout.specs.declared.committing.CommitPlan.{CommitPlan}
+use Rattle.pk_layout.specs.declared.fault.LayoutFault.{LayoutFault}
+use Rattle.pk_layout.specs.declared.fault.LayoutFault.TheVariants.{TooLarge, Full, Damaged, Memory}
 use Rattle.pk_layout.specs.declared.planning.Plan.{Plan}
 use Rattle.pk_layout.specs.Placed.{AreLaid}
 
@@ -215,19 +216,18 @@ IsTaken free free' bytes (Err full) =
     (full.need ≡ units_for bytes) × IsFullAt free full.need full.largest
 
 -- So many bytes each are placed, or why they are not.
-abbrev pub PlacesAs : Body → List ℕ → Result (Vec Extent) Refusal → Type 0
+abbrev pub PlacesAs : Body → List ℕ → Result (Vec Extent) LayoutFault → Type 0
 PlacesAs b lengths (Ok extents) = PlacedAs b.units (named b) lengths extents.items
 PlacesAs b lengths (Err (Full need largest)) = FullAs b.units (named b) lengths need largest
 PlacesAs b lengths (Err Memory) = Unit {0}
 PlacesAs b lengths (Err why) = ⊥
 
 -- a segment is built and open, or why it is not
-abbrev pub BuildsAs : List Doc → Result Built Refusal → Type 0
+abbrev pub BuildsAs : List Doc → Result Built BuildFault → Type 0
 BuildsAs docs (Ok built) =
     SegmentSpells built.bytes.items docs written_kind × IsSegmentOf built.segment docs
-BuildsAs docs (Err SegmentTooLarge) = longest < segment_length docs written_kind
-BuildsAs docs (Err Memory) = Unit {0}
-BuildsAs docs (Err why) = ⊥
+BuildsAs docs (Err building.TooLarge) = longest < segment_length docs written_kind
+BuildsAs docs (Err building.Memory) = Unit {0}
 
 -- what may be written: at least five bytes each, and no more than a segment has
 abbrev pub CanBeWritten : List (List ℕ) → Type 0
@@ -240,7 +240,7 @@ lengths_with writes count = map length writes ++ table_writes count
 -- a plan that writes these bytes at the first fit, and behind them the table of so many entries, and
 -- puts the body of their extents in force with these open segments, or why there is none
 abbrev pub PlansWith : Body → List (List ℕ) → ℕ → List OpenSegment → (List Extent → Body)
-    → Result CommitPlan Refusal → Type 0
+    → Result CommitPlan LayoutFault → Type 0
 PlansWith b writes count opened body (Ok p) =
     (extents : List Extent) × (table : List Extent) × (length extents ≡ length writes)
     × PlacedAs b.units (named b) (lengths_with writes count) (extents ++ table)
@@ -292,22 +292,19 @@ pub record PlansCommit (b : Body) (opened : List OpenSegment) (docs : List Doc) 
       (with_table table (commit_to (record { body = b; stored = stored }) opened docs next extents))
 
 -- a plan, or why there is none
-abbrev pub PlansAs : ℕ → Body → List OpenSegment → List Doc → ℕ → Result CommitPlan Refusal
+abbrev pub PlansAs : ℕ → Body → List OpenSegment → List Doc → ℕ → Result CommitPlan LayoutFault
     → Type 0
 PlansAs size b opened docs next (Ok p) =
     IsPlan size b p.plan × PlansCommit b opened docs next p × HavePlace size p
-PlansAs size b opened docs next (Err SegmentTooLarge) = is_too_large docs ≡ true
+PlansAs size b opened docs next (Err TooLarge) = is_too_large docs ≡ true
 PlansAs size b opened docs next (Err (Full need largest)) = (is_too_large docs ≡ false)
     × FullAs b.units (named b)
     (lengths_with (commit_bytes opened docs) (commit_count b.entries docs)) need largest
 PlansAs size b opened docs next (Err Memory) = Unit {0}
-PlansAs size b opened docs next (Err why) = ⊥
+PlansAs size b opened docs next (Err Damaged) = ⊥
 
--- the refusal that a body and so many documents fix, if any: no id is left, or no entry for them
-abbrev pub DueAs : Body → ℕ → Option Refusal → Type 0
-DueAs b n None = (b.generation < end_of_ids) × (b.next_segment < end_of_ids)
+-- a body may follow, of so many documents more: a generation and a segment id are left, and an entry
+-- if there is a document
+abbrev pub LeavesRoom : Body → ℕ → Type 0
+LeavesRoom b n = (b.generation < end_of_ids) × (b.next_segment < end_of_ids)
     × (0 < n → length b.entries < max_segments)
-DueAs b n (Some NumbersUsedUp) = (b.generation ≡ end_of_ids) ⊎ (b.next_segment ≡ end_of_ids)
-DueAs b n (Some TooManySegments) = (b.generation < end_of_ids) × (b.next_segment < end_of_ids)
-    × (max_segments ≤ length b.entries) × (0 < n)
-DueAs b n (Some why) = ⊥

@@ -13,13 +13,13 @@ ghost use Rattle.pk_manifest.specs.Spelling.{view};
 ghost use Rattle.pk_model.specs.Limits.{end_of_ids};
 ghost use Rattle.pk_state.specs.Writing.{replaced};
 
+use crate::fault::LayoutFault;
 use crate::following::{NextEntries, next_manifest};
 use crate::placing::place_behind;
 use crate::planning::{Plan, pieces_with, plan_for};
 use pk_dead::Dead;
 use pk_disk::Extent;
 use pk_manifest::Manifest;
-use pk_model::Refusal;
 use pk_open::{OpenSegment, put_copies};
 use pk_replace::Piece;
 use pk_segment::Segment;
@@ -54,17 +54,17 @@ pub struct MergePlan {
     pub pieces: Vec<Piece>,
 }
 
-/// The most numbers of a deletion list.
+/// The most numbers of a deletion list: `most_deleted` of `specs/Deletions`.
 pub const MAX_DELETED: u32 = 134_217_728;
 
 // Puts the numbers whose deletion in the segment is not committed among the others.
-fn put_pending(segment: &OpenSegment, pending: &mut Dead) -> Result<(), Refusal>
+fn put_pending(segment: &OpenSegment, pending: &mut Dead) -> Result<(), LayoutFault>
     ensures { PutsPending segment.now pending.old result pending.new }
 {
     for number in segment.deleted.numbers() {
         if !segment.dead.contains(*number) {
             if pending.numbers().len() >= MAX_DELETED as usize {
-                return Err(Refusal::Damaged);
+                return Err(LayoutFault::Damaged);
             }
             pending.add(*number)?;
         }
@@ -73,7 +73,7 @@ fn put_pending(segment: &OpenSegment, pending: &mut Dead) -> Result<(), Refusal>
 }
 
 // The numbers whose deletion no commit has taken, of all segments.
-fn pending_of(alloc: Global, opened: &[OpenSegment]) -> Result<Dead, Refusal>
+fn pending_of(alloc: Global, opened: &[OpenSegment]) -> Result<Dead, LayoutFault>
     ensures { TakesPending opened.now result }
 {
     let mut pending = Dead::new(alloc);
@@ -132,7 +132,7 @@ fn plan_none(
     manifest: &Manifest,
     opened: &[OpenSegment],
     run: Run,
-) -> Result<MergePlan, Refusal>
+) -> Result<MergePlan, LayoutFault>
     requires sound { IsBody manifest.now.units (view manifest.now) }
     requires generation { manifest.now.generation < end_of_ids }
     requires id { manifest.now.next_segment < end_of_ids }
@@ -159,7 +159,7 @@ fn plan_one(
     opened: &[OpenSegment],
     run: Run,
     new: NewSegment,
-) -> Result<MergePlan, Refusal>
+) -> Result<MergePlan, LayoutFault>
     requires sound { IsBody manifest.now.units (view manifest.now) }
     requires generation { manifest.now.generation < end_of_ids }
     requires id { manifest.now.next_segment < end_of_ids }
@@ -192,13 +192,16 @@ fn plan_one(
 }
 
 /// The plan of a merge of a run into this segment, or into none.
+///
+/// Its faults are `Full`, `Memory`, and `Damaged` where more deletions are pending in the run than a
+/// list may have.
 pub fn plan_merged(
     alloc: Global,
     manifest: &Manifest,
     opened: &[OpenSegment],
     run: Run,
     new: Option<NewSegment>,
-) -> Result<MergePlan, Refusal>
+) -> Result<MergePlan, LayoutFault>
     requires sound { IsBody manifest.now.units (view manifest.now) }
     requires generation { manifest.now.generation < end_of_ids }
     requires id { manifest.now.next_segment < end_of_ids }

@@ -10,6 +10,7 @@ ghost use Rattle.pk_model.specs.Collection.{IsCollection};
 ghost use Rattle.pk_model.specs.Tree.{tree_of};
 ghost use Rattle.pk_plan.specs.Plans.{IsPlanFor};
 ghost use Rattle.pk_plan.specs.Texts.{has_phrase};
+ghost use Rattle.pk_replace.specs.Cause.{IsUndamaged};
 ghost use Rattle.pk_search.specs.Answering.{AnswersEntries};
 ghost use Rattle.pk_search.specs.Finding.{FoundAs};
 ghost use Rattle.pk_open.specs.Seeking.{IsUnreached, SeeksText};
@@ -20,22 +21,26 @@ ghost use Rattle.pk_segment.specs.Reading.{CountsReads};
 ghost use Rattle.pk_state.specs.Committed.{Stored, live_in, whole_of};
 ghost use Rattle.pk_store.specs.Caching.{blocks_of};
 ghost use Rattle.pk_store.specs.Deleting.{DeletesAt, DeletesIn};
+ghost use Rattle.pk_store.specs.Due.{DueAs};
 ghost use Rattle.pk_merge.specs.Choosing.{ChoosesAs};
 ghost use Rattle.pk_state.specs.Writing.{sizes_of};
 ghost use Rattle.pk_store.specs.Ways.{MergesAllAs};
 ghost use Rattle.pk_store.specs.Merging.{AreInputsOf, MergesRun, PlansRun};
-ghost use Rattle.pk_layout.specs.Plan.{AreNext, DueAs, GoesOn, IsPlan, PlansAs, PromisesTable};
-ghost use Rattle.pk_store.specs.Carrying.{Carries, Goes, MeetsNone};
+ghost use Rattle.pk_layout.specs.Plan.{AreNext, GoesOn, IsPlan, LeavesRoom, PlansAs};
+ghost use Rattle.pk_layout.specs.Plan.{PromisesTable};
+ghost use Rattle.pk_store.specs.Carrying.{Carries, Goes};
+ghost use Rattle.pk_store.specs.Refusing.{stream_refusal};
 ghost use Rattle.pk_store.specs.View.{IsCached, IsReady, KeepsVolume, StandFor, committed_by};
 ghost use Rattle.pk_store.specs.View.{volume_of};
 
+use crate::due::DueFault;
 use pk_cache::BlockCache;
 use pk_check::{Checked, check_body};
 use pk_disk::Disk;
 use pk_index::Index;
 use pk_layout::{
-    CommitPlan, MAX_DELETED, MergePlan, Plan, Run, Uncommitted, plan_commit, plan_merged,
-    written_kind,
+    CommitPlan, LayoutFault, MAX_DELETED, MergePlan, Plan, Run, Uncommitted, plan_commit,
+    plan_merged, written_kind,
 };
 use pk_manifest::{Half, Manifest};
 use pk_merge::{MergeInput, MergeWriter, Prepared, choose, prepare};
@@ -264,31 +269,31 @@ impl<D: Disk> Volume<D> {
         Ok(())
     }
 
-    /// The refusal that the body in force and so many documents to be committed fix, if any.
-    pub(crate) fn due(&self, buffered: usize) -> Option<Refusal>
+    /// Whether a body with so many documents more can follow the one in force.
+    pub(crate) fn ensure_room(&self, buffered: usize) -> Result<(), DueFault>
         ensures { DueAs self.now.body buffered result }
     {
         if self.manifest.generation == END_OF_IDS || self.manifest.next_segment == END_OF_IDS {
-            return Some(Refusal::NumbersUsedUp);
+            return Err(DueFault::NumbersUsedUp);
         }
         if buffered > 0 && self.manifest.entries.len() >= MAX_SEGMENTS {
-            return Some(Refusal::TooManySegments);
+            return Err(DueFault::TooManySegments);
         }
-        None
+        Ok(())
     }
 
     /// The plan of a commit of these documents, which are indexed, and this next number.
     ///
-    /// Refused as segment too large, as full, or as memory.
+    /// Its faults are `TooLarge`, `Full` and `Memory`.
     pub(crate) fn plan_commit(
         &self,
         alloc: Global,
         documents: &[Document],
         index: &Index,
         next_number: u32,
-    ) -> Result<CommitPlan, Refusal>
+    ) -> Result<CommitPlan, LayoutFault>
         requires index { Keeps index.now (docs_of documents.now) }
-        requires due { DueAs self.now.body (length documents.now) None }
+        requires room { LeavesRoom self.now.body (length documents.now) }
         requires next { AreNext self.now.body (docs_of documents.now) next_number }
         ensures { PlansAs (length (D.content self.now.disk)) self.now.body self.now.opened
             (docs_of documents.now) next_number result }
@@ -343,7 +348,7 @@ impl<D: Disk> Volume<D> {
         count: usize,
         inputs: &[MergeInput],
     ) -> Result<RunPlan, Refusal>
-        requires due { DueAs self.old.body 0 None }
+        requires room { LeavesRoom self.old.body 0 }
         requires some { 1 ≤ count }
         requires within { from + count ≤ length self.old.body.entries }
         requires run { AreInputsOf self.old.body.entries self.old.opened from count inputs.now }
@@ -368,7 +373,7 @@ impl<D: Disk> Volume<D> {
         inputs: &[MergeInput],
     ) -> Result<(), Refusal>
         requires clear { self.old.reopen ≡ false }
-        requires due { DueAs self.old.body 0 None }
+        requires room { LeavesRoom self.old.body 0 }
         requires some { 1 ≤ count }
         requires within { from + count ≤ length self.old.body.entries }
         requires run { AreInputsOf self.old.body.entries self.old.opened from count inputs.now }
@@ -391,9 +396,11 @@ impl<D: Disk> Volume<D> {
                     first,
                     pieces: &pieces,
                 };
-                self.carry_out(plan, writer)
+                self.carry_out(plan, writer).map_err(stream_refusal)
             }
-            _ => self.carry_out(plan, Pieces(&pieces)),
+            _ => self
+                .carry_out(plan, Pieces(&pieces))
+                .map_err(stream_refusal),
         }
     }
 
@@ -410,7 +417,7 @@ impl<D: Disk> Volume<D> {
         count: usize,
     ) -> Result<(), Refusal>
         requires clear { self.old.reopen ≡ false }
-        requires due { DueAs self.old.body 0 None }
+        requires room { LeavesRoom self.old.body 0 }
         requires some { 1 ≤ count }
         requires within { from + count ≤ length self.old.body.entries }
         ensures { MergesRun D.Disk self.old from count result self.new }
@@ -423,14 +430,13 @@ impl<D: Disk> Volume<D> {
 
     /// Puts the plan's body in force with what the writer writes for it, and keeps what it says.
     ///
-    /// Refused as disk where the device failed, or as damaged where the writer met damage. After a
-    /// write or a sync that failed the disk has to be opened again; else what is committed stands as
-    /// it did.
+    /// After a write or a sync that failed the disk has to be opened again; else what is committed
+    /// stands as it did.
     pub(crate) fn carry_out<W: WritesExtent>(
         &mut self,
         plan: Plan,
         writer: W,
-    ) -> Result<(), Refusal>
+    ) -> Result<(), StreamFault>
         requires clear { self.old.reopen ≡ false }
         requires planned { IsPlan (length (D.content self.old.disk)) self.old.body plan }
         requires can { W.can_write writer (length (D.content self.old.disk)) }
@@ -441,9 +447,9 @@ impl<D: Disk> Volume<D> {
             self.new }
         ensures unwritten { W.reads_nothing writer → self.new.reopen ≡ false
             → OnErr result (KeepsDisk D.Disk self.old.disk self.new.disk) }
-        ensures unread { W.reads_nothing writer → MeetsNone result }
+        ensures unread { W.reads_nothing writer → IsUndamaged result }
         ensures undamaged { D.honest → W.is_sound writer (D.content self.old.disk)
-            → MeetsNone result }
+            → IsUndamaged result }
     {
         match replace_with(&mut self.disk, self.spare, writer, &plan.body) {
             Ok(()) => {
@@ -452,11 +458,11 @@ impl<D: Disk> Volume<D> {
                 self.spare = self.spare.other();
                 Ok(())
             }
-            Err(StreamFault::Read) => Err(Refusal::Disk),
-            Err(StreamFault::Damaged) => Err(Refusal::Damaged),
+            Err(StreamFault::Read) => Err(StreamFault::Read),
+            Err(StreamFault::Damaged) => Err(StreamFault::Damaged),
             Err(StreamFault::Write) => {
                 self.reopen = true;
-                Err(Refusal::Disk)
+                Err(StreamFault::Write)
             }
         }
     }
@@ -466,5 +472,15 @@ impl<D: Disk> Volume<D> {
         ensures { result ≡ self.disk }
     {
         self.disk
+    }
+}
+
+/// What stopped a plan that was carried out, as the refusal of a command.
+pub(crate) fn stream_refusal(fault: StreamFault) -> Refusal
+    ensures { result ≡ stream_refusal fault }
+{
+    match fault {
+        StreamFault::Read | StreamFault::Write => Refusal::Disk,
+        StreamFault::Damaged => Refusal::Damaged,
     }
 }

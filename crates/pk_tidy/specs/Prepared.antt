@@ -6,12 +6,11 @@ use Rattle.pk_layout.specs.declared.merging.NewSegment.{NewSegment}
 use Rattle.pk_layout.specs.Merging.{IsSegmentTo, IsSized}
 use Rattle.pk_merge.specs.declared.prepared.Prepared.{Prepared}
 use Rattle.pk_merge.specs.Prepared.{IsPrepared}
-use Rattle.pk_model.specs.declared.commands.Refusal.{Refusal}
-use Rattle.pk_model.specs.declared.commands.Refusal.TheVariants.{Damaged}
 use Rattle.pk_state.specs.Committed.{Stored, live_in}
+use Rattle.pk_tidy.specs.declared.prepared.NoSegment.{NoSegment}
 
 -- what is prepared opens as what is going to be written, where it is a merge of some documents
-abbrev pub OpensRun : Option Prepared → Result (Option NewSegment) Refusal → Type 0
+abbrev pub OpensRun : Option Prepared → Result (Option NewSegment) NoSegment → Type 0
 OpensRun None (Ok None) = Unit {0}
 OpensRun None (Ok (Some new)) = ⊥
 OpensRun (Some p) (Ok None) = ⊥
@@ -19,6 +18,5 @@ OpensRun (Some p) (Ok (Some new)) = (new.bytes ≡ p.size) × IsSized (Some new)
     × ((bytes : List ℕ) (inputs : List MergeInput) (stored : List Stored)
     → IsPrepared bytes inputs stored p → IsSegmentTo (live_in stored) new)
 OpensRun None (Err why) = ⊥
-OpensRun (Some p) (Err Damaged) = (bytes : List ℕ) (inputs : List MergeInput)
+OpensRun (Some p) (Err why) = (bytes : List ℕ) (inputs : List MergeInput)
     (stored : List Stored) → IsPrepared bytes inputs stored p → ⊥
-OpensRun (Some p) (Err why) = ⊥

@@ -8,10 +8,11 @@
 //! | call | answers | refused as |
 //! |---|---|---|
 //! | `inputs_of` | what pk_merge reads for a merge of a run of segments, with the deletions that are committed | memory |
-//! | `new_segment` | the segment of what is prepared, for a plan; none where nothing is to be written | damaged |
+//! | `new_segment` | the segment of what is prepared, for a plan; none where nothing is to be written | `NoSegment` |
 //! | `refusal_of` | the refusal that a fault of a merge becomes | never |
 //!
-//! `Damaged` comes only of what no merge has prepared. No call touches a disk.
+//! `NoSegment` comes only of what no merge has prepared, and becomes the refusal `Damaged`. No call
+//! touches a disk.
 //!
 //! In specs/: `Inputs` says where the entries lie whose segments are read, `Prepared` what is
 //! planned of what is prepared, `Refusing` which refusal is whose.
@@ -22,5 +23,5 @@ mod prepared;
 mod refusal;
 
 pub use inputs::inputs_of;
-pub use prepared::new_segment;
+pub use prepared::{NoSegment, new_segment};
 pub use refusal::refusal_of;

@@ -1,7 +1,6 @@
 -- What is prepared tells what it is going to write.
 use Rattle.std.proofs.Common.{◌≡◌, ◌∙◌, refl, ap, subst, sym, Err, Ok, Some, Option}
 use Rattle.pk_merge.specs.declared.prepared.Prepared.{Prepared}
-use Rattle.pk_model.specs.declared.commands.Refusal.TheVariants.{Damaged}
 use Rattle.pk_segment.specs.Spelling.{segment_length}
 use Rattle.pk_state.specs.Committed.{live_in}
 use Rattle.pk_tidy.specs.Prepared.{OpensRun}
@@ -26,5 +25,5 @@ returns c = subst (λ (x : Option Prepared). OpensRun x (Ok (Some (record { byte
 )
 
 pub returns-in_default-segment : goal.returns-in_default-segment
-returns-in_default-segment c = subst (λ (x : Option Prepared). OpensRun x (Err Damaged)) (sym c.in-Some.is) (
+returns-in_default-segment c = subst (λ (x : Option Prepared). OpensRun x (Err (record {}))) (sym c.in-Some.is) (
     λ bytes inputs stored prepared. c.in_default-segment.ensures bytes inputs stored prepared)
