@@ -1,18 +1,19 @@
 -- What stands behind the texts of a segment.
 use Rattle.std.specs.Prelude.{◌≡◌, ◌≤◌, ◌+◌, ◌*◌, ◌++◌, ℕ, List, length, take, drop, Result, Ok, Err}
+use Rattle.pk_model.specs.Limits.{max_segment_bytes}
 use Rattle.pk_check.specs.declared.index.Counts.{Counts}
 use Rattle.pk_check.specs.declared.taken.Taken.{Taken}
 use Rattle.pk_check.specs.Taking.{IsTaken}
 use Rattle.pk_model.specs.Collection.{Doc}
 use Rattle.pk_segment.specs.declared.fault.ReadFault.{ReadFault}
-use Rattle.pk_segment.specs.Spelling.{dictionary_in, header_in, longest, postings_in}
+use Rattle.pk_segment.specs.Spelling.{dictionary_in, header_in, postings_in}
 use Rattle.pk_segment.specs.Spelling.{segment_length, terms_in, texts}
 
 -- From a place on stands what a segment of a kind of the documents has behind its texts, in one that
 -- is not too long.
 pub record Stands (bytes : List ℕ) (at : ℕ) (docs : List Doc) (kind : ℕ) : Type 0 where
   pub there : drop at bytes ≡ postings_in docs kind ++ dictionary_in docs kind
-  pub fits : segment_length docs kind ≤ longest
+  pub fits : segment_length docs kind ≤ max_segment_bytes
 
 -- The header's last three numbers are those of the documents; where the source gives its bytes, what
 -- they speak of stands from a place on.

@@ -5,8 +5,9 @@ ghost use Rattle.std.specs.Prelude.{List, length, All, IfErr, OnOk};
 ghost use Rattle.std.specs.List.Sorted.{IsStrictlyIncreasing};
 ghost use Rattle.pk_model.specs.Collection.{Doc};
 ghost use Rattle.pk_model.specs.Views.{doc_of};
+ghost use Rattle.pk_model.specs.Limits.{max_segment_bytes};
 ghost use Rattle.pk_segment.specs.Reading.{IsNoDamage};
-ghost use Rattle.pk_segment.specs.Spelling.{longest, texts};
+ghost use Rattle.pk_segment.specs.Spelling.{texts};
 
 use pk_index::Index;
 use pk_model::Document;
@@ -28,7 +29,7 @@ pub(crate) struct Taken {
     ghost rising: { IsStrictlyIncreasing numbers.items },
     ghost below: { All (λ n. n < top) numbers.items },
     ghost least: { 1 ≤ top },
-    ghost fits: { bytes ≤ longest },
+    ghost fits: { bytes ≤ max_segment_bytes },
 }
 
 // The number of a document; it has 32 bits.
@@ -62,7 +63,7 @@ impl Taken {
         ensures cause { (docs : List Doc) → IsTaken self.old docs
             → All (λ d. d.number < (doc_of document.now).number) docs
             → 1 ≤ (doc_of document.now).number
-            → length (texts (docs ++ doc_of document.now ∷ [])) ≤ longest
+            → length (texts (docs ++ doc_of document.now ∷ [])) ≤ max_segment_bytes
             → IfErr result IsNoDamage }
         ensures no_disk { IfErr result
             (λ f. (f ≡ ReadFault.Damaged) ⊎ (f ≡ ReadFault.Memory)) }

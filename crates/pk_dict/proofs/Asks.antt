@@ -7,6 +7,7 @@ use Rattle.std.proofs.lemmas.Bool.{cases_eq, cases_lt, cases_order, cases_Bool, 
 use Rattle.std.proofs.lemmas.List.{drop-drop, take-append-drop, length-append, length-drop}
 use Rattle.std.proofs.Math.Nat.{mul-le-mul_right}
 use Rattle.pk_posting.specs.declared.source.SourceFault.{SourceFault}
+use Rattle.pk_posting.specs.Limits.{asks_for}
 use Rattle.pk_dict.specs.declared.entry.Entry.{Entry}
 use Rattle.pk_dict.specs.declared.head.Standing.{Standing}
 use Rattle.pk_dict.specs.declared.head.Standing.TheVariants.{First, After}
@@ -16,7 +17,6 @@ use Rattle.pk_dict.specs.Entries.{asks_at, goes_on, group_of, item_kept, start_a
 use Rattle.pk_dict.specs.LookUp.{standing_at}
 use Rattle.pk_dict.specs.Order.{less, Rising, RisingTerms}
 use Rattle.pk_dict.specs.Search.{IsStanding}
-use Rattle.pk_dict.specs.Source.{stretches_of}
 use Rattle.pk_dict.proofs.Bounds.{group_law}
 use Rattle.pk_dict.proofs.Collecting.{Collecting, next_is, collecting_next, collecting_all, collecting_past}
 use Rattle.pk_dict.proofs.Collection.{asks_by}
@@ -102,7 +102,7 @@ beyond bytes es prefix (First group entry) d st = beyond_first bytes es prefix g
 beyond bytes es prefix (After groups matched next) d st = beyond_after bytes es prefix groups matched next d st
 
 abbrev Short : ℕ → List Item → Type 0
-Short m es = AllByRecursion (λ (e : Item). stretches_of (length e.term) ≤ m) es
+Short m es = AllByRecursion (λ (e : Item). asks_for (length e.term) ≤ m) es
 
 short_drop : (m n : ℕ) (es : List Item) → Short m es → Short m (drop n es)
 short_drop m zero es h = h
@@ -143,12 +143,12 @@ asks_law (suc n) bytes es prefix past i at before found m d c len b short =
     let next : ℕ = after_term es i at e in
     let x = next_is bytes es prefix i at before found e s.1.0 d c s.1.1 in
     let more : List Item = found ++ item_kept prefix e.term e.entry in
-    let few : stretches_of (length e.term) ≤ m = (subst (λ (l : List Item). Short m l) s.1.1 (short_drop m i es short)).0 in
+    let few : asks_for (length e.term) ≤ m = (subst (λ (l : List Item). Short m l) s.1.1 (short_drop m i es short)).0 in
     let by = asks_by n bytes prefix i before at (Ok (e.term, e.entry, next)) x.read in
     elim (cases_Bool (goes_on prefix e.term)) [
       | inl t ↦
           let rest : ℕ = asks_at n bytes prefix (i + 1) e.term next in
-          let is : asks_at (suc n) bytes prefix i before at ≡ 5 + stretches_of (length e.term) + rest = by ∙ (rw t refl) in
+          let is : asks_at (suc n) bytes prefix i before at ≡ 5 + asks_for (length e.term) + rest = by ∙ (rw t refl) in
           let later = asks_law n bytes es prefix past (i + 1) next e.term more m d (collecting_next bytes es prefix i at before found e.term e.entry next more d c lt x.read refl) (omega arith) b short in
           elim (cases_Bool (starts_with nat_eq e.term prefix)) [
             | inl y ↦ spent_found w (asks_at (suc n) bytes prefix i before at) rest (length found) all (past - i) (past - (i + 1)) (omega (arith, is, few))
@@ -163,7 +163,7 @@ asks_law (suc n) bytes es prefix past i at before found m d c len b short =
           ]
       | inr f ↦
           let past_it = past_is _ _ f in
-          let is : asks_at (suc n) bytes prefix i before at ≡ 5 + stretches_of (length e.term) + 0 = by ∙ (rw f refl) in
+          let is : asks_at (suc n) bytes prefix i before at ≡ 5 + asks_for (length e.term) + 0 = by ∙ (rw f refl) in
           let ended = collecting_past bytes es prefix i at before found e.term e.entry next more d c lt x.read refl past_it.1 past_it.0 in
           spent_last w (asks_at (suc n) bytes prefix i before at) (length found) all (past - i) (omega (arith, is, few)) (sym (kept_none prefix found e past_it.0) ∙ ap (λ (l : List Item). length l) ended)
     ]

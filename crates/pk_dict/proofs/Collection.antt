@@ -1,6 +1,7 @@
 -- The steps of a collection, for any bytes.
 use Rattle.std.proofs.Common.{arith, refl, sym, ap, ◌∙◌, ◌≡◌, ◌≤◌, ◌<◌, ◌+◌, ◌-◌, ◌%◌, ◌++◌, ℕ, suc, List, length, Ok, Err, Result, true, false, eqb}
 use Rattle.pk_posting.specs.declared.source.SourceFault.{SourceFault}
+use Rattle.pk_posting.specs.Limits.{asks_for}
 use Rattle.pk_posting.specs.declared.source.SourceFault.TheVariants as faults
 use Rattle.pk_dict.specs.declared.entry.Entry.{Entry}
 use Rattle.pk_dict.specs.declared.entry.EntriesFault.{EntriesFault}
@@ -8,7 +9,6 @@ use Rattle.pk_dict.specs.declared.entry.EntriesFault.TheVariants.{Damaged, Disk,
 use Rattle.pk_dict.specs.Dictionary.{Item}
 use Rattle.pk_dict.specs.Entries.{ListGives, TermGives, asks_at, asked_for, collect_at, collected, goes_on, item_kept, term_at}
 use Rattle.pk_dict.specs.Reading.{◌>>=◌}
-use Rattle.pk_dict.specs.Source.{stretches_of}
 
 one_more : (n i : ℕ) → i < n → n - i ≡ suc (n - (i + 1))
 one_more n i h = omega arith
@@ -62,11 +62,11 @@ unfolding asks_at
 asks_by n bytes prefix i before at r e = rw e refl
 
 pub asks_more : (n i : ℕ) (bytes prefix before : List ℕ) (at : ℕ) (t : List ℕ) (entry : Entry) (next : ℕ) → Read n i bytes prefix before at t entry next → goes_on prefix t ≡ true
-    → asks_at (n - i) bytes prefix i before at ≡ 5 + stretches_of (length t) + asks_at (n - (i + 1)) bytes prefix (i + 1) t next
+    → asks_at (n - i) bytes prefix i before at ≡ 5 + asks_for (length t) + asks_at (n - (i + 1)) bytes prefix (i + 1) t next
 asks_more n i bytes prefix before at t entry next r more =
     ap (λ (k : ℕ). asks_at k bytes prefix i before at) (one_more n i r.inside) ∙ asks_by (n - (i + 1)) bytes prefix i before at (Ok (t, entry, next)) r.term ∙ (rw more refl)
 
 pub asks_last : (n i : ℕ) (bytes prefix before : List ℕ) (at : ℕ) (t : List ℕ) (entry : Entry) (next : ℕ) → Read n i bytes prefix before at t entry next → goes_on prefix t ≡ false
-    → asks_at (n - i) bytes prefix i before at ≡ 5 + stretches_of (length t) + 0
+    → asks_at (n - i) bytes prefix i before at ≡ 5 + asks_for (length t) + 0
 asks_last n i bytes prefix before at t entry next r more =
     ap (λ (k : ℕ). asks_at k bytes prefix i before at) (one_more n i r.inside) ∙ asks_by (n - (i + 1)) bytes prefix i before at (Ok (t, entry, next)) r.term ∙ (rw more refl)

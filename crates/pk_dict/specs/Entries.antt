@@ -3,6 +3,7 @@ use Rattle.std.specs.Prelude.{◌≡◌, ◌≤◌, ◌<◌, ◌+◌, ◌-◌, �
 use Rattle.std.specs.List.{starts_with}
 use Rattle.std.specs.Global.{Vec}
 use Rattle.pk_posting.specs.declared.source.SourceFault.{SourceFault}
+use Rattle.pk_posting.specs.Limits.{asks_for}
 use Rattle.pk_posting.specs.declared.source.SourceFault.TheVariants as faults
 use Rattle.pk_posting.specs.Source.{Rose}
 use Rattle.pk_dict.specs.declared.entry.Entry.{Entry}
@@ -17,7 +18,6 @@ use Rattle.pk_dict.specs.LookUp.{standing_at}
 use Rattle.pk_dict.specs.Order.{less}
 use Rattle.pk_dict.specs.Place.{bytes_at}
 use Rattle.pk_dict.specs.Reading.{◌>>=◌, number_at, head_at, offset_at}
-use Rattle.pk_dict.specs.Source.{stretches_of}
 
 -- the item of a term and its entry
 abbrev pub item_from : Vec ℕ × Entry → Item
@@ -135,7 +135,7 @@ ListGives (Err Memory) read = Unit {0}
 -- how often the collection asks after a term that was read: for the term, and for those after it
 abbrev pub asked_for : (List ℕ → ℕ → ℕ) → List ℕ → Result (List ℕ × Entry × ℕ) SourceFault → ℕ
 asked_for more prefix (Ok t) =
-    5 + stretches_of (length t.0) + (if goes_on prefix t.0 then more t.0 t.2 else 0)
+    5 + asks_for (length t.0) + (if goes_on prefix t.0 then more t.0 t.2 else 0)
 asked_for more prefix (Err e) = 0
 
 -- how often a collection that ends well asks at most

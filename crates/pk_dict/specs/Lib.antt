@@ -8,6 +8,5 @@ pub mod Place
 pub mod Reading
 pub mod Scan
 pub mod Search
-pub mod Source
 pub mod Windows
 pub mod Writer

@@ -5,9 +5,8 @@ ghost use Rattle.pk_dict.specs.Dictionary.{shared};
 ghost use Rattle.pk_dict.specs.Order.{less};
 ghost use Rattle.pk_dict.specs.Place.{LiesIn, bytes_at};
 ghost use Rattle.pk_dict.specs.Reading.{Gives, shared_at};
-ghost use Rattle.pk_posting.specs.Limits.{most_lent};
+ghost use Rattle.pk_posting.specs.Limits.{asks_for, most_lent};
 ghost use Rattle.pk_posting.specs.Source.{IsRead};
-ghost use Rattle.pk_dict.specs.Source.{stretches_of};
 
 use crate::entry::DictPlace;
 use pk_posting::{ByteSource, MOST_LENT, SourceFault};
@@ -68,7 +67,7 @@ pub(crate) fn shared_with<S: ByteSource>(
     ensures most { IfOk result (λ c. (c ≤ n) × (c ≤ length term.now)) }
     ensures inside { IfOk result (λ _. at + n ≤ place.bytes) }
     ensures left { IsRead S.honest S.content S.asked S.failures S.keeps
-        (stretches_of (length term.now))
+        (asks_for (length term.now))
         result source.old source.new }
 {
     if u64::from(place.bytes) < u64::from(at) + u64::from(n) {

@@ -44,9 +44,8 @@ ghost use Rattle.pk_dict.specs.Entries.{
 };
 ghost use Rattle.pk_dict.specs.Place.{LiesIn, bytes_at};
 ghost use Rattle.pk_dict.specs.Reading.{Gives};
-ghost use Rattle.pk_posting.specs.Limits.{most_lent};
+ghost use Rattle.pk_posting.specs.Limits.{asks_for, most_lent};
 ghost use Rattle.pk_posting.specs.Source.{IsRead};
-ghost use Rattle.pk_dict.specs.Source.{stretches_of};
 
 use crate::compare::is_less;
 use crate::entry::{DictPlace, EntriesFault, Entry};
@@ -83,9 +82,9 @@ pub fn entries_in<S: ByteSource>(
     ensures asks { S.honest → (es : List Item)
         → DictSpells (bytes_at (S.content source.old) place) es → length es ≡ place.terms
         → IfOk result (λ v. (k m : ℕ) → group_count place.terms ≤ 2 ^ k
-        → AllByRecursion (λ (e : Item). stretches_of (length e.term) ≤ m) es
+        → AllByRecursion (λ (e : Item). asks_for (length e.term) ≤ m) es
         → S.asked source.new ≤ S.asked source.old
-        + (k + 1) * (6 + stretches_of (length prefix.now)) + 1
+        + (k + 1) * (6 + asks_for (length prefix.now)) + 1
         + (length v.items + 17) * (5 + m)) }
 {
     entries_any(alloc, source, place, prefix)
@@ -106,9 +105,9 @@ fn entries_any<S: ByteSource>(
     ensures asks { S.honest → (es : List Item)
         → DictSpells (bytes_at (S.content source.old) place) es → length es ≡ place.terms
         → OnOk result ((k m : ℕ) → group_count place.terms ≤ 2 ^ k
-        → AllByRecursion (λ (e : Item). stretches_of (length e.term) ≤ m) es
+        → AllByRecursion (λ (e : Item). asks_for (length e.term) ≤ m) es
         → S.asked source.new ≤ S.asked source.old
-        + (k + 1) * (6 + stretches_of (length prefix.now)) + 1
+        + (k + 1) * (6 + asks_for (length prefix.now)) + 1
         + (length (items_with_prefix prefix.now es) + 17) * (5 + m)) }
 {
     if u64::from(source.len()) < u64::from(place.at) + u64::from(place.bytes) {
@@ -203,7 +202,7 @@ fn append<S: ByteSource>(
         ≡ out.old.items ++ take n (drop at (bytes_at (S.content source.old) place))) }
     ensures fault { IfErr result (λ e. e ≡ EntriesFault.Damaged → ⊥) }
     ensures left { IsListed S.honest S.content S.failures S.keeps result source.old source.new }
-    ensures asks { S.asked source.new ≤ S.asked source.old + stretches_of n }
+    ensures asks { S.asked source.new ≤ S.asked source.old + asks_for n }
 {
     let mut done: u32 = 0;
     while done < n {
@@ -250,7 +249,7 @@ fn next_term<S: ByteSource>(
         (term_at (bytes_at (S.content source.old) place) first term.old.items at) }
     ensures left { IsListed S.honest S.content S.failures S.keeps result source.old source.new }
     ensures asks { S.honest → OnOk result (S.asked source.new
-        ≤ S.asked source.old + 5 + stretches_of (length term.new.items)) }
+        ≤ S.asked source.old + 5 + asks_for (length term.new.items)) }
 {
     let (kept, start) = if first {
         (0, at)

@@ -16,6 +16,7 @@ ghost use Rattle.std.specs.Prelude.{
   IsOk,
   MatchResult,
 };
+ghost use Rattle.pk_posting.specs.Limits.{asks_for};
 ghost use Rattle.pk_dict.specs.Dictionary.{DictSpells, Item, entry_of, group_count};
 ghost use Rattle.pk_dict.specs.LookUp.{IsSaid, IsToldAt, IsToldIn};
 ghost use Rattle.pk_dict.specs.LookUp.{look_up_of, narrow_at, scanned, standing_at};
@@ -24,7 +25,6 @@ ghost use Rattle.pk_dict.specs.Reading.{Gives};
 ghost use Rattle.pk_dict.specs.Search.{Goes, IsAmid, IsAmong, IsKnown, IsStanding};
 ghost use Rattle.pk_keys.specs.Keys.{pivot_at};
 ghost use Rattle.pk_posting.specs.Source.{IsLeft, IsRead};
-ghost use Rattle.pk_dict.specs.Source.{stretches_of};
 
 use crate::entry::{DictPlace, Entry};
 use crate::head::{Between, Search, Standing, Step, TermsLeft};
@@ -56,7 +56,7 @@ pub fn look_up_in<S: ByteSource>(
 
     ensures left { IsLeft S.honest S.content S.failures S.keeps result source.old source.new }
     ensures asks { (k : ℕ) → group_count place.terms ≤ 2 ^ k → S.asked source.new
-        ≤ S.asked source.old + (k + 16) * (6 + stretches_of (length term.now)) }
+        ≤ S.asked source.old + (k + 16) * (6 + asks_for (length term.now)) }
 {
     if u64::from(source.len()) < u64::from(place.at) + u64::from(place.bytes) {
         return Err(SourceFault::Damaged);
@@ -95,9 +95,9 @@ pub fn look_up_near<S: ByteSource>(
     ensures inside { IsOk result → place.at + place.bytes ≤ length (S.content source.old) }
     ensures left { IsLeft S.honest S.content S.failures S.keeps result source.old source.new }
     ensures asks { (k : ℕ) → group_count place.terms ≤ 2 ^ k → S.asked source.new
-        ≤ S.asked source.old + (k + 18) * (6 + stretches_of (length term.now)) }
+        ≤ S.asked source.old + (k + 18) * (6 + asks_for (length term.now)) }
     ensures most { S.asked source.new
-        ≤ S.asked source.old + 44 * (6 + stretches_of (length term.now)) }
+        ≤ S.asked source.old + 44 * (6 + asks_for (length term.now)) }
 {
     if groups_of(place.terms) > MOST_GROUPS {
         return look_up_in(source, place, term);
@@ -121,7 +121,7 @@ fn scan_after<S: ByteSource>(
     ensures value { S.honest → Gives result
         (scanned (bytes_at (S.content source.old) place) place.terms term.now standing) }
     ensures left { IsRead S.honest S.content S.asked S.failures S.keeps
-        (15 * (6 + stretches_of (length term.now))) result source.old source.new }
+        (15 * (6 + asks_for (length term.now))) result source.old source.new }
 {
     match standing {
         Standing::First(_, entry) => Ok(Some(entry)),
@@ -159,7 +159,7 @@ pub(crate) fn narrow<S: ByteSource>(
     ensures among { IfOk result (IsAmong (group_count place.terms) (length term.now)) }
     ensures left { IsLeft S.honest S.content S.failures S.keeps result source.old source.new }
     ensures asks { (k : ℕ) → group_count place.terms ≤ 2 ^ k → S.asked source.new
-        ≤ S.asked source.old + (k + 1) * (6 + stretches_of (length term.now)) }
+        ≤ S.asked source.old + (k + 1) * (6 + asks_for (length term.now)) }
 {
     let all = Between {
         low: 0,
@@ -189,7 +189,7 @@ fn narrow_from<S: ByteSource>(
     ensures among { IfOk result (IsAmong (group_count place.terms) (length term.now)) }
     ensures left { IsLeft S.honest S.content S.failures S.keeps result source.old source.new }
     ensures asks { (k : ℕ) → between.high - between.low ≤ 2 ^ k → S.asked source.new
-        ≤ S.asked source.old + (k + 1) * (6 + stretches_of (length term.now)) }
+        ≤ S.asked source.old + (k + 1) * (6 + asks_for (length term.now)) }
 {
     let mut low = between.low;
     let mut high = between.high;
@@ -240,7 +240,7 @@ fn probe<S: ByteSource>(
     ensures past { (b : Between) → search ≡ Search.Open b → b.high ≤ group
         → result ≡ Ok (Search.Open b) }
     ensures left { IsRead S.honest S.content S.asked S.failures S.keeps
-        (6 + stretches_of (length term.now)) result source.old source.new }
+        (6 + asks_for (length term.now)) result source.old source.new }
 {
     let between = match search {
         Search::Open(between) => between,
@@ -286,7 +286,7 @@ fn stand_near<S: ByteSource>(
     ensures among { IfOk result (IsAmong (group_count place.terms) (length term.now)) }
     ensures left { IsLeft S.honest S.content S.failures S.keeps result source.old source.new }
     ensures asks { (k : ℕ) → group_count place.terms ≤ 2 ^ k → S.asked source.new
-        ≤ S.asked source.old + (k + 3) * (6 + stretches_of (length term.now)) }
+        ≤ S.asked source.old + (k + 3) * (6 + asks_for (length term.now)) }
 {
     let groups = groups_of(place.terms);
     let bounds = around(pivots, groups, key(term));

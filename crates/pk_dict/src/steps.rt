@@ -2,6 +2,7 @@
 
 ghost use Rattle.std.specs.Prelude.{◌≡◌, ◌≤◌, ◌<◌, ◌+◌, ◌*◌, ◌^◌};
 ghost use Rattle.std.specs.Prelude.{ℕ, List, length, IfOk, MatchResult, Ok};
+ghost use Rattle.pk_posting.specs.Limits.{asks_for};
 ghost use Rattle.pk_dict.specs.Dictionary.{group_count};
 ghost use Rattle.pk_dict.specs.Place.{LiesIn, bytes_at};
 ghost use Rattle.pk_dict.specs.Reading.{
@@ -20,7 +21,6 @@ ghost use Rattle.pk_dict.specs.Reading.{
 };
 ghost use Rattle.pk_dict.specs.Scan.{IsFewer, Leaves, scan_left};
 ghost use Rattle.pk_posting.specs.Source.{IsRead};
-ghost use Rattle.pk_dict.specs.Source.{stretches_of};
 
 use crate::compare::shared_with;
 use crate::entry::{DictPlace, Entry};
@@ -100,7 +100,7 @@ fn compared<S: ByteSource>(
         (compared_at (bytes_at (S.content source.old) place) head term.now matched) }
     ensures matched { IfOk result (IsWithin (length term.now)) }
     ensures left { IsRead S.honest S.content S.asked S.failures S.keeps
-        (1 + stretches_of (length term.now)) result source.old source.new }
+        (1 + asks_for (length term.now)) result source.old source.new }
 {
     let more = shared_with(source, place, head.rest, head.size, &term[matched..])?;
     let matched = matched + more;
@@ -158,7 +158,7 @@ fn far_step<S: ByteSource>(
         term.now coming.kept coming.matched coming.at) }
     ensures matched { IfOk result (IsWithin (length term.now)) }
     ensures left { IsRead S.honest S.content S.asked S.failures S.keeps
-        (5 + stretches_of (length term.now)) result source.old source.new }
+        (5 + asks_for (length term.now)) result source.old source.new }
 {
     let head = head(source, place, coming.at)?;
     if coming.matched < coming.kept {
@@ -186,7 +186,7 @@ fn far_first<S: ByteSource>(
         → Gives result (step_at (bytes_at (S.content source.old) place) term.now 0 0 at) }
     ensures matched { IfOk result (IsWithin (length term.now)) }
     ensures left { IsRead S.honest S.content S.asked S.failures S.keeps
-        (4 + stretches_of (length term.now)) result source.old source.new }
+        (4 + asks_for (length term.now)) result source.old source.new }
 {
     let head = head_after(source, place, size, rest)?;
     compared(source, place, head, term, 0)
@@ -209,7 +209,7 @@ fn first_step<S: ByteSource>(
         (step_at (bytes_at (S.content source.old) place) term.now 0 0 at) }
     ensures matched { IfOk result (IsWithin (length term.now)) }
     ensures left { IsRead S.honest S.content S.asked S.failures S.keeps
-        (5 + stretches_of (length term.now)) result source.old source.new }
+        (5 + asks_for (length term.now)) result source.old source.new }
 {
     if place.bytes < at {
         return Err(SourceFault::Damaged);
@@ -266,7 +266,7 @@ fn scan_on<S: ByteSource>(
         (λ e. Fails e (scan_left (bytes_at (S.content source.old) place) term.now left)) }
     ensures fewer { IfOk result (IsFewer left.count (length term.now)) }
     ensures left { IsRead S.honest S.content S.asked S.failures S.keeps
-        (6 + stretches_of (length term.now)) result source.old source.new }
+        (6 + asks_for (length term.now)) result source.old source.new }
 {
     let at = left.at;
     if place.bytes < at {
@@ -301,7 +301,7 @@ pub(crate) fn scan<S: ByteSource>(
     ensures value { S.honest → Gives result
         (scan_left (bytes_at (S.content source.old) place) term.now left) }
     ensures left { IsRead S.honest S.content S.asked S.failures S.keeps
-        (left.count * (6 + stretches_of (length term.now))) result source.old source.new }
+        (left.count * (6 + asks_for (length term.now))) result source.old source.new }
 {
     let mut left = left;
     while left.count > 0 {
@@ -329,7 +329,7 @@ pub(crate) fn group_step<S: ByteSource>(
         (4 * group_count place.terms) group term.now) }
     ensures matched { IfOk result (IsWithin (length term.now)) }
     ensures left { IsRead S.honest S.content S.asked S.failures S.keeps
-        (6 + stretches_of (length term.now)) result source.old source.new }
+        (6 + asks_for (length term.now)) result source.old source.new }
 {
     let base = 4 * groups_of(place.terms);
     let offset = offset(source, place, 4 * group)?;

@@ -13,7 +13,7 @@ use Rattle.pk_manifest.specs.Sound.{IsBody, SaysSound, dead_extents, entry_limit
 use Rattle.pk_manifest.specs.Spelling.{Body, no_extent, table_of, table_size}
 use Rattle.pk_manifest.proofs.Sound.{eqb_same, is_sound_by, says_sound}
 use Rattle.pk_manifest.proofs.Fields.{if_false, length_table, table_extent, table_long}
-use Rattle.pk_model.specs.Limits.{end_of_ids, end_of_numbers}
+use Rattle.pk_model.specs.Limits.{end_of_ids, end_of_numbers, max_segments}
 use Rattle.pk_posting.specs.Spelling.{spelling}
 use Rattle.pk_posting.proofs.SpellingLemmas.{length_spelling}
 use Rattle.pk_replace.specs.Claims.{Claim}
@@ -118,7 +118,7 @@ fitted_extent units least e low most fitted within = and_from _ _ (and_from _ _ 
 pub no_table_of : (units : ℕ) → HasTable units 0 []
 no_table_of units = record { is = refl; same = refl }
 
-pub one_table : (units n : ℕ) (e : Extent) → suc n ≤ 4096 → e.bytes ≡ 40 * suc n → IsFitted e → lies_within units e ≡ true → HasTable units (suc n) (e ∷ [])
+pub one_table : (units n : ℕ) (e : Extent) → suc n ≤ max_segments → e.bytes ≡ 40 * suc n → IsFitted e → lies_within units e ≡ true → HasTable units (suc n) (e ∷ [])
 one_table units n e few long fitted within = record {
   is = and_from _ _ (eqb_same _ _ long) (if_false (eqb (40 * suc n) 0) (eqb e.first 0 && eqb e.units 0) (is_extent units 1 e) (other (40 * suc n) (omega arith)) ∙ fitted_extent units 1 e (omega (arith, long)) (omega (arith, long, few)) fitted within);
   same = if_false (eqb e.bytes 0) [] (e ∷ []) (other e.bytes (omega (arith, long)));

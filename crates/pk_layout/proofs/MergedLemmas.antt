@@ -16,7 +16,7 @@ use Rattle.pk_manifest.specs.Sound.{IsBody, SaysSound, extents_of, is_part, name
 use Rattle.pk_manifest.specs.Spelling.{Body}
 use Rattle.pk_manifest.proofs.Sound.{few_in, says_sound}
 use Rattle.pk_model.specs.Collection.{Doc, IsCollection}
-use Rattle.pk_model.specs.Limits.{end_of_ids}
+use Rattle.pk_model.specs.Limits.{end_of_ids, max_segment_bytes, max_segments}
 use Rattle.pk_posting.specs.Posting.{IsPosting}
 use Rattle.pk_replace.specs.Claims.{AreApart, Claim, Each, IsAmong, IsBehind, IsInside, IsUntouched, places}
 use Rattle.pk_replace.proofs.ClaimLemmas.{each_weaker, of_among}
@@ -24,7 +24,7 @@ use Rattle.pk_open.specs.declared.opened.OpenSegment.{OpenSegment}
 use Rattle.pk_open.specs.Opened.{AreOpenOf, IsOpenOf, present}
 use Rattle.pk_segment.specs.declared.segment.Segment.{Segment}
 use Rattle.pk_segment.specs.Opened.{IsSegmentOf}
-use Rattle.pk_segment.specs.Spelling.{longest, segment_length, segment_spelling}
+use Rattle.pk_segment.specs.Spelling.{segment_length, segment_spelling}
 use Rattle.pk_segment.proofs.SegmentLemmas.{length_segment, parts_of}
 use Rattle.pk_space.specs.Places.{FullAs, PlacedAs}
 use Rattle.pk_state.specs.Committed.{Committed, Stored, all_in, live_in, whole_of}
@@ -63,7 +63,7 @@ new_fits docs None is = (ap segment_writes (sym is), ap is_too_large is)
 new_fits [] (Some new) is = absurd (omega (arith, is.are.some))
 new_fits (d ∷ docs) (Some new) is = (
   ap (λ n. n ∷ []) is.long,
-  or_from (nat_lt longest (segment_length (d ∷ docs) written_kind)) false (le-ltb longest (segment_length (d ∷ docs) written_kind) (omega (arith, is.long, is.fits))) refl,
+  or_from (nat_lt max_segment_bytes (segment_length (d ∷ docs) written_kind)) false (le-ltb max_segment_bytes (segment_length (d ∷ docs) written_kind) (omega (arith, is.long, is.fits))) refl,
 )
 
 -- each length is at least 1
@@ -218,7 +218,7 @@ module _ (size : ℕ) (b : Body) (is : IsBody (units_in size) b) (generation : b
         let long = replaced_long from n b.entries (entry_in b place) within in
         subst (λ k. HasTable units k ts) (sym left) (has_table units table_behind.0 (count_merged b n new) ts (few_left new (few_in units b says)) (subst (λ u. PlacedAs u table_behind.0 (table_writes (count_merged b n new)) ts) says.of_disk table_behind.1) (all_back units (extents_in place) ts there_merged.0).1)
       where
-        few_left : (m : Option NewSegment) → length b.entries ≤ 4096 → count_merged b n m ≤ 4096
+        few_left : (m : Option NewSegment) → length b.entries ≤ max_segments → count_merged b n m ≤ max_segments
         few_left None few = omega (arith, few)
         few_left (Some m) few = omega (arith, few, some, within)
 

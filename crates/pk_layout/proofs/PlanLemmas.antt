@@ -6,7 +6,7 @@ use Rattle.std.proofs.lemmas.Bool.{and_from, and_parts, le-ltb, or_from}
 use Rattle.std.proofs.lemmas.List.{get_or-map, length-map, take-append-drop}
 use Rattle.pk_disk.proofs.Ranges.{or_both}
 use Rattle.std.proofs.lemmas.List.Elements.{All-append, All-cons, All-nil, recursion_from_All}
-use Rattle.pk_manifest.specs.Sound.{IsBody, SaysSound, entry_limit, named, segment_limit}
+use Rattle.pk_manifest.specs.Sound.{IsBody, SaysSound, entry_limit, extents_of, is_part, named, segment_limit}
 use Rattle.pk_model.specs.Collection.{Doc}
 use Rattle.pk_model.specs.declared.documents.Document.{Document}
 use Rattle.pk_model.specs.Views.{doc_of}
@@ -16,21 +16,19 @@ use Rattle.std.specs.List.{list_any}
 use Rattle.std.proofs.lemmas.List.Concat.{flat_map-append}
 use Rattle.std.proofs.lemmas.List.Folds.{list_all-append}
 use Rattle.pk_disk.specs.Units.{start_of}
-use Rattle.pk_manifest.specs.Sound.{extents_of}
 use Rattle.pk_posting.specs.Posting.{IsPosting}
 use Rattle.pk_replace.specs.Claims.{Claim}
 use Rattle.pk_open.specs.Opened.{IsOpenOf}
 use Rattle.pk_segment.specs.declared.segment.Segment.{Segment}
 use Rattle.pk_segment.specs.Opened.{IsSegmentOf}
-use Rattle.pk_segment.specs.Spelling.{SegmentSpells, longest, segment_length}
+use Rattle.pk_segment.specs.Spelling.{SegmentSpells, segment_length}
 use Rattle.pk_segment.proofs.SegmentLemmas.{parts_of}
 use Rattle.pk_space.specs.Places.{FullAs}
 use Rattle.pk_state.specs.Writing.{is_too_large, new_entry, new_stored, written_kind}
 use Rattle.pk_layout.proofs.PlacingLemmas.{some_bytes as some_bytes_of, spelled_length}
 use Rattle.pk_disk.specs.Units.{apart, lies_within, overlap, units_in}
 use Rattle.pk_manifest.proofs.Fields.{extents_of_disk, table_long}
-use Rattle.pk_manifest.specs.Sound.{is_part}
-use Rattle.pk_model.specs.Limits.{end_of_ids, end_of_numbers}
+use Rattle.pk_model.specs.Limits.{end_of_ids, end_of_numbers, max_segment_bytes, max_segments}
 use Rattle.pk_replace.specs.Claims.{AreApart, Each, IsAmong, IsBehind, IsInside, places}
 use Rattle.pk_replace.proofs.ClaimLemmas.{each_weaker, of_among}
 use Rattle.pk_open.specs.Opened.{AreOpenOf, present}
@@ -73,7 +71,7 @@ no_documents [] none = refl
 no_documents (d ∷ documents) none = absurd (omega (arith, none))
 
 -- entries with new lists are no more than there were, and one of a new segment
-pub few_entries : (b m : Body) (next given : ℕ) (ts : List Extent) (es more : List Entry) (os : List OpenSegment) (xs : List Extent) → m ≡ tabled ts (next_body b next given (es ++ more)) → es ≡ relisted b.entries os xs → length b.entries + length more ≤ 4096 → length m.entries ≤ 4096
+pub few_entries : (b m : Body) (next given : ℕ) (ts : List Extent) (es more : List Entry) (os : List OpenSegment) (xs : List Extent) → m ≡ tabled ts (next_body b next given (es ++ more)) → es ≡ relisted b.entries os xs → length b.entries + length more ≤ max_segments → length m.entries ≤ max_segments
 few_entries b m next given ts es more os xs same entries room =
     let long : length m.entries ≡ length es + length more = ap (λ (x : Body). length x.entries) same ∙ length-append es more in
     omega (arith, long, ap length entries, relisted_long b.entries os xs, room)
@@ -82,7 +80,7 @@ pub many_entries : (b m : Body) (next given : ℕ) (ts : List Extent) (es more :
 many_entries b m next given ts es more os xs same entries =
     ap (λ (x : Body). length x.entries) same ∙ length-append es more ∙ ap (λ n. n + length more) (ap length entries ∙ relisted_long b.entries os xs)
 
-pub sound_few : (units : ℕ) (b : Body) → IsBody units b → length b.entries + 0 ≤ 4096
+pub sound_few : (units : ℕ) (b : Body) → IsBody units b → length b.entries + 0 ≤ max_segments
 sound_few units b is = let few = few_in units b (says_sound units b is.sound) in omega (arith, few)
 
 -- as many extents as there are writes, and one of the table
@@ -372,7 +370,7 @@ each_and : (P : Claim → Type 0) (cs ds : List Claim) → Each P cs → Each P 
 each_and P [] ds first second = second
 each_and P (c ∷ cs) ds first second = (first.0, each_and P cs ds first.1 second)
 
-module _ (size : ℕ) (b : Body) (is : IsBody (units_in size) b) (os : List OpenSegment) (count : length os ≡ length b.entries) (left : b.generation < end_of_ids) (ids : b.next_segment < end_of_ids) (room : length b.entries < 4096) (next : ℕ) (some : 1 ≤ next) (most : next ≤ end_of_numbers)
+module _ (size : ℕ) (b : Body) (is : IsBody (units_in size) b) (os : List OpenSegment) (count : length os ≡ length b.entries) (left : b.generation < end_of_ids) (ids : b.next_segment < end_of_ids) (room : length b.entries < max_segments) (next : ℕ) (some : 1 ≤ next) (most : next ≤ end_of_numbers)
     (can : CanBeWritten (new_lists os)) (docs : List Doc) (bytes : List ℕ) (spells : SegmentSpells bytes docs written_kind) (o : Segment) (opened_is : IsSegmentOf o docs) (e : Extent) (xs ts : List Extent) (before : length (e ∷ xs) ≡ length (bytes ∷ new_lists os))
     (placed : PlacedAs b.units (named b) (lengths_with (bytes ∷ new_lists os) (length b.entries + 1)) ((e ∷ xs) ++ ts))
     (p : CommitPlan) (plan : IsPlanOf (tabled ts (body_with_segment b os next (e ∷ xs))) (map settled os ++ fresh_segment o ∷ []) p.plan) (pieces : pieces_of p ≡ laid_in ((e ∷ xs) ++ ts) ((bytes ∷ new_lists os) ++ table_bytes (body_with_segment b os next (e ∷ xs)).entries)) where
@@ -530,8 +528,8 @@ module _ (size : ℕ) (b : Body) (is : IsBody (units_in size) b) (os : List Open
       (inr (inl (ap (λ (bs : List ℕ). record { at = start_of e; bytes = bs }) (sym spells.same))), tt)))))))
 
 -- a segment that fits
-pub fits_limit : (d : Doc) (docs : List Doc) → segment_length (d ∷ docs) written_kind ≤ longest → is_too_large (d ∷ docs) ≡ false
-fits_limit d docs short = or_from (nat_lt longest (segment_length (d ∷ docs) written_kind)) false (le-ltb longest (segment_length (d ∷ docs) written_kind) short) refl
+pub fits_limit : (d : Doc) (docs : List Doc) → segment_length (d ∷ docs) written_kind ≤ max_segment_bytes → is_too_large (d ∷ docs) ≡ false
+fits_limit d docs short = or_from (nat_lt max_segment_bytes (segment_length (d ∷ docs) written_kind)) false (le-ltb max_segment_bytes (segment_length (d ∷ docs) written_kind) short) refl
 
 -- the plan of a commit with these documents, wherever they lie
 pub planned_with : (size : ℕ) (b : Body) → IsBody (units_in size) b → (os : List OpenSegment) → length os ≡ length b.entries → (docs : List Doc) → LeavesRoom b (length docs) → (next : ℕ) → 1 ≤ next → next ≤ end_of_numbers → CanBeWritten (new_lists os)

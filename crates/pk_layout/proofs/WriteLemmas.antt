@@ -4,6 +4,7 @@ use Rattle.std.specs.Prelude.{All, if◌then◌else◌}
 use Rattle.std.proofs.lemmas.Bool.{eq-eqb, not-true}
 use Rattle.std.proofs.lemmas.List.{length-map, length-take-le, map-append, take_all, take_more}
 use Rattle.std.proofs.lemmas.List.Elements.{All-append, All-cons, All-get_or, All-nil}
+use Rattle.pk_model.specs.Limits.{max_segment_bytes}
 use Rattle.pk_disk.specs.Units.{start_of}
 use Rattle.pk_disk.specs.declared.units.Extent.{Extent}
 use Rattle.pk_posting.specs.Posting.{IsPosting}
@@ -17,7 +18,7 @@ use Rattle.pk_layout.specs.Plan.{IsGrown}
 use Rattle.pk_layout.proofs.SizeLemmas.{least_list, most_list}
 
 abbrev CanWrite : List ℕ → Type 0
-CanWrite w = (5 ≤ length w) × (length w ≤ 1073741824)
+CanWrite w = (5 ≤ length w) × (length w ≤ max_segment_bytes)
 
 -- a list in which a deletion is pending has a number
 more_than : (n m : ℕ) → eqb m n ≡ false → n ≤ m → 0 < m

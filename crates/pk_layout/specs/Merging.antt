@@ -3,6 +3,7 @@ use Rattle.std.specs.Prelude.{◌≡◌, ◌⊎◌, ◌≤◌, ◌+◌, ◌-◌,
 use Rattle.std.specs.Prelude.{length, map, take, drop}
 use Rattle.std.specs.Prelude.{Option, Some, None, Result, Ok, Err}
 use Rattle.std.specs.List.{list_any}
+use Rattle.pk_model.specs.Limits.{max_segment_bytes}
 use Rattle.pk_disk.specs.Disk.{also, in_range}
 use Rattle.pk_disk.specs.Units.{start_of}
 use Rattle.pk_disk.specs.declared.units.Extent.{Extent}
@@ -17,7 +18,7 @@ use Rattle.pk_replace.specs.Claims.{claim_of, places}
 use Rattle.pk_open.specs.declared.opened.OpenSegment.{OpenSegment}
 use Rattle.pk_open.specs.Opened.{present}
 use Rattle.pk_segment.specs.Opened.{IsSegmentOf}
-use Rattle.pk_segment.specs.Spelling.{AreDocuments, longest, segment_length}
+use Rattle.pk_segment.specs.Spelling.{AreDocuments, segment_length}
 use Rattle.pk_space.specs.Places.{FullAs, PlacedAs}
 use Rattle.pk_state.specs.Committed.{Stored, lists, live_in}
 use Rattle.pk_state.specs.Writing.{after_merge, is_too_large, next_body, replaced, segment_writes}
@@ -88,13 +89,13 @@ lengths_in (Some new) = new.bytes ∷ []
 -- it has some bytes, and no more than a segment may have
 abbrev pub IsSized : Option NewSegment → Type 0
 IsSized None = Unit {0}
-IsSized (Some new) = (1 ≤ new.bytes) × (new.bytes ≤ longest)
+IsSized (Some new) = (1 ≤ new.bytes) × (new.bytes ≤ max_segment_bytes)
 
 -- it is the segment of the documents, and open; none exactly where there is none
 pub record IsSegmentTo (docs : List Doc) (new : NewSegment) : Type 0 where
   pub are : AreDocuments docs
   pub long : new.bytes ≡ segment_length docs written_kind
-  pub fits : new.bytes ≤ longest
+  pub fits : new.bytes ≤ max_segment_bytes
   pub opened : IsSegmentOf new.segment docs
 
 abbrev pub IsNewOf : List Doc → Option NewSegment → Type 0

@@ -13,7 +13,7 @@ use Rattle.pk_manifest.specs.Sound.{IsBody, named, segment_limit}
 use Rattle.pk_manifest.specs.declared.manifest.Part.{Part as Entry}
 use Rattle.pk_manifest.specs.Spelling.{Body, entry, spelling, view}
 use Rattle.pk_model.specs.Collection.{Doc, numbers_of}
-use Rattle.pk_model.specs.Limits.{end_of_ids, end_of_numbers, max_segments}
+use Rattle.pk_model.specs.Limits.{end_of_ids, end_of_numbers, max_segment_bytes, max_segments}
 use Rattle.pk_replace.specs.Claims.{AreApart, Claim, Each, IsAmong, IsBehind, IsInside, IsUntouched}
 use Rattle.pk_replace.specs.Claims.{claim_of, places}
 use Rattle.pk_replace.specs.Held.{IsNext}
@@ -25,7 +25,7 @@ use Rattle.pk_posting.specs.Spelling.{spelling as list_spelling}
 use Rattle.pk_open.specs.declared.opened.OpenSegment.{OpenSegment}
 use Rattle.pk_open.specs.Opened.{AreOpenOf, pends, present}
 pub use Rattle.pk_open.specs.Opening.{IsGrown}
-use Rattle.pk_segment.specs.Spelling.{SegmentSpells, longest}
+use Rattle.pk_segment.specs.Spelling.{SegmentSpells}
 use Rattle.pk_segment.specs.Spelling.{segment_length, segment_spelling}
 use Rattle.pk_space.specs.declared.runs.Full.{Full as NoRoom}
 use Rattle.pk_space.specs.Free.{IsFirstFit, IsFullAt}
@@ -226,7 +226,7 @@ PlacesAs b lengths (Err why) = ⊥
 abbrev pub BuildsAs : List Doc → Result Built BuildFault → Type 0
 BuildsAs docs (Ok built) =
     SegmentSpells built.bytes.items docs written_kind × IsSegmentOf built.segment docs
-BuildsAs docs (Err building.TooLarge) = longest < segment_length docs written_kind
+BuildsAs docs (Err building.TooLarge) = max_segment_bytes < segment_length docs written_kind
 BuildsAs docs (Err building.Memory) = Unit {0}
 
 -- what may be written: at least five bytes each, and no more than a segment has

@@ -21,6 +21,7 @@ use pk_dead::Dead;
 use pk_disk::Extent;
 use pk_manifest::Manifest;
 use pk_open::{OpenSegment, put_copies};
+use pk_posting::LONGEST_LIST;
 use pk_replace::Piece;
 use pk_segment::Segment;
 use std::alloc::{AllocError, Global};
@@ -55,7 +56,7 @@ pub struct MergePlan {
 }
 
 /// The most numbers of a deletion list: `most_deleted` of `specs/Deletions`.
-pub const MAX_DELETED: u32 = 134_217_728;
+pub const MAX_DELETED: u32 = LONGEST_LIST;
 
 // Puts the numbers whose deletion in the segment is not committed among the others.
 fn put_pending(segment: &OpenSegment, pending: &mut Dead) -> Result<(), LayoutFault>

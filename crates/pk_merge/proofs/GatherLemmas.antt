@@ -9,12 +9,13 @@ use Rattle.pk_model.specs.declared.documents.Document.{Document}
 use Rattle.pk_model.specs.Collection.{Doc, numbers_of}
 use Rattle.pk_model.specs.Views.{doc_of}
 use Rattle.pk_model.proofs.CollectionLemmas.{increasing-snoc}
+use Rattle.pk_model.specs.Limits.{max_segment_bytes}
 use Rattle.pk_segment.specs.declared.building.BuildFault.{BuildFault}
 use Rattle.pk_segment.specs.declared.building.BuildFault.TheVariants as building
 use Rattle.pk_segment.specs.Building.{BuildFails}
 use Rattle.pk_segment.specs.declared.fault.ReadFault.{ReadFault}
 use Rattle.pk_segment.specs.declared.fault.ReadFault.TheVariants as reading
-use Rattle.pk_segment.specs.Spelling.{docs_of, longest, segment_length, texts}
+use Rattle.pk_segment.specs.Spelling.{docs_of, segment_length, texts}
 use Rattle.pk_segment.specs.Reading.{IsNoDamage}
 use Rattle.pk_segment.proofs.PlanLemmas.{front_of}
 use Rattle.pk_segment.proofs.SegmentLemmas.{parts_of, length_texts_cons}
@@ -56,8 +57,8 @@ pub front_none : segment_length [] 1 ≡ 24
 front_none = front_of []
 
 -- a part that is too long makes the whole too long
-pub longer : (xs ys zs : List Doc) → zs ≡ xs ++ ys → longest < segment_length xs 1
-    → longest < segment_length zs 1
+pub longer : (xs ys zs : List Doc) → zs ≡ xs ++ ys → max_segment_bytes < segment_length xs 1
+    → max_segment_bytes < segment_length zs 1
 longer xs ys zs same long =
     omega (arith, long, ap (λ (ds : List Doc). segment_length ds 1) same, front_append xs ys, front_of ys)
 
@@ -115,7 +116,7 @@ keeps old new dead d e more (Ok u) same none rise kept = (
       (rise_next old.last d more rise),
 )
 keeps old new dead d e more (Err TooLarge) same none rise kept =
-    rw none (subst (λ (x : Doc). longest < segment_length (docs_in old ++ x ∷ []) 1) same kept)
+    rw none (subst (λ (x : Doc). max_segment_bytes < segment_length (docs_in old ++ x ∷ []) 1) same kept)
 keeps old new dead d e more (Err Damaged) same none rise kept = absurd kept
 keeps old new dead d e more (Err Disk) same none rise kept = absurd kept
 keeps old new dead d e more (Err Memory) same none rise kept = tt

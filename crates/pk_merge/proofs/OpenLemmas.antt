@@ -1,6 +1,7 @@
 -- Header and directory open as the segment that they begin.
 use Rattle.std.proofs.Common.{◌≡◌, ◌∙◌, ◌<◌, ◌≤◌, ◌+◌, ◌-◌, ◌*◌, ◌^◌, ◌++◌, inr, ⊎_elim, List, ℕ, length, take, drop, refl, sym, ap, subst, arith, append_assoc, length-append, Err}
 use Rattle.pk_model.specs.Collection.{Doc}
+use Rattle.pk_model.specs.Limits.{max_segment_bytes}
 use Rattle.pk_posting.specs.declared.source.SourceFault.{SourceFault}
 use Rattle.pk_posting.specs.declared.source.SourceFault.TheVariants.{Damaged, Disk}
 use Rattle.pk_posting.specs.Source.{CountsFaults}
@@ -8,11 +9,11 @@ use Rattle.pk_segment.specs.declared.header.Header.{Header}
 use Rattle.pk_segment.specs.declared.segment.Segment.{Segment}
 use Rattle.pk_segment.specs.Fields.{IsHeader, entry_field, header_field, number_at}
 use Rattle.pk_segment.specs.Opened.{IsOpened, IsSegmentOf}
-use Rattle.pk_segment.specs.Spelling.{AreDocuments, SegmentSpells, dictionary_in, directory, header_in, longest, postings_in, segment_length, segment_spelling, terms_in, texts}
+use Rattle.pk_segment.specs.Spelling.{AreDocuments, SegmentSpells, dictionary_in, directory, header_in, postings_in, segment_length, segment_spelling, terms_in, texts}
 use Rattle.pk_segment.proofs.OpeningLemmas.{counted, in_order, number_there, texts_counted, whole as is_whole}
 use Rattle.pk_segment.proofs.SegmentLemmas.{behind, in_parts, inside_part, length_directory, length_header, length_segment, parts_of}
 
-module _ (docs : List Doc) (are : AreDocuments docs) (fits : segment_length docs 2 ≤ longest) where
+module _ (docs : List Doc) (are : AreDocuments docs) (fits : segment_length docs 2 ≤ max_segment_bytes) where
   abbrev pub front : List ℕ
   front = header_in docs 2 ++ directory 0 docs
 

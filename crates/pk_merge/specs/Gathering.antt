@@ -2,12 +2,13 @@
 use Rattle.std.specs.Prelude.{◌≡◌, ℕ, ◌<◌, List, [], ◌∷◌, ◌++◌, Option, Result, Ok, Err}
 use Rattle.std.specs.Global.{Vec}
 use Rattle.std.specs.List.Sorted.{IsStrictlyIncreasing}
+use Rattle.pk_model.specs.Limits.{max_segment_bytes}
 use Rattle.pk_merge.specs.declared.fault.MergeFault.{MergeFault}
 use Rattle.pk_merge.specs.declared.fault.MergeFault.TheVariants.{TooLarge, Damaged, Disk, Memory, NotWritten}
 use Rattle.pk_merge.specs.declared.gathered.Gathered.{Gathered}
 use Rattle.pk_merge.specs.Merging.{IsMerged, MergeFails}
 use Rattle.pk_model.specs.Collection.{Doc, numbers_of}
-use Rattle.pk_segment.specs.Spelling.{docs_of, longest, segment_length}
+use Rattle.pk_segment.specs.Spelling.{docs_of, segment_length}
 use Rattle.pk_state.specs.Committed.{live_of}
 
 -- the documents that were gathered
@@ -24,7 +25,7 @@ RiseFrom last docs = IsStrictlyIncreasing (last ∷ numbers_of docs)
 
 -- what fails in memory alone: they would be too many bytes, or memory was refused
 abbrev pub FailsInMemory : List Doc → ℕ → MergeFault → Type 0
-FailsInMemory docs kind TooLarge = longest < segment_length docs kind
+FailsInMemory docs kind TooLarge = max_segment_bytes < segment_length docs kind
 FailsInMemory docs kind Damaged = ⊥
 FailsInMemory docs kind Disk = ⊥
 FailsInMemory docs kind Memory = Unit {0}

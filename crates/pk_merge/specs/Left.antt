@@ -1,5 +1,6 @@
 -- The documents that are left, as far as the inputs were looked at.
 use Rattle.std.specs.Prelude.{◌≡◌, ◌<◌, ◌+◌, ℕ, List, [], ◌∷◌, ◌++◌, Result, Ok, Err}
+use Rattle.pk_model.specs.Limits.{max_segment_bytes}
 use Rattle.pk_merge.specs.declared.fault.MergeFault.{MergeFault}
 use Rattle.pk_merge.specs.declared.fault.MergeFault.TheVariants.{TooLarge, Damaged, Disk, Memory, NotWritten}
 use Rattle.pk_merge.specs.declared.kept.Kept.{Kept}
@@ -8,7 +9,6 @@ use Rattle.pk_merge.specs.Gathering.{RiseFrom}
 use Rattle.pk_merge.specs.Keeping.{AreKept}
 use Rattle.pk_merge.specs.Merging.{MergeFails}
 use Rattle.pk_model.specs.Collection.{Doc}
-use Rattle.pk_segment.specs.Spelling.{longest}
 
 -- the documents that are kept
 abbrev pub kept_in : Left → List Kept
@@ -18,7 +18,7 @@ kept_in l = l.documents.items
 -- would be too many bytes, or memory was refused
 abbrev pub KeepsOneAs : {T : Type 0} → List Kept → ℕ → Kept → Left → Result T MergeFault → Type 0
 KeepsOneAs ks bytes k new (Ok u) = kept_in new ≡ ks ++ k ∷ []
-KeepsOneAs ks bytes k new (Err TooLarge) = longest < bytes + 12 + k.len
+KeepsOneAs ks bytes k new (Err TooLarge) = max_segment_bytes < bytes + 12 + k.len
 KeepsOneAs ks bytes k new (Err Damaged) = ⊥
 KeepsOneAs ks bytes k new (Err Disk) = ⊥
 KeepsOneAs ks bytes k new (Err Memory) = Unit {0}

@@ -1,6 +1,7 @@
 -- What the inputs of a merge spell, and what a merge answers.
 use Rattle.std.specs.Prelude.{◌≡◌, ◌≤◌, ◌<◌, ℕ, List, [], Option, None, Some, Result, Ok, Err, OnOk, IsErrOf}
 use Rattle.std.specs.Global.{Vec}
+use Rattle.pk_model.specs.Limits.{max_segment_bytes}
 use Rattle.pk_merge.specs.declared.fault.MergeFault.{MergeFault}
 use Rattle.pk_merge.specs.declared.fault.MergeFault.TheVariants.{TooLarge, Damaged, Disk, Memory, NotWritten}
 use Rattle.pk_model.specs.Collection.{Doc}
@@ -11,7 +12,7 @@ use Rattle.pk_segment.specs.declared.building.BuildFault.{BuildFault}
 use Rattle.pk_segment.specs.declared.building.BuildFault.TheVariants as building
 use Rattle.pk_segment.specs.declared.fault.ReadFault.{ReadFault}
 use Rattle.pk_segment.specs.declared.fault.ReadFault.TheVariants as reading
-use Rattle.pk_segment.specs.Spelling.{SegmentSpells, longest, segment_length}
+use Rattle.pk_segment.specs.Spelling.{SegmentSpells, segment_length}
 
 -- what a fault of a reader means to a merge
 abbrev pub merge_of : ReadFault → MergeFault
@@ -37,7 +38,7 @@ IsMerged docs kind (Some bytes) = SegmentSpells bytes.items docs kind
 
 -- too large is what passes the longest segment, and the device and memory may fail
 abbrev pub MergeFails : List Doc → ℕ → MergeFault → Type 0
-MergeFails docs kind TooLarge = longest < segment_length docs kind
+MergeFails docs kind TooLarge = max_segment_bytes < segment_length docs kind
 MergeFails docs kind Damaged = ⊥
 MergeFails docs kind Disk = Unit {0}
 MergeFails docs kind Memory = Unit {0}

@@ -1,5 +1,6 @@
 -- A merge that is prepared.
 use Rattle.std.specs.Prelude.{◌≡◌, ◌≤◌, ◌+◌, ◌*◌, ℕ, List, [], ◌++◌, All, Option, Some, None, Result, Ok, Err}
+use Rattle.pk_model.specs.Limits.{max_segment_bytes}
 use Rattle.pk_join.specs.declared.input.MergeInput.{MergeInput}
 use Rattle.pk_join.specs.Inputs.{LiesInside}
 use Rattle.pk_merge.specs.declared.fault.MergeFault.{MergeFault}
@@ -12,7 +13,7 @@ use Rattle.pk_model.specs.Collection.{Doc}
 use Rattle.pk_segment.specs.Indexed.{dictionary}
 use Rattle.pk_segment.specs.declared.segment.Segment.{Segment}
 use Rattle.pk_segment.specs.Opened.{IsSegmentOf}
-use Rattle.pk_segment.specs.Spelling.{AreDocuments, directory, header_in, longest, segment_length}
+use Rattle.pk_segment.specs.Spelling.{AreDocuments, directory, header_in, segment_length}
 use Rattle.pk_state.specs.Committed.{Stored, live_in}
 
 -- What is prepared is the merge of these inputs, on a disk of these bytes.
@@ -24,7 +25,7 @@ pub record IsPrepared (bytes : List ℕ) (inputs : List MergeInput) (stored : Li
   pub dictionary_is : p.dictionary.items ≡ dictionary (live_in stored)
   pub front_is : p.front.items ≡ header_in (live_in stored) 2 ++ directory 0 (live_in stored)
   pub size_is : p.size ≡ segment_length (live_in stored) 2
-  pub fits : p.size ≤ longest
+  pub fits : p.size ≤ max_segment_bytes
 
 -- the open segment of these documents
 abbrev pub OpensAsMerged : List Doc → Option Segment → Type 0

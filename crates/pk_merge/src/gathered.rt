@@ -4,7 +4,8 @@ ghost use Rattle.std.specs.Prelude.{◌≡◌, ◌≤◌, ◌<◌, [], All};
 ghost use Rattle.std.specs.List.Sorted.{IsStrictlyIncreasing};
 ghost use Rattle.pk_model.specs.Collection.{numbers_of};
 ghost use Rattle.pk_model.specs.Views.{doc_of};
-ghost use Rattle.pk_segment.specs.Spelling.{IsKind, docs_of, longest, segment_length};
+ghost use Rattle.pk_model.specs.Limits.{max_segment_bytes};
+ghost use Rattle.pk_segment.specs.Spelling.{IsKind, docs_of, segment_length};
 
 use crate::fault::MergeFault;
 use pk_model::Document;
@@ -24,7 +25,7 @@ pub(crate) struct Gathered {
     ghost rising: { IsStrictlyIncreasing (numbers_of (docs_of documents.items)) },
     ghost each: { All (λ d. (1 ≤ d.number.0) × (d.number.0 ≤ last)) documents.items },
     ghost size: { bytes ≡ segment_length (docs_of documents.items) 1 },
-    ghost fits: { bytes ≤ longest },
+    ghost fits: { bytes ≤ max_segment_bytes },
 }
 
 impl Gathered {

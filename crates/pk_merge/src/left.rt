@@ -17,9 +17,9 @@ ghost use Rattle.std.specs.Prelude.{
   IfErr,
   OnOk,
 };
+ghost use Rattle.pk_model.specs.Limits.{max_segment_bytes};
 ghost use Rattle.pk_merge.specs.Keeping.{EndBy, kept_bytes};
 ghost use Rattle.pk_model.specs.Collection.{Doc};
-ghost use Rattle.pk_segment.specs.Spelling.{longest};
 
 use crate::fault::MergeFault;
 use crate::kept::Kept;
@@ -49,7 +49,7 @@ pub(crate) struct Left {
     // How long header, directory and texts of their segment are.
     bytes: u64,
     ghost size: { bytes ≡ 24 + 12 * length documents.items + kept_bytes documents.items },
-    ghost fits: { bytes ≤ longest },
+    ghost fits: { bytes ≤ max_segment_bytes },
     ghost inside: { All (EndBy disk_bytes) documents.items },
 }
 
@@ -78,7 +78,7 @@ impl Left {
     pub(crate) fn bytes(&self) -> u32
         ensures value { result
             ≡ 24 + 12 * length (kept_in self.now) + kept_bytes (kept_in self.now) }
-        ensures fits { result ≤ longest }
+        ensures fits { result ≤ max_segment_bytes }
     {
         self.bytes as u32
     }

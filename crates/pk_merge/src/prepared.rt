@@ -1,9 +1,9 @@
 //! A merge that is prepared: all that it needs to be written, and its memory.
 
 ghost use Rattle.std.specs.Prelude.{◌≤◌, ◌<◌, ◌^◌, length, All};
+ghost use Rattle.pk_model.specs.Limits.{max_segment_bytes};
 ghost use Rattle.pk_merge.specs.Keeping.{EndBy};
 ghost use Rattle.pk_merge.specs.declared.texts.TheConstants.{SPAN_BYTES};
-ghost use Rattle.pk_segment.specs.Spelling.{longest};
 
 use crate::kept::Kept;
 use crate::lists::Lists;
@@ -35,7 +35,7 @@ pub struct Prepared {
     ghost inside: { All (EndBy disk_bytes) documents.items },
     ghost short: { length front.items < 2 ^ 32 },
     ghost least: { 1 ≤ size },
-    ghost most: { size ≤ longest },
+    ghost most: { size ≤ max_segment_bytes },
 }
 
 impl Prepared {
@@ -48,7 +48,7 @@ impl Prepared {
     /// How many bytes the segment of kind 2 of the documents that are left has.
     pub fn size(&self) -> u32
         ensures value { result ≡ self.now.size }
-        ensures sized { (1 ≤ result) × (result ≤ longest) }
+        ensures sized { (1 ≤ result) × (result ≤ max_segment_bytes) }
         ensures long { (bytes : List ℕ) (inputs : List MergeInput) (stored : List Stored)
             → IsPrepared bytes inputs stored self.now
             → result ≡ segment_length (live_in stored) 2 }

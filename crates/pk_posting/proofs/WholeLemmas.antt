@@ -8,6 +8,7 @@ use Rattle.pk_posting.specs.declared.decoding.DecodeFault.{DecodeFault}
 use Rattle.pk_posting.specs.declared.decoding.DecodeFault.TheVariants.{Damaged, Memory}
 use Rattle.pk_posting.specs.Tails.{Climbs, IsTail, TailRead, NoTail, NoList}
 use Rattle.pk_posting.proofs.ReadingLemmas.{grown}
+use Rattle.pk_posting.specs.Limits.{longest_list}
 
 climbs_at : (before : ℕ) (xs : List ℕ) → Climbs before xs → (i : ℕ) → i < length xs → (slice_index (before ∷ xs) i < slice_index xs i) × (slice_index xs i < 2 ^ 32)
 climbs_at before [] c i h = absurd (omega arith)
@@ -44,7 +45,7 @@ before_tail out xs n (suc i) l =
     let d : n + suc i - 1 - n ≡ i = omega arith in
     shifted 0 (out ++ xs) (n + suc i) (omega arith) ∙ get_or-append_right out xs n (n + suc i - 1) 0 l (omega arith) ∙ ap (slice_index xs) d
 
-pub whole : (bytes : List ℕ) (count B : ℕ) (out before : List ℕ) (at widths last : ℕ) (all : List ℕ) → 4 ≤ length bytes → word bytes 0 ≡ count → count ≤ 134217728
+pub whole : (bytes : List ℕ) (count B : ℕ) (out before : List ℕ) (at widths last : ℕ) (all : List ℕ) → 4 ≤ length bytes → word bytes 0 ≡ count → count ≤ longest_list
     → B ≡ count / 128 → ReadTo bytes B B out before at widths → last ≡ slice_index (0 ∷ out) (length out)
     → (t : TailRead bytes at last (count % 128) out all) → Spells bytes all
 whole bytes count B out before at widths last all room word_is short b r l t =
@@ -139,7 +140,7 @@ only_list bytes count B out before at widths last all word_is b r l t xs s =
     let both = tail_of bytes count B out before at widths last word_is b r l xs s in
     sym (take-append-drop (128 * B) xs) ∙ ap₂ (λ a c. a ++ c) both.0 (t.only _ both.1) ∙ sym t.out_is
 
-pub at_least_head : (bytes xs : List ℕ) → Spells bytes xs → (4 + 20 * (length xs / 128) ≤ length bytes) × (word bytes 0 ≡ length xs) × (length xs ≤ 134217728)
+pub at_least_head : (bytes xs : List ℕ) → Spells bytes xs → (4 + 20 * (length xs / 128) ≤ length bytes) × (word bytes 0 ≡ length xs) × (length xs ≤ longest_list)
 at_least_head bytes xs s = (let w = s.whole in omega arith, s.count, s.posting.short)
 
 pub no_list : (bytes : List ℕ) (count B : ℕ) (out before : List ℕ) (at widths last : ℕ) → word bytes 0 ≡ count

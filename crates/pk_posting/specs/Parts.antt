@@ -5,6 +5,7 @@ use Rattle.pk_posting.specs.declared.fields.ListPlace.{ListPlace}
 use Rattle.pk_posting.specs.declared.fields.Shape.{Shape}
 use Rattle.pk_posting.specs.declared.packed.PackedPlace.{PackedPlace}
 use Rattle.pk_posting.specs.Posting.{Spells, base, offset, width, seed, tail_place, word}
+use Rattle.pk_posting.specs.Limits.{longest_list}
 
 -- the list's own bytes
 unfoldable pub bytes_at : List ℕ → ListPlace → List ℕ
@@ -17,7 +18,7 @@ pub record LiesIn (place : ListPlace) (size : ℕ) : Type 0 where
 
 -- the parts of a list lie within its bytes
 pub record Fits (shape : Shape) (place : ListPlace) : Type 0 where
-  pub count : shape.count ≤ 134217728
+  pub count : shape.count ≤ longest_list
   pub blocks : shape.blocks ≡ shape.count / 128
   pub head : base shape.blocks ≤ shape.tail
   pub inside : shape.tail ≤ place.bytes

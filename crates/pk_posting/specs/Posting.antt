@@ -4,6 +4,7 @@ use Rattle.std.specs.Prelude.{ℕ, List, [], length, take, drop, slice_index, ze
 use Rattle.std.specs.Simd.Lanes.{zip2}
 use Rattle.pk_lanes.specs.Packed.{Packed}
 use Rattle.pk_vbyte.specs.VariableByte.{vbyte}
+use Rattle.pk_posting.specs.Limits.{longest_list}
 
 -- n items from an index on
 abbrev pub part : ℕ → ℕ → List ℕ → List ℕ
@@ -67,7 +68,7 @@ tail_bytes before (x ∷ xs) = vbyte (x - before) ++ tail_bytes x xs
 pub record IsPosting (xs : List ℕ) : Type 0 where
   pub rising : (i : ℕ) → i < length xs → slice_index (0 ∷ xs) i < slice_index xs i
   pub below : (i : ℕ) → i < length xs → slice_index xs i < 2 ^ 32
-  pub short : length xs ≤ 134217728
+  pub short : length xs ≤ longest_list
 
 -- the entry k and the block k, of B, are those of the list
 pub record BlockOf (bytes : List ℕ) (B k : ℕ) (xs : List ℕ) : Type 0 where

@@ -6,6 +6,7 @@ use Rattle.pk_posting.specs.declared.decoding.DecodeFault.TheVariants.{Damaged, 
 use Rattle.pk_lanes.specs.Packed.{Packed}
 use Rattle.pk_lanes.specs.Differences.{Restores}
 use Rattle.pk_posting.specs.Posting.{part, word, IsRightBlock, BlockOf, Spells, base, offset, width, total, seed}
+use Rattle.pk_posting.specs.Limits.{longest_list}
 
 -- where block k begins, and the widths of its metablock
 pub record Begun (bytes : List ℕ) (B k old_at old_widths at widths : ℕ) : Type 0 where
@@ -62,7 +63,7 @@ least_bytes count = 4 + 68 * (count / 128) + 16 * ((count / 128 + 15) / 16) + co
 
 -- the bytes have room for the numbers that they count
 pub record HaveRoom (bytes : List ℕ) : Type 0 where
-  pub most : word bytes 0 ≤ 134217728
+  pub most : word bytes 0 ≤ longest_list
   pub long : least_bytes (word bytes 0) ≤ length bytes
 
 -- Damaged says that no list of B blocks is spelled

@@ -9,8 +9,9 @@ ghost use Rattle.pk_posting.specs.Reading.{Begun, Breaks, Gives, HaveRoom, IsRes
 ghost use Rattle.pk_posting.specs.Reading.{NotSpelled, ReadTo};
 ghost use Rattle.pk_posting.specs.Tails.{TailRead, NoTail, NoList};
 ghost use Rattle.pk_posting.specs.declared.decoding.DecodeFault.TheVariants.{Memory};
+ghost use Rattle.pk_posting.specs.Limits.{longest_list};
 
-use crate::fields::{LONGEST, last_number, word_at};
+use crate::fields::{LONGEST_LIST, last_number, word_at};
 use pk_lanes::{ascending, unpack_sums};
 use pk_vbyte::take;
 use std::alloc::{AllocError, AllocFailed, Global};
@@ -57,7 +58,7 @@ pub fn decode(alloc: Global, bytes: &[u8]) -> Result<Vec<u32>, DecodeFault>
         return Err(DecodeFault::Damaged);
     }
     let count = word_at(bytes, 0) as usize;
-    if count > LONGEST as usize {
+    if count > LONGEST_LIST as usize {
         return Err(DecodeFault::Damaged);
     }
     let blocks = count / 128;
@@ -74,7 +75,7 @@ pub fn decode(alloc: Global, bytes: &[u8]) -> Result<Vec<u32>, DecodeFault>
 // How many bytes a list of so many blocks, and so many numbers in its tail, takes at least. A width
 // is at least 3, since numbers that rise differ by at least 4 over four numbers.
 fn least_length(blocks: usize, left: usize) -> usize
-    requires blocks { blocks ≤ 1048576 }
+    requires blocks { blocks ≤ longest_list / 128 }
     requires left { left < 128 }
     ensures { result ≡ 4 + 68 * blocks + 16 * ((blocks + 15) / 16) + left }
 {
@@ -83,7 +84,7 @@ fn least_length(blocks: usize, left: usize) -> usize
 
 // Puts the numbers of the whole blocks into `out`, and answers where the tail begins.
 fn read_blocks(bytes: &[u8], blocks: usize, out: &mut Vec<u32>) -> Result<usize, DecodeFault>
-    requires most { blocks ≤ 1048576 }
+    requires most { blocks ≤ longest_list / 128 }
     requires head { base blocks ≤ length bytes.now }
     requires none { out.old.items ≡ [] }
     requires memory { 128 * blocks ≤ vec_capacity out.old }
@@ -176,7 +177,7 @@ fn before(seed: &[u32; 4], xs: &[u32; 128], i: usize) -> u32
 // Where the block k begins and where the widths of its metablock are.
 fn begin(bytes: &[u8], blocks: usize, k: usize, at: usize, widths: usize) -> Option<(usize, usize)>
     requires one { k < blocks }
-    requires most { blocks ≤ 1048576 }
+    requires most { blocks ≤ longest_list / 128 }
     requires offset { at ≤ length bytes.now }
     requires room { 0 < k % 16 → widths + 16 ≤ length bytes.now }
     ensures { MatchOption result (Breaks bytes.now blocks k at)
@@ -221,7 +222,7 @@ fn block_of(
     xs: &mut [u32; 128],
 ) -> bool
     requires one { k < blocks }
-    requires most { blocks ≤ 1048576 }
+    requires most { blocks ≤ longest_list / 128 }
     requires head { base blocks ≤ length bytes.now }
     requires offset { at ≤ length bytes.now }
     requires room { widths + 16 ≤ length bytes.now }
@@ -250,7 +251,7 @@ fn is_right(
     xs: &[u32; 128],
 ) -> bool
     requires one { k < blocks }
-    requires most { blocks ≤ 1048576 }
+    requires most { blocks ≤ longest_list / 128 }
     requires head { base blocks ≤ length bytes.now }
     requires room { widths + 16 ≤ length bytes.now }
     requires taken { IsTaken bytes.now blocks k at widths seed.now xs.now }

@@ -9,6 +9,7 @@ ghost use Rattle.pk_posting.specs.Spelling.{spelling, widths_of, width_at, diffe
 ghost use Rattle.pk_posting.specs.Spelling.{offset_of, packed_bytes, entry, width_byte, width_row};
 ghost use Rattle.pk_posting.specs.Spelling.{joined, body_of};
 ghost use Rattle.pk_posting.specs.Tails.{Climbs};
+ghost use Rattle.pk_posting.specs.Limits.{longest_list};
 
 use crate::fields::last_number;
 use pk_lanes::{differ, pack, width};
@@ -68,7 +69,7 @@ fn tail_at(xs: &[u32]) -> (&[u32], u32)
 fn total_width(xs: &[u32]) -> u32
     requires { IsPosting xs.now }
     ensures sum { result ≡ widths_of (length xs.now / 128) xs.now }
-    ensures most { result ≤ 33554432 }
+    ensures most { result ≤ 32 * (longest_list / 128) }
 {
     let mut total = 0;
     let mut differences = [0u32; 128];

@@ -3,9 +3,10 @@
 ghost use Rattle.std.specs.Prelude.{◌≡◌, ◌+◌, ◌*◌, ◌/◌, ◌<◌, ◌≤◌, ◌∷◌};
 ghost use Rattle.std.specs.Prelude.{ℕ, List, length, slice_index, Some, IfSome};
 ghost use Rattle.pk_posting.specs.Posting.{Spells, tail_place, word};
+ghost use Rattle.pk_posting.specs.Limits.{longest_list};
 
 /// How many numbers a list has at most: 2^27.
-pub const LONGEST: u32 = 134_217_728;
+pub const LONGEST_LIST: u32 = 134_217_728;
 
 /// Where a list's bytes stand, counted from the start of what they stand in.
 #[derive(Clone, Copy, Debug, PartialEq, Eq)]
@@ -53,7 +54,7 @@ impl Shape {
             return None;
         }
         let count = word_at(bytes, 0);
-        if count > LONGEST {
+        if count > LONGEST_LIST {
             return None;
         }
         let blocks = count / 128;
@@ -87,7 +88,7 @@ pub fn skip_of(bytes: &[u8]) -> Skip
 
 // Where the packed blocks end: after the last of them.
 fn tail_of(bytes: &[u8], blocks: usize) -> Option<u32>
-    requires { blocks ≤ 1048576 }
+    requires { blocks ≤ longest_list / 128 }
     ensures spelled { (xs : List ℕ) → Spells bytes.now xs → length xs / 128 ≡ blocks
         → result ≡ Some (tail_place bytes.now blocks) }
     ensures inside { IfSome result (λ tail. tail ≤ length bytes.now) }

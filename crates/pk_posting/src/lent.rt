@@ -1,10 +1,11 @@
 //! Fields of a list that lies in a source.
 
-ghost use Rattle.std.specs.Prelude.{◌≡◌, ◌+◌, ◌*◌, ◌-◌, ◌<◌, ◌≤◌};
+ghost use Rattle.std.specs.Prelude.{◌/◌, ◌≡◌, ◌+◌, ◌*◌, ◌-◌, ◌<◌, ◌≤◌};
 ghost use Rattle.std.specs.Prelude.{ℕ, length, slice_index, IfOk, IfErr, IsOk};
 ghost use Rattle.pk_posting.specs.Posting.{word};
 ghost use Rattle.pk_posting.specs.Parts.{EntryWords, LiesIn, bytes_at};
 ghost use Rattle.pk_posting.specs.Source.{IsRead};
+ghost use Rattle.pk_posting.specs.Limits.{longest_list};
 
 use crate::fields::{ListPlace, word_at};
 use crate::source::{ByteSource, SourceFault};
@@ -59,7 +60,7 @@ pub(crate) fn words_in<S: ByteSource>(
 ) -> Result<[u32; 10], SourceFault>
     requires lies { LiesIn place (length (S.content source.old)) }
     requires order { (from < to) × (to ≤ 10) × (12 ≤ 20 * k + 4 * from) }
-    requires few { k ≤ 1048576 }
+    requires few { k ≤ longest_list / 128 }
     requires inside { 20 * k + 4 * to ≤ place.bytes + 12 }
     ensures value { S.honest → IfOk result
         (EntryWords (bytes_at (S.content source.old) place) k from to) }

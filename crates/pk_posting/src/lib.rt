@@ -40,11 +40,12 @@
 //! last block are 00, and whether each entry's numbers are those of its block, `decode` alone
 //! tells.
 //!
-//! In contracts, `longest_list` (`specs/Limits.antt`) is how many numbers a list has at most,
-//! `Spells` (`specs/Posting.antt`) says field by field that bytes spell a list, `spelling`
-//! (`specs/Spelling.antt`) is those bytes as a function of the list, and `HasShape`
-//! (`specs/Parts.antt`) says that they spell it, with these parts. The blocks are those of Lemire,
-//! Boytsov, Kurz, SIMD compression and the intersection of sorted integers (2016).
+//! In contracts, `longest_list` (`specs/Limits.antt`) is how many numbers a list has at most, and
+//! `asks_for` how often a source is asked for so many bytes. `Spells` (`specs/Posting.antt`) says
+//! field by field that bytes spell a list, `spelling` (`specs/Spelling.antt`) is those bytes as a
+//! function of the list, and `HasShape` (`specs/Parts.antt`) says that they spell it, with these
+//! parts. The blocks are those of Lemire, Boytsov, Kurz, SIMD compression and the intersection of
+//! sorted integers (2016).
 #![tactic(auto)]
 
 mod decoding;
@@ -58,6 +59,6 @@ pub mod source;
 
 pub use decoding::{DecodeFault, decode};
 pub use encoding::{encode, encode_into, length_of};
-pub use fields::{ListPlace, Shape, Skip, skip_of};
+pub use fields::{LONGEST_LIST, ListPlace, Shape, Skip, skip_of};
 pub use parts::{block_in, last_in, tail_in};
 pub use source::{ByteSource, MOST_LENT, SliceSource, SourceFault};

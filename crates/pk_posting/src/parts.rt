@@ -7,8 +7,9 @@ ghost use Rattle.pk_posting.specs.Posting.{Spells, base, block, tail_place, word
 ghost use Rattle.pk_posting.specs.Tails.{Climbs, IsTail};
 ghost use Rattle.pk_posting.specs.Parts.{Fits, HasShape, LiesIn, bytes_at};
 ghost use Rattle.pk_posting.specs.Source.{IsRead};
+ghost use Rattle.pk_posting.specs.Limits.{longest_list};
 
-use crate::fields::{LONGEST, ListPlace, Shape};
+use crate::fields::{LONGEST_LIST, ListPlace, Shape};
 use crate::lent::{byte_in, word_in};
 use crate::packed::{packed_in, unpack_in};
 use crate::source::{ByteSource, SourceFault};
@@ -38,7 +39,7 @@ impl Shape {
             return Err(SourceFault::Damaged);
         }
         let count = word_in(source, place, 0)?;
-        if count > LONGEST {
+        if count > LONGEST_LIST {
             return Err(SourceFault::Damaged);
         }
         let blocks = count / 128;
@@ -143,7 +144,7 @@ fn tail_place_in<S: ByteSource>(
     blocks: u32,
 ) -> Result<u32, SourceFault>
     requires lies { LiesIn place (length (S.content source.old)) }
-    requires most { blocks ≤ 1048576 }
+    requires most { blocks ≤ longest_list / 128 }
     ensures spelled { S.honest → (xs : List ℕ)
         → Spells (bytes_at (S.content source.old) place) xs → length xs / 128 ≡ blocks
         → MatchResult result
@@ -185,7 +186,7 @@ fn number_before<S: ByteSource>(
     blocks: u32,
 ) -> Result<u32, SourceFault>
     requires lies { LiesIn place (length (S.content source.old)) }
-    requires few { blocks ≤ 1048576 }
+    requires few { blocks ≤ longest_list / 128 }
     requires inside { base blocks ≤ place.bytes }
     ensures none { blocks ≡ 0 → IfOk result (λ n. n ≡ 0) }
     ensures some { S.honest → 0 < blocks

@@ -6,6 +6,7 @@ ghost use Rattle.std.proofs.Common.{refl, ◌∙◌};
 ghost use Rattle.std.specs.Borrow.{sem};
 ghost use Rattle.std.specs.Io.BufRead.{Rests};
 ghost use Rattle.pk_posting.specs.Source.{IsAskedOnce};
+ghost use Rattle.pk_posting.specs.Limits.{most_lent};
 
 /// How many bytes a source lends at once, at most.
 pub const MOST_LENT: usize = 4096;
@@ -43,7 +44,7 @@ pub trait ByteSource {
 
     /// Lends the `n` bytes from the place `at` on.
     fn bytes(&mut self, at: u32, n: u32) -> Result<&[u8], SourceFault>
-        requires { n ≤ 4096 }
+        requires { n ≤ most_lent }
         ensures value { honest → IfOk result (λ s. s.now ≡ take n (drop at (content self.old))) }
         ensures lent { IfOk result (λ s. length s.now ≡ n) }
         ensures inside { IsOk result → at + n ≤ length (content self.old) }

@@ -10,6 +10,7 @@ use Rattle.std.proofs.lemmas.List.{length-append, length-map, take_at, drop_at, 
 use Rattle.std.proofs.lemmas.List.Elements.{All-filter, All-get_or, All-map}
 use Rattle.std.proofs.lemmas.Slice.Eq.{bytes_eq-Decides}
 use Rattle.unicode_segmentation.proofs.SegmentsLemmas.{length-filter-le}
+use Rattle.pk_posting.specs.Limits.{longest_list}
 use Rattle.pk_dict.specs.declared.entry.Entry.{Entry}
 use Rattle.pk_dict.specs.Dictionary.{DictSpells, Fits, Item, entry_of, items_with_prefix}
 use Rattle.pk_dict.specs.Dictionary.{terms_of as item_terms}
@@ -40,7 +41,7 @@ pub list_most : (w : List ℕ) (docs : List Doc) → length (list_with w docs) �
 list_most w docs = omega (arith, length-map (filter (is_hit (Term w)) docs) (λ (d : Doc). d.number), length-filter-le (is_hit (Term w)) docs)
 
 -- rising numbers of at least 1 and below 2^32, not too many, have a spelling
-posting_of : (xs : List ℕ) → IsStrictlyIncreasing xs → All (λ (n : ℕ). (1 ≤ n) × (n < 2 ^ 32)) xs → length xs ≤ 134217728 → IsPosting xs
+posting_of : (xs : List ℕ) → IsStrictlyIncreasing xs → All (λ (n : ℕ). (1 ≤ n) × (n < 2 ^ 32)) xs → length xs ≤ longest_list → IsPosting xs
 posting_of xs rise each short = record {
   rising = above;
   below = λ i lt. (All-get_or (λ (n : ℕ). (1 ≤ n) × (n < 2 ^ 32)) xs i 0 lt each).1;
@@ -52,7 +53,7 @@ posting_of xs rise each short = record {
     above (suc i) lt = let k : i + 1 ≡ suc i = omega arith in subst (λ (n : ℕ). slice_index xs i < slice_index xs n) k (rise i (omega (arith, lt)))
 
 -- so has each list of a word
-pub list_posting : (w : List ℕ) (docs : List Doc) → AreDocuments docs → length docs ≤ 134217728 → IsPosting (list_with w docs)
+pub list_posting : (w : List ℕ) (docs : List Doc) → AreDocuments docs → length docs ≤ longest_list → IsPosting (list_with w docs)
 list_posting w docs are few = posting_of (list_with w docs)
     (rising-filter (is_hit (Term w)) docs are.rising)
     (All-map (λ (n : ℕ). (1 ≤ n) × (n < 2 ^ 32)) (λ (d : Doc). d.number) (filter (is_hit (Term w)) docs) (All-filter (is_hit (Term w)) (λ (d : Doc). (1 ≤ d.number) × (d.number < 2 ^ 32)) docs are.each))

@@ -1,6 +1,7 @@
 -- The dictionary and the posting lists of a segment of kind 2 are where its header says.
 use Rattle.std.proofs.Common.{◌≡◌, ℕ, ◌+◌, ◌≤◌, List, length, take, drop, [], Option, Some, None, refl, sym, ap, subst, ◌∙◌, arith}
 use Rattle.std.proofs.lemmas.List.{drop-drop, drop_at, take_all}
+use Rattle.pk_model.specs.Limits.{max_segment_bytes}
 use Rattle.pk_dict.specs.declared.entry.DictPlace.{DictPlace}
 use Rattle.pk_dict.specs.declared.entry.EntriesFault.{EntriesFault}
 use Rattle.pk_dict.specs.declared.entry.EntriesFault.TheVariants as entries
@@ -37,7 +38,7 @@ pub size_of : (bytes : List ℕ) (docs : List Doc) → IndexSpells bytes docs
 size_of bytes docs is = is.front.long ∙ ap length is.front.spelled.same ∙ length_parts docs 2
 
 pub most : (bytes : List ℕ) (docs : List Doc) → IndexSpells bytes docs
-    → postings_at docs + length (postings docs) + length (dictionary docs) ≤ 1073741824
+    → postings_at docs + length (postings docs) + length (dictionary docs) ≤ max_segment_bytes
 most bytes docs is = omega (arith, is.front.spelled.fits, parts_of docs 2)
 
 -- what the header says of it

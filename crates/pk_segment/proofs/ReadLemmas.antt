@@ -9,7 +9,8 @@ use Rattle.std.proofs.lemmas.Str.{IsUtf8-string_bytes}
 use Rattle.pk_model.specs.declared.documents.Document.{Document}
 use Rattle.pk_model.specs.Collection.{Doc, numbers_of, is_live}
 use Rattle.pk_model.specs.Views.{doc_of}
-use Rattle.pk_segment.specs.Spelling.{texts, segment_length, docs_of, longest, AreDocuments}
+use Rattle.pk_model.specs.Limits.{max_segment_bytes}
+use Rattle.pk_segment.specs.Spelling.{texts, segment_length, docs_of, AreDocuments}
 use Rattle.std.proofs.Math.Nat.{pow-suc}
 use Rattle.std.specs.Prelude.{Option, is_some, slice_get}
 use Rattle.pk_posting.specs.declared.source.SourceFault.{SourceFault}
@@ -26,7 +27,7 @@ pub size_all : (ds : List Document) → 24 + 12 * length ds + length (texts (doc
 size_all ds = let n = length-map ds doc_of in omega (arith, parts_of (docs_of ds) 1, n)
 
 -- so many documents are too many
-pub size_large : (ds : List Document) → 89478485 < length ds → longest < segment_length (docs_of ds) 1
+pub size_large : (ds : List Document) → 89478485 < length ds → max_segment_bytes < segment_length (docs_of ds) 1
 size_large ds h = omega (arith, size_all ds)
 
 -- documents of the code whose numbers rise from 1 on are such as a segment may hold

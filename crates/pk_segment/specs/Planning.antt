@@ -1,6 +1,7 @@
 -- A segment of kind 2 before a byte of it is written.
 use Rattle.std.specs.Prelude.{◌≡◌, ◌≤◌, ◌+◌, ◌*◌, ℕ, List, length, All, Result, Ok, Err}
 use Rattle.std.specs.Option.{ForSome}
+use Rattle.pk_model.specs.Limits.{max_segment_bytes}
 use Rattle.pk_dict.specs.Dictionary.{Item}
 use Rattle.pk_dict.specs.Writer.{HasAdded}
 use Rattle.pk_model.specs.Collection.{Doc}
@@ -12,7 +13,7 @@ use Rattle.pk_segment.specs.declared.index_writer.IndexWriter.{IndexWriter}
 use Rattle.pk_segment.specs.declared.indexing.IndexPlan.{IndexPlan}
 use Rattle.pk_segment.specs.Building.{BuildFails}
 use Rattle.pk_segment.specs.Indexed.{dictionary, items_at, list_with, lists_of, postings}
-use Rattle.pk_segment.specs.Spelling.{AreDocuments, longest, segment_length, texts}
+use Rattle.pk_segment.specs.Spelling.{AreDocuments, segment_length, texts}
 
 -- how many bytes a segment has by its header
 abbrev pub size_in : Header → ℕ
@@ -29,7 +30,7 @@ pub record IsHeaderOf (docs : List Doc) (h : Header) : Type 0 where
 
 -- the header of the segment of kind 2 of the documents, or that would be too long
 abbrev pub HeadedAs : List Doc → Result Header BuildFault → Type 0
-HeadedAs docs (Ok h) = IsHeaderOf docs h × (segment_length docs 2 ≤ longest)
+HeadedAs docs (Ok h) = IsHeaderOf docs h × (segment_length docs 2 ≤ max_segment_bytes)
 HeadedAs docs (Err fault) = BuildFails docs 2 fault
 
 -- These words of the documents were added, each with its list: their entries, how long the lists
@@ -63,7 +64,7 @@ pub record IsIndexPlan (docs : List Doc) (p : IndexPlan) : Type 0 where
   pub are : AreDocuments docs
   pub header_is : IsHeaderOf docs p.header
   pub words : HasWords p.index (terms_of docs) docs
-  pub fits : segment_length docs 2 ≤ longest
+  pub fits : segment_length docs 2 ≤ max_segment_bytes
 
 -- it, or why there is none
 abbrev pub PlansIndexAs : List Doc → Result IndexPlan BuildFault → Type 0

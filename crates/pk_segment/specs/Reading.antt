@@ -82,10 +82,6 @@ abbrev pub DocumentAs : List Doc → ℕ → Result Document ReadFault → Type 
 DocumentAs docs i (Ok document) = slice_get docs i ≡ Some (doc_of document)
 DocumentAs docs i (Err fault) = IsNoDamage fault
 
--- the asks for at most 4,096 bytes each that so many bytes take
-abbrev pub asks_for : ℕ → ℕ
-asks_for n = (n + 4095) / 4096
-
 -- the bytes of a text that was found
 abbrev pub found_bytes : Option (String Global) → ℕ
 found_bytes None = 0

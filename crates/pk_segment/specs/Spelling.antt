@@ -28,11 +28,8 @@ use Rattle.pk_model.specs.declared.documents.Document.{Document}
 use Rattle.pk_model.specs.Collection.{Doc, numbers_of}
 use Rattle.pk_model.specs.Terms.{terms_of}
 use Rattle.pk_model.specs.Views.{doc_of}
+use Rattle.pk_model.specs.Limits.{max_segment_bytes}
 use Rattle.pk_segment.specs.Indexed.{dictionary, postings}
-
--- the longest segment, in bytes
-abbrev pub longest : ℕ
-longest = 1073741824
 
 -- the bytes of a number of 32 bits, lowest first
 unfoldable pub le32 : ℕ → List ℕ
@@ -104,7 +101,7 @@ IsKind kind = (kind ≡ 1) ⊎ (kind ≡ 2)
 pub record SegmentSpells (bytes : List ℕ) (docs : List Doc) (kind : ℕ) : Type 0 where
   pub is_kind : IsKind kind
   pub are : AreDocuments docs
-  pub fits : segment_length docs kind ≤ longest
+  pub fits : segment_length docs kind ≤ max_segment_bytes
   pub same : bytes ≡ segment_spelling docs kind
 
 -- The bytes have the length, the header and the directory of the segment of a kind of the

@@ -16,13 +16,14 @@ ghost use Rattle.std.specs.Prelude.{
   OnOk,
 };
 ghost use Rattle.std.specs.Option.{ForSome};
+ghost use Rattle.pk_model.specs.Limits.{max_segment_bytes};
 ghost use Rattle.pk_dict.specs.Writer.{HasAdded};
 ghost use Rattle.pk_model.specs.Collection.{Doc};
 ghost use Rattle.pk_model.specs.Terms.{terms_of};
 ghost use Rattle.pk_posting.specs.Posting.{IsPosting};
 ghost use Rattle.pk_posting.specs.Spelling.{spelling as list_spelling};
 ghost use Rattle.pk_segment.specs.Indexed.{dictionary, items_of, list_with};
-ghost use Rattle.pk_segment.specs.Spelling.{longest, segment_length};
+ghost use Rattle.pk_segment.specs.Spelling.{segment_length};
 
 use crate::building::BuildFault;
 use crate::header::Header;
@@ -48,7 +49,7 @@ pub struct IndexWriter {
     longest_list: u32,
     // How many words there are.
     terms: u32,
-    ghost short: { postings ≤ longest },
+    ghost short: { postings ≤ max_segment_bytes },
     ghost few: { ForSome lists (λ v. length v.items ≤ most_kept) },
 }
 
@@ -138,7 +139,7 @@ impl IndexWriter {
         requires entries { HasEntries self.now }
         ensures header { (docs : List Doc) → HasWords self.now (terms_of docs) docs
             → count ≡ length docs → front ≡ segment_length docs 1 → HeadedAs docs result }
-        ensures sized { IfOk result (λ h. (front ≤ size_in h) × (size_in h ≤ longest)) }
+        ensures sized { IfOk result (λ h. (front ≤ size_in h) × (size_in h ≤ max_segment_bytes)) }
         ensures cause { IfErr result (λ f. f ≡ BuildFault.TooLarge) }
     {
         let words = self.dictionary.size();

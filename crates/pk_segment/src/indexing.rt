@@ -2,17 +2,12 @@
 
 ghost use Rattle.std.specs.Prelude.{◌≡◌, ◌≤◌, ◌<◌, ◌^◌, List, All, length, IfOk, IsOk};
 ghost use Rattle.std.specs.List.Sorted.{IsStrictlyIncreasing};
+ghost use Rattle.pk_model.specs.Limits.{max_segment_bytes};
 ghost use Rattle.pk_index.specs.Index.{Keeps};
 ghost use Rattle.pk_index.specs.Terms.{AreRows};
 ghost use Rattle.pk_model.specs.Collection.{Doc, numbers_of};
 ghost use Rattle.pk_segment.specs.Planning.{IndexesAs, IsIndexPlan, PlansIndexAs, size_in};
-ghost use Rattle.pk_segment.specs.Spelling.{
-  AreDocuments,
-  SegmentSpells,
-  docs_of,
-  longest,
-  segment_length,
-};
+ghost use Rattle.pk_segment.specs.Spelling.{AreDocuments, SegmentSpells, docs_of, segment_length};
 
 use crate::building::{BuildFault, number_of, plain_size, put_front};
 use crate::header::Header;
@@ -64,7 +59,7 @@ fn index_rows(
     list: &mut [u32],
 ) -> Result<IndexWriter, BuildFault>
     requires are { AreDocuments (docs_of documents.now) }
-    requires fits { segment_length (docs_of documents.now) 1 ≤ longest }
+    requires fits { segment_length (docs_of documents.now) 1 ≤ max_segment_bytes }
     requires live { live.now ≡ numbers_of (docs_of documents.now) }
     requires rows { AreRows rows.now (docs_of documents.now) }
     requires room { length live.now ≤ length list.old }
@@ -102,9 +97,9 @@ impl IndexPlan {
 
     /// How many bytes the segment has.
     pub(crate) fn size(&self) -> u32
-        requires { size_in self.now.header ≤ longest }
+        requires { size_in self.now.header ≤ max_segment_bytes }
         ensures { (docs : List Doc) → IsIndexPlan docs self.now
-            → (result ≡ segment_length docs 2) × (segment_length docs 2 ≤ longest) }
+            → (result ≡ segment_length docs 2) × (segment_length docs 2 ≤ max_segment_bytes) }
     {
         self.header.size()
     }

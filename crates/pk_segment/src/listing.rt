@@ -1,9 +1,9 @@
 //! What a segment of kind 2 says of its words: the dictionary, and where the posting lists are.
 
 ghost use Rattle.std.specs.Prelude.{◌≤◌, ◌+◌, ◌*◌, List, length};
-ghost use Rattle.pk_dict.specs.Source.{stretches_of};
 ghost use Rattle.pk_model.specs.Collection.{Doc};
 ghost use Rattle.pk_posting.specs.Source.{IsRead};
+ghost use Rattle.pk_posting.specs.Limits.{asks_for};
 ghost use Rattle.pk_segment.specs.Listing.{BegunAs, ListedAs, PlacedAs, TermsAs};
 ghost use Rattle.pk_segment.specs.OnlyRead.{ReadsSource};
 ghost use Rattle.pk_segment.specs.Opened.{IsSegmentOf};
@@ -50,7 +50,7 @@ impl Segment {
             → IsSegmentOf self.now docs → ListedAs docs word.now result }
         ensures left { ReadsSource S.ByteSource CountsReads result source.old source.new }
         ensures asked { S.asked source.new
-            ≤ S.asked source.old + 1 + 44 * (6 + stretches_of (length word.now)) }
+            ≤ S.asked source.old + 1 + 44 * (6 + asks_for (length word.now)) }
     {
         let place = self.dictionary(source)?;
         let mut long = [0; MOST_LENT];

@@ -12,8 +12,9 @@ ghost use Rattle.std.specs.Prelude.{
   IfOk,
   IsErrOf,
 };
+ghost use Rattle.pk_posting.specs.Limits.{asks_for};
 ghost use Rattle.pk_segment.specs.OnlyRead.{ReadsSource};
-ghost use Rattle.pk_segment.specs.Reading.{CountsReads, asks_for};
+ghost use Rattle.pk_segment.specs.Reading.{CountsReads};
 
 use crate::fault::ReadFault;
 use pk_posting::{ByteSource, MOST_LENT};

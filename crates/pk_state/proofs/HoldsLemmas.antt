@@ -18,7 +18,7 @@ use Rattle.pk_manifest.specs.declared.half.Half.TheVariants.{A, B}
 use Rattle.pk_manifest.specs.declared.manifest.Part.{Part as Entry}
 use Rattle.pk_manifest.specs.Bodies.{body_of, generation_of, half_in_force, half_of, has_open_gate, other}
 use Rattle.pk_manifest.specs.Current.{HasBody, IsTabled, units_of_disk}
-use Rattle.pk_manifest.specs.Sound.{IsBody, dead_extents, extents_of, is_dead, is_extent, is_part, named, table_extents}
+use Rattle.pk_manifest.specs.Sound.{IsBody, dead_extents, extents_of, is_dead, is_extent, is_part, named, segment_limit, table_extents}
 use Rattle.pk_manifest.specs.Spelling.{Body, table_of, table_size, spelling as body_spelling}
 use Rattle.pk_manifest.proofs.Fields.{length_table, one_body_in_force, table_long}
 use Rattle.pk_manifest.proofs.Sound.{says_sound}
@@ -68,8 +68,8 @@ units_room size = omega (arith, min-le_left (size / 512) 2147483648, mul-div-le 
 -- the units of a sound extent are those that its bytes take
 fitted_extent : (units least : ℕ) (e : Extent) → is_extent units least e ≡ true → IsFitted e × (lies_within units e ≡ true)
 fitted_extent units least e h =
-    let c = and_parts (leb least e.bytes && leb e.bytes 1073741824 && eqb e.units (units_for e.bytes)) (lies_within units e) h in
-    let d = and_parts (leb least e.bytes && leb e.bytes 1073741824) (eqb e.units (units_for e.bytes)) c.0 in
+    let c = and_parts (leb least e.bytes && leb e.bytes segment_limit && eqb e.units (units_for e.bytes)) (lies_within units e) h in
+    let d = and_parts (leb least e.bytes && leb e.bytes segment_limit) (eqb e.units (units_for e.bytes)) c.0 in
     (eqb-true _ _ d.1, c.1)
 
 entry_parts : (units next : ℕ) (e : Entry) → is_part units next e ≡ true → (is_extent units 1 e.extent ≡ true) × (is_dead units e.dead ≡ true)

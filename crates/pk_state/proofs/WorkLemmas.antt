@@ -7,6 +7,7 @@ use Rattle.std.proofs.lemmas.List.Concat.{flat_map-cons}
 use Rattle.std.proofs.lemmas.List.Elements.{recursion_from_All}
 use Rattle.pk_model.specs.Collection.{Doc, Collection}
 use Rattle.pk_model.specs.Steps.{commit, merge, tidy}
+use Rattle.pk_model.specs.Limits.{max_segment_bytes}
 use Rattle.pk_state.specs.Committed.{Stored, has_documents, is_pending, live_in, live_of, uncommitted}
 use Rattle.pk_state.specs.Legal.{State, has_work, marked}
 use Rattle.pk_state.specs.Merged.{HasNothingToMerge}
@@ -89,8 +90,8 @@ one_or : (b : Bool) → (b || false) ≡ b
 one_or true = refl
 one_or false = refl
 
-pub too_large : (docs : List Doc) → (is_too_large docs ≡ true) ↔ (1073741824 < segment_length docs written_kind)
+pub too_large : (docs : List Doc) → (is_too_large docs ≡ true) ↔ (max_segment_bytes < segment_length docs written_kind)
 too_large [] = (λ h. absurd (let no : false ≡ true = h in cc), λ h. absurd (omega (arith, h, header_alone written_kind)))
 too_large (d ∷ docs) =
     let long = segment_length (d ∷ docs) written_kind in
-    (λ h. ltb-true 1073741824 long (sym (one_or (ltb 1073741824 long)) ∙ h), λ h. one_or (ltb 1073741824 long) ∙ lt-ltb 1073741824 long h)
+    (λ h. ltb-true max_segment_bytes long (sym (one_or (ltb max_segment_bytes long)) ∙ h), λ h. one_or (ltb max_segment_bytes long) ∙ lt-ltb max_segment_bytes long h)

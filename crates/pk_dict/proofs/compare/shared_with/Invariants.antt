@@ -1,15 +1,15 @@
 -- The first bytes agree, and what is shared after them is all that is left; a piece asks once.
 use Rattle.std.proofs.Common.{◌-◌, ◌≡◌, ◌≤◌, ◌+◌, length, take, drop}
+use Rattle.pk_posting.specs.Limits.{asks_for}
 use Rattle.pk_dict.specs.Dictionary.{shared}
 use Rattle.pk_dict.specs.Place.{bytes_at}
-use Rattle.pk_dict.specs.Source.{stretches_of}
 use Rattle.pk_dict.proofs.compare.shared_with.Given as goal
 
 abbrev pub invariant-loop-done : goal.invariant-loop-done
 invariant-loop-done g l = record {
   same : g.S.ByteSource.honest → g.S.ByteSource.content l.source ≡ g.S.ByteSource.content l.fn.source;
   size : length (g.S.ByteSource.content l.source) ≡ length (g.S.ByteSource.content l.fn.source);
-  asks : g.S.ByteSource.asked l.source + stretches_of (l.most - l.done) ≤ g.S.ByteSource.asked l.fn.source + stretches_of l.most;
+  asks : g.S.ByteSource.asked l.source + asks_for (l.most - l.done) ≤ g.S.ByteSource.asked l.fn.source + asks_for l.most;
   kept : g.S.ByteSource.keeps l.fn.source l.source;
   failures : g.S.ByteSource.failures l.source ≡ g.S.ByteSource.failures l.fn.source;
   below : l.done ≤ l.most;

@@ -2,8 +2,8 @@
 use Rattle.std.proofs.Common.{rules, ◌≡◌, ◌≤◌, ◌+◌, ◌*◌, ◌∙◌, List, ℕ, length, ap, sym, subst, arith, Result}
 use Rattle.std.specs.Prelude.{Option}
 use Rattle.std.proofs.lemmas.Result.{err_from_is_err_and}
+use Rattle.pk_posting.specs.Limits.{asks_for}
 use Rattle.pk_dict.specs.declared.entry.Entry.{Entry}
-use Rattle.pk_dict.specs.Source.{stretches_of}
 use Rattle.pk_posting.specs.declared.source.SourceFault.TheVariants as source
 use Rattle.pk_segment.specs.declared.fault.ReadFault.{ReadFault}
 use Rattle.pk_segment.specs.Indexed.{items_of}
@@ -25,7 +25,7 @@ returns-in_err-entry-clause-listed g c = λ honest docs is of.
 
 pub returns-in_err-entry-clause-asked : goal.returns-in_err-entry-clause-asked
 returns-in_err-entry-clause-asked g c =
-    let few : g.S.ByteSource.asked c.look_up_near.new.source.source.now ≤ g.S.ByteSource.asked c.args.source.now + 1 + 44 * (6 + stretches_of (length c.args.word.now)) =
+    let few : g.S.ByteSource.asked c.look_up_near.new.source.source.now ≤ g.S.ByteSource.asked c.args.source.now + 1 + 44 * (6 + asks_for (length c.args.word.now)) =
     asks_most _ _ _ _ _ _ c.in_err-entry.ensures.left.kept.2 c.on-windows.ensures.asked (omega (arith, c.in_err-entry.ensures.most))
     (subst (λ s. g.S.ByteSource.asked s ≤ g.S.ByteSource.asked c.args.source.now + 1) (sym c.on-windows.ensures.source) c.in_ok-place.ensures.left.asks)
     in search (rules, few)
@@ -39,7 +39,7 @@ returns-clause-listed g c = λ honest docs is of.
 
 pub returns-clause-asked : goal.returns-clause-asked
 returns-clause-asked g c =
-    let few : g.S.ByteSource.asked c.look_up_near.new.source.source.now ≤ g.S.ByteSource.asked c.args.source.now + 1 + 44 * (6 + stretches_of (length c.args.word.now)) =
+    let few : g.S.ByteSource.asked c.look_up_near.new.source.source.now ≤ g.S.ByteSource.asked c.args.source.now + 1 + 44 * (6 + asks_for (length c.args.word.now)) =
     asks_most _ _ _ _ _ _ c.in_ok-entry.ensures.left.kept.2 c.on-windows.ensures.asked (omega (arith, c.in_ok-entry.ensures.most))
     (subst (λ s. g.S.ByteSource.asked s ≤ g.S.ByteSource.asked c.args.source.now + 1) (sym c.on-windows.ensures.source) c.in_ok-place.ensures.left.asks)
     in search (rules, few)
