@@ -3,7 +3,7 @@ use Rattle.std.proofs.Common.{◌≡◌, ◌∙◌, inl, inr, ℕ, zero, suc, �
 use Rattle.std.specs.Prelude.{All, MatchOption, slice_get}
 use Rattle.std.specs.Option.{option_map}
 use Rattle.std.specs.Ordering.{match_ordering}
-use Rattle.std.proofs.Math.ListN.{get_or-map}
+use Rattle.std.proofs.Math.ListN.{get_or-map, length-set}
 use Rattle.std.proofs.Math.Seq.{map-set_same}
 use Rattle.std.proofs.lemmas.Bool.{cases_lt}
 use Rattle.std.proofs.lemmas.List.{length-map, map-set}
@@ -175,9 +175,12 @@ noted_within is ns k noted lt =
     )
 
 -- also once some of them went on
-pub noted_in : (is js : List Input) (ns : List ℕ) (k : ℕ) → AreNoted (lists_of is) (heads_of is) ns
-    → k < length ns → length js ≡ length is → slice_index ns k < length js
-noted_in is js ns k noted lt long = omega (arith, noted_within is ns k noted lt, long)
+abbrev pub AllNotedWithin : List ℕ → List Input → Type 0
+AllNotedWithin ns js = (k : ℕ) → k < length ns → slice_index ns k < length js
+
+pub all_within_set : (ns : List ℕ) (js : List Input) (i : ℕ) (y : Input) → AllNotedWithin ns js
+    → AllNotedWithin ns (set js i y)
+all_within_set ns js i y all k lt = omega (arith, all k lt, length-set js i y)
 
 pub noted_there : (is : List Input) (ns : List ℕ) (k : ℕ) → (noted : AreNoted (lists_of is) (heads_of is) ns)
     → k < length ns → head_at (lists_of is) (heads_of is) (slice_index ns k) ≡ Some noted.word

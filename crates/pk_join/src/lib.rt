@@ -20,13 +20,14 @@
 //! | `Ahead` | bytes of an extent that were read ahead, 32,768 at once, or fewer of many inputs |
 //! | `AheadSource` | an extent as a source that reads ahead |
 //!
-//! Of an input of kind 2 the terms are in memory, end to end, and 16 bytes for each: where it ends,
-//! and where its list lies. A list is read when its word comes, and with it what stands behind: a
-//! `Walk` holds 32,768 bytes of each input of kind 2, and lends lists of them as long as they last,
-//! since they lie in the order of their words. A longer list is read beside, block by block. Of an
-//! input of kind 1 there is an index of the texts, in memory. Of the lists that are joined one
-//! word's is in memory at a time. After `read_lists`, `Input::new`, `Walk::new` and `Ahead::new` no
-//! call takes memory.
+//! Of an input of kind 2 the terms are in memory, end to end, and 6 bytes and a sixteenth for each:
+//! 2 and a sixteenth for where it ends, and 4 for where its list does, which begins where the one
+//! before it ends. Where 64 terms have 64 KiB or more, or the lists lie otherwise, it is up to 16.
+//! A list is read when its word comes, and with it what stands behind: a `Walk` holds 32,768 bytes
+//! of each input of kind 2, and lends lists of them as long as they last, since they lie in the
+//! order of their words. A longer list is read beside, block by block. Of an input of kind 1 there
+//! is an index of the texts, in memory. Of the lists that are joined one word's is in memory at a
+//! time. After `read_lists`, `Input::new`, `Walk::new` and `Ahead::new` no call takes memory.
 //!
 //! # What is refused
 //!
@@ -36,16 +37,18 @@
 //! alone. The disk is only read.
 //!
 //! Where the words are: `specs/Ahead` says what is held of an extent, `specs/Inputs` has what
-//! inputs spell, `specs/Words` how words lie end to end, `specs/Listed` what the words and lists of
-//! an input are, `specs/Marks` what the marks of deleted numbers say, `specs/Joining` what is
-//! joined, `specs/Keys` the keys of words, `specs/Walking` the words side by side, `specs/Noted`
-//! which inputs have the least of them, `specs/WalkInput` the inputs of a walk, `specs/Walk` where
-//! it has come. Lemma pages: `TermWalkLemmas` on the walk, whose words are the terms of the
-//! documents that are left; `JoinLemmas` on one word's list.
+//! inputs spell, `specs/Words` how words lie end to end, `specs/Ends` where they end and
+//! `specs/Places` where their lists lie, `specs/Listed` what the words and lists of an input are,
+//! `specs/Marks` what the marks of deleted numbers say, `specs/Joining` what is joined,
+//! `specs/Keys` the keys of words, `specs/Walking` the words side by side, `specs/Noted` which
+//! inputs have the least of them, `specs/WalkInput` the inputs of a walk, `specs/Walk` where it has
+//! come. Lemma pages: `TermWalkLemmas` on the walk, whose words are the terms of the documents that
+//! are left; `JoinLemmas` on one word's list.
 #![tactic(auto)]
 
 mod ahead;
 mod ahead_source;
+mod ends;
 mod input;
 mod joined;
 mod joining;
@@ -53,6 +56,7 @@ mod keys;
 mod lent;
 mod lists;
 mod marks;
+mod places;
 mod reading;
 mod rooms;
 mod text_lists;

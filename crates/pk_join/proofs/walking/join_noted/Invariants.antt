@@ -11,6 +11,7 @@ use Rattle.pk_segment.specs.Indexed.{list_with}
 use Rattle.pk_segment.specs.OnlyRead.{ReadsDisk}
 use Rattle.pk_state.specs.Committed.{Stored, live_in}
 use Rattle.pk_join.proofs.JoinNoted.{IsGap}
+use Rattle.pk_join.proofs.StandLemmas.{AllNotedWithin}
 use Rattle.pk_join.proofs.walking.join_noted.Given as goal
 
 abbrev pub invariant-loop-k : goal.invariant-loop-k
@@ -20,6 +21,7 @@ invariant-loop-k g l =
       left : ReadsDisk disk CountsFaults (Ok (tt {0})) l.fn.disk l.disk;
       room : l.list.joined.room ≡ l.fn.list.joined.room;
       made : length l.list.made.items ≡ length l.fn.list.made.items;
+      within : AllNotedWithin l.found l.inputs;
       stand : StandAs l.fn.inputs l.inputs;
       hold : disk.honest → All (Holds (disk.content l.fn.disk)) l.fn.inputs
           → All (Holds (disk.content l.disk)) l.inputs;
