@@ -1,5 +1,5 @@
 -- Powers of two, and how often a search asks.
-use Rattle.std.proofs.Common.{arith, refl, sym, ap, ◌∙◌, ◌≡◌, ◌≤◌, ◌<◌, ◌+◌, ◌-◌, ◌*◌, ◌/◌, ◌^◌, ℕ, zero, suc, inl, inr}
+use Rattle.std.proofs.Common.{arith, sym, ap, ◌∙◌, ◌≡◌, ◌≤◌, ◌<◌, ◌+◌, ◌-◌, ◌*◌, ◌/◌, ◌^◌, ℕ, zero, suc, inl, inr}
 use Rattle.std.proofs.lemmas.Bool.{cases_lt}
 use Rattle.pk_cursor.specs.Seeking.{IsGalloped}
 use Rattle.std.proofs.Math.Pow.{pow_mono}
@@ -11,10 +11,10 @@ fewer t k h = elim (cases_lt t k) [ inl l ↦ l | inr l ↦ absurd (omega (arith
 pub doubled : (t step : ℕ) → step ≡ 2 ^ t → step * 2 ≡ 2 ^ (suc t)
 doubled t step e = ap (λ (k : ℕ). k * 2) e ∙ sym (pow-suc 2 t)
 
--- half of what 2 ^ u holds
-pub halves : (u size part : ℕ) → 1 < size → size ≤ 2 ^ u → part ≤ size - size / 2 → (v : ℕ) × (part ≤ 2 ^ v) × (u ≡ suc v)
-halves zero size part h k p = absurd (omega arith)
-halves (suc v) size part h k p = (v, omega (arith, pow-suc 2 v), refl)
+-- half of what 2 ^ u holds, one question later
+pub halves : (u size part now after total : ℕ) → 1 < size → size ≤ 2 ^ u → part ≤ size - size / 2 → now + u ≤ total → after ≤ now + 1 → (v : ℕ) × (part ≤ 2 ^ v) × (after + v ≤ total)
+halves zero size part now after total some k p a one = absurd (omega arith)
+halves (suc v) size part now after total some k p a one = (v, omega (arith, pow-suc 2 v), omega arith)
 
 -- no step of a list is doubled more than twenty times
 pub few_doubled : (t : ℕ) → 2 ^ t ≤ 1048576 → t ≤ 20

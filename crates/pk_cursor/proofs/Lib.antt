@@ -1,2 +1,3 @@
 pub mod DoublingLemmas
 pub mod SeekingLemmas
+pub mod SourceLemmas

@@ -1,14 +1,11 @@
-use Rattle.std.proofs.Common.{arith, refl, ◌∙◌, suc}
-use Rattle.pk_posting.specs.Parts.{HasShape, bytes_at}
+use Rattle.std.proofs.Common.{arith, refl, suc}
 use Rattle.pk_cursor.proofs.DoublingLemmas.{doubled, few_doubled}
+use Rattle.pk_cursor.proofs.SourceLemmas.{answered_more, answered_none}
 use Rattle.pk_cursor.proofs.skips.gallop.Goals as goal
 
 pub loop-step-init : goal.loop-step-init
 loop-step-init g c = record {
-  same = λ h. refl;
-  size = refl;
-  kept = g.met.S.ByteSource.keeps_self _;
-  failures = refl;
+  left = answered_none (g.met.S.ByteSource.keeps_self _);
   low = omega arith;
   high = c.requires.from;
   some = omega arith;
@@ -18,26 +15,22 @@ loop-step-init g c = record {
 
 pub loop-step-preserved : goal.loop-step-preserved
 loop-step-preserved g c =
-    let left = c.in_ok-last.ensures.left in
-    let a = c.loop-step.invariant.asks in
+    let before = c.loop-step.invariant in
+    let read = c.in_ok-last.ensures in
+    let a = before.asks in
     record {
-      same = λ h. left.same h ∙ c.loop-step.invariant.same h;
-      size = left.size ∙ c.loop-step.invariant.size;
-      kept = g.met.S.ByteSource.keeps_then _ _ _ c.loop-step.invariant.kept left.kept;
-      failures = left.faults.ok ∙ c.loop-step.invariant.failures;
+      left = answered_more g.met.S.ByteSource.keeps_then before.left read.left;
       low = omega arith;
       high = omega arith;
       some = omega arith;
-      found = λ h xs l b. (
-          let own : HasShape (bytes_at (g.S.ByteSource.content c.loop-step.source) c.args.place) c.args.shape xs = rw (c.loop-step.invariant.same h) l in
-          omega (arith, c.in_ok-last.ensures.spelled h xs own));
-      asks = (suc a.0, doubled a.0 c.loop-step.step a.1, omega (arith, a.2), omega (arith, a.3, left.asks));
+      found = λ h xs l b. omega (arith, read.spelled h xs (rw (before.left.same h) l));
+      asks = (suc a.0, doubled a.0 c.loop-step.step a.1, omega (arith, a.2), omega (arith, a.3, read.left.asks));
     }
 
 pub returns-then-target-last-clause-found : goal.returns-then-target-last-clause-found
 returns-then-target-last-clause-found g c h xs l b =
-    let own : HasShape (bytes_at (g.S.ByteSource.content c.loop-step.source) c.args.place) c.args.shape xs = rw (c.loop-step.invariant.same h) l in
-    record { below = c.loop-step.invariant.found h xs l b; reaches = λ m. omega (arith, c.in_ok-last.ensures.spelled h xs own) }
+    let before = c.loop-step.invariant in
+    record { below = before.found h xs l b; reaches = λ m. omega (arith, c.in_ok-last.ensures.spelled h xs (rw (before.left.same h) l)) }
 
 pub returns-then-target-last-clause-asks : goal.returns-then-target-last-clause-asks
 returns-then-target-last-clause-asks g c =

@@ -1,14 +1,12 @@
-use Rattle.std.proofs.Common.{◌≡◌, ◌≤◌, ◌<◌, ◌+◌, ◌-◌, ◌^◌, ℕ, List, length}
+use Rattle.std.proofs.Common.{◌≡◌, ◌≤◌, ◌<◌, ◌+◌, ◌-◌, ◌^◌, ℕ, List}
 use Rattle.pk_posting.specs.Parts.{HasShape, bytes_at}
 use Rattle.pk_cursor.specs.Seeking.{block_end}
+use Rattle.pk_cursor.proofs.SourceLemmas.{IsAnswered}
 use Rattle.pk_cursor.proofs.skips.gallop.Given as goal
 
 abbrev pub invariant-loop-step : goal.invariant-loop-step
 invariant-loop-step g l = record {
-  same : g.S.ByteSource.honest → g.S.ByteSource.content l.source ≡ g.S.ByteSource.content l.fn.source;
-  size : length (g.S.ByteSource.content l.source) ≡ length (g.S.ByteSource.content l.fn.source);
-  kept : g.S.ByteSource.keeps l.fn.source l.source;
-  failures : g.S.ByteSource.failures l.source ≡ g.S.ByteSource.failures l.fn.source;
+  left : IsAnswered g.S.ByteSource l.fn.source l.source;
   low : l.from ≤ l.low;
   high : l.low < l.shape.blocks;
   some : 0 < l.step;
