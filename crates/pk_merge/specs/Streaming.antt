@@ -1,6 +1,6 @@
 -- A merge that is written as it is read, behind the bodies: what it promises, and that this doesn't
 -- rest on the bodies.
-use Rattle.std.specs.Prelude.{◌≡◌, ◌≤◌, ◌*◌, ℕ, List, [], ◌∷◌, All, Result, Ok, Err}
+use Rattle.std.specs.Prelude.{◌≡◌, ◌≤◌, ◌*◌, ℕ, List, [], ◌∷◌, length, All, Result, Ok, Err}
 use Rattle.std.proofs.Common.{inl, inr, sym, subst, ◌∙◌, arith}
 use Rattle.std.proofs.lemmas.List.Elements.{All-head, All-tail}
 use Rattle.pk_disk.specs.declared.disk.Disk.{Ghosts}
@@ -32,6 +32,12 @@ IsMergeCause d old new (Err Damaged) = NoneFailed d old new
 IsMergeCause d old new (Err Disk) = ReadFailed d old new
 IsMergeCause d old new (Err Memory) = ⊥
 IsMergeCause d old new (Err NotWritten) = WriteFailed d old new
+
+-- P holds of what is stored, for all inputs that spell it and of which this was prepared
+abbrev pub OfInputs : List ℕ → ℕ → Prepared → (List Stored → Type 0) → Type 0
+OfInputs bytes first p P = (inputs : List MergeInput) (stored : List Stored)
+    → CanMerge (length bytes) first inputs p → SpellsInputs bytes inputs stored
+    → IsPrepared bytes inputs stored p → P stored
 
 -- its extent begins behind the bodies
 abbrev pub LiesBehind : MergeInput → Type 0

@@ -21,7 +21,7 @@ ghost use Rattle.pk_join.specs.declared.input.MergeInput.{MergeInput};
 ghost use Rattle.pk_merge.specs.Keeping.{AreKept, EndBy, KeptApart};
 ghost use Rattle.pk_merge.specs.Lists.{AreOfInputs, AreWithin, GiveLists};
 ghost use Rattle.pk_merge.specs.Output.{AreGiven, IsGiven, LiesApart};
-ghost use Rattle.pk_merge.specs.Prepared.{CanMerge, CanWrite, IsPrepared};
+ghost use Rattle.pk_merge.specs.Prepared.{CanWrite};
 ghost use Rattle.pk_model.specs.Collection.{Doc};
 ghost use Rattle.pk_replace.specs.Cause.{IsCause, IsUndamaged};
 ghost use Rattle.pk_replace.specs.Writing.{WritesOnly};
@@ -84,23 +84,18 @@ fn write_index<D: Disk>(
 }
 
 impl Prepared {
-    ghost use Rattle.pk_merge.specs.Streaming.{IsMergeCause};
+    ghost use Rattle.pk_merge.specs.Streaming.{IsMergeCause, OfInputs};
 
     /// Writes the segment from unit `first` on, as it is read. It takes no memory. The inputs of
     /// which the clauses speak are what it was prepared from.
     pub(crate) fn write_segment<D: Disk>(self, disk: &mut D, first: u32) -> Result<(), StreamFault>
         requires { CanWrite (length (D.content disk.old)) first self }
         ensures writes { WritesOnly D.Disk (in_range (512 * first) self.size) disk.old disk.new }
-        ensures there { D.honest → (inputs : List MergeInput) (stored : List Stored)
-            → CanMerge (length (D.content disk.old)) first inputs self
-            → SpellsInputs (D.content disk.old) inputs stored
-            → IsPrepared (D.content disk.old) inputs stored self
-            → OnOk result (take self.size (drop (512 * first) (D.content disk.new))
-            ≡ segment_spelling (live_in stored) 2) }
-        ensures undamaged { D.honest → (inputs : List MergeInput) (stored : List Stored)
-            → CanMerge (length (D.content disk.old)) first inputs self
-            → SpellsInputs (D.content disk.old) inputs stored
-            → IsPrepared (D.content disk.old) inputs stored self → IsUndamaged result }
+        ensures there { D.honest → OfInputs (D.content disk.old) first self (λ stored. OnOk result
+            (take self.size (drop (512 * first) (D.content disk.new))
+            ≡ segment_spelling (live_in stored) 2)) }
+        ensures undamaged { D.honest
+            → OfInputs (D.content disk.old) first self (λ _. IsUndamaged result) }
         ensures cause { IsCause D.Disk disk.old disk.new result }
     {
         let start = UNIT * u64::from(first);
@@ -121,17 +116,11 @@ impl Prepared {
     pub fn merge_into<D: Disk>(self, disk: &mut D, first: u32) -> Result<(), MergeFault>
         requires { CanWrite (length (D.content disk.old)) first self }
         ensures writes { WritesOnly D.Disk (in_range (512 * first) self.size) disk.old disk.new }
-        ensures there { D.honest → (inputs : List MergeInput) (stored : List Stored)
-            → CanMerge (length (D.content disk.old)) first inputs self
-            → SpellsInputs (D.content disk.old) inputs stored
-            → IsPrepared (D.content disk.old) inputs stored self
-            → OnOk result (take self.size (drop (512 * first) (D.content disk.new))
-            ≡ segment_spelling (live_in stored) 2) }
-        ensures undamaged { D.honest → (inputs : List MergeInput) (stored : List Stored)
-            → CanMerge (length (D.content disk.old)) first inputs self
-            → SpellsInputs (D.content disk.old) inputs stored
-            → IsPrepared (D.content disk.old) inputs stored self
-            → IfErr result (λ f. (f ≡ MergeFault.Disk) ⊎ (f ≡ MergeFault.NotWritten)) }
+        ensures there { D.honest → OfInputs (D.content disk.old) first self (λ stored. OnOk result
+            (take self.size (drop (512 * first) (D.content disk.new))
+            ≡ segment_spelling (live_in stored) 2)) }
+        ensures undamaged { D.honest → OfInputs (D.content disk.old) first self
+            (λ _. IfErr result (λ f. (f ≡ MergeFault.Disk) ⊎ (f ≡ MergeFault.NotWritten))) }
         ensures cause { IsMergeCause D.Disk disk.old disk.new result }
     {
         self.write_segment(disk, first)?;
