@@ -35,10 +35,11 @@ def processor_seconds(whose):
     return usage.ru_utime + usage.ru_stime
 
 
-def fill_program(program, path, texts):
-    """A new store with the texts: seconds, and processor seconds of the whole session."""
+def fill_program(program, path, texts, units=0):
+    """A new store of at least so many units with the texts: seconds, and processor seconds of the
+    whole session."""
     pathlib.Path(path).unlink(missing_ok=True)
-    Program.create(program, path, max(4_096, 2 * len(texts)))
+    Program.create(program, path, max(4_096, 2 * len(texts), units))
     os.sync()
     before = processor_seconds(resource.RUSAGE_CHILDREN)
     session = Program(program, path)

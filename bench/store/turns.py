@@ -18,7 +18,7 @@ import sys
 import time
 
 from measure import fill_program, processor, show_anew, shown_numbers
-from peers import Program, merged, size_on_disk
+from peers import UNIT, Program, merged, size_on_disk
 
 ROUNDS = 9
 DELETED_EACH = 10
@@ -55,8 +55,9 @@ def check(program, path):
 
 
 def fill(program, path, texts):
-    """What filling takes, and what is asked of the store as it was filled."""
-    seconds, used = fill_program(program, path, texts)
+    """What filling a store with room for a merge takes, and what is asked of it as it was filled."""
+    written = sum(len(text.encode()) + 12 for text in texts)
+    seconds, used = fill_program(program, path, texts, 4 * written // UNIT)
     return {
         "fill, s": seconds,
         "fill, processor s": used,
