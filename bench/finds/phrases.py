@@ -36,6 +36,10 @@ from peers import BATCH, Fts5, Fts5Positions, Program, merged, segments  # noqa:
 # How many words a beginning is to have.
 BEGINNINGS = 20, 1_000, 20_000
 
+# Phrases that are always asked: a word of one letter, which a search sees everywhere, and one that
+# stands in few of the texts that have its words.
+FIXED = {"a word of one letter": ("in", "a"), "words of few letters": ("act", "on")}
+
 # The bases of FTS5 by the names of their sides.
 BASES = {"FTS5": ("positions", Fts5Positions), "FTS5, no positions": ("base", Fts5)}
 
@@ -108,8 +112,9 @@ def pick_beginnings(texts):
 
 def finds_of(texts):
     """Name, the program's query, FTS5's, that of Xapian and Lucene, and whether it wants positions."""
-    finds = []
-    for name, row in pick_phrases(texts).items():
+    finds, picked = [], pick_phrases(texts)
+    fixed = {name: row for name, row in FIXED.items() if row not in picked.values()}
+    for name, row in (picked | fixed).items():
         phrase = " ".join(row)
         finds.append((f"{name}, `{phrase}`", f'"{phrase}"', f'"{phrase}"', "+".join(row), True))
     for begun, count in pick_beginnings(texts).items():

@@ -113,7 +113,7 @@ fn past_run(bytes: &[u8], start: usize) -> usize
 /// Whether no boundary lies between the byte before the place and the one at it. Most places lie
 /// beside a letter and a space: they are told by the two values alone.
 #[inline(always)]
-fn is_joined(bytes: &[u8], at: usize) -> bool
+pub fn is_joined(bytes: &[u8], at: usize) -> bool
     requires ascii { IsAscii bytes.now }
     requires some { 0 < at }
     requires within { at < length bytes.now }

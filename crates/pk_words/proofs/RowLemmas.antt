@@ -1,19 +1,18 @@
 -- How much of a row is begun, word by word.
-use Rattle.std.proofs.Common.{◌≡◌, ℕ, ◌+◌, ◌<◌, ◌≤◌, Bool, true, false, not, ◌&&◌, ◌||◌, List, [], ◌∷◌, ◌++◌, suc, zero, length, map, take, drop, get_or, refl, sym, ap, subst, ◌∙◌, arith, append_assoc, append-nil, take_all, length-append, length-take, nat_lt, Bor, IsAscii, slice_range}
-use Rattle.std.specs.Char.{to_ascii_lowercase}
+use Rattle.std.proofs.Common.{◌≡◌, ℕ, ◌+◌, ◌<◌, ◌≤◌, Bool, true, false, not, ◌&&◌, ◌||◌, List, [], ◌∷◌, ◌++◌, suc, zero, length, map, take, drop, get_or, refl, sym, ap, subst, ◌∙◌, arith, append_assoc, append-nil, take_all, length-append, length-take, nat_lt, Bor, slice_range}
 use Rattle.std.specs.List.{starts_with}
 use Rattle.std.specs.Str.{bytes_eq}
 use Rattle.std.proofs.lemmas.Bool.{ltb-false, ltb-true}
-use Rattle.std.proofs.lemmas.List.{map-append, take_more}
+use Rattle.std.proofs.lemmas.List.{drop_all, map-append, take_more}
 use Rattle.std.proofs.lemmas.Slice.Eq.{bytes_eq-Decides}
 use Rattle.pk_model.specs.Tree.{stand_in}
 use Rattle.pk_model.specs.Words.{folded, words_of}
 use Rattle.pk_model.proofs.TreeLemmas.{phrase}
-use Rattle.pk_pieces.specs.Pieces.{words_from}
-use Rattle.pk_pieces.proofs.CallerLemmas.{folded_part}
+use Rattle.pk_pieces.proofs.CallerLemmas.{words_nil}
+use Rattle.unicode_segmentation.specs.Word.{words}
 use Rattle.pk_words.specs.Rows.{Continues, IsShorter, AreShorter, texts}
 
-and_false : (b : Bool) → (b && false) ≡ false
+pub and_false : (b : Bool) → (b && false) ≡ false
 and_false true = refl
 and_false false = refl
 
@@ -54,7 +53,7 @@ nothing_read row n = λ rest. refl
 pub more_read : (row : List (List ℕ)) (a b c : ℕ) (xs ys : List (List ℕ)) → Continues row a xs b → Continues row b ys c → Continues row a (xs ++ ys) c
 more_read row a b c xs ys f g = λ rest. ap (λ ws. stand_in row (take a row ++ ws)) (append_assoc xs ys rest) ∙ f (ys ++ rest) ∙ g rest
 
-stands_whole : (row rest : List (List ℕ)) → stand_in row (take (length row) row ++ rest) ≡ true
+pub stands_whole : (row rest : List (List ℕ)) → stand_in row (take (length row) row ++ rest) ≡ true
 stands_whole row rest = (phrase row (take (length row) row ++ rest)).1 ([], rest, ap (λ ws. ws ++ rest) (take_all (length row) row (omega arith)))
 
 -- all of the row is begun: it stands there, whatever follows
@@ -124,24 +123,37 @@ ended row a n all xs ys e full f =
     let whole = all_read row a xs ys (subst (λ k. Continues row a xs k) full f) in
     subst (λ ws. Continues row a ws n) (sym e) (subst (λ k. Continues row a (xs ++ ys) k) (sym full) whole)
 
--- ---- the words of a part in ASCII
--- those before a place are read
-pub record IsReadTo (row : List (List ℕ)) (part bytes : List ℕ) (begun at left : ℕ) : Type 0 where
+-- ---- part by part
+pub parted : (s : List ℕ) (at end : ℕ) → words (drop at s) ≡ words (slice_range s at end) ++ words (drop end s) → words_of (drop at s) ≡ words_of (slice_range s at end) ++ words_of (drop end s)
+unfolding words_of
+parted s at end e = ap (map folded) e ∙ map-append folded (words (slice_range s at end)) (words (drop end s))
+
+pub no_words : words_of [] ≡ []
+unfolding words_of
+no_words = ap (map folded) words_nil
+
+-- the parts before a place are read
+pub record IsPartedAt (row : List (List ℕ)) (s : List ℕ) (begun at left : ℕ) : Type 0 where
   pub done : List (List ℕ)
-  pub split : words_of part ≡ done ++ map folded (words_from bytes at)
+  pub split : words_of s ≡ done ++ words_of (drop at s)
   pub read : Continues row begun done left
 
--- one more is read, out of the part that was folded whole
-pub word_read : (row : List (List ℕ)) (part bytes word : List ℕ) (begun at start end left more : ℕ) → IsAscii part → bytes ≡ part → word ≡ slice_range (map to_ascii_lowercase part) start end
-    → words_from bytes at ≡ slice_range bytes start end ∷ words_from bytes end → Continues row left (word ∷ []) more → IsReadTo row part bytes begun at left → IsReadTo row part bytes begun end more
-word_read row part bytes word begun at start end left more ascii whole cut words step r =
-    let same : word ≡ folded (slice_range bytes start end) = cut ∙ folded_part part start end ascii ∙ ap (λ s. folded (slice_range s start end)) (sym whole) in
+pub part_read : (row : List (List ℕ)) (s part : List ℕ) (begun at end left more : ℕ) → part ≡ slice_range s at end → words (drop at s) ≡ words (slice_range s at end) ++ words (drop end s)
+    → Continues row left (words_of part) more → IsPartedAt row s begun at left → IsPartedAt row s begun end more
+part_read row s part begun at end left more cut apart step r =
+    let rest = words_of (drop end s) in
+    let next : words_of (drop at s) ≡ words_of part ++ rest = parted s at end apart ∙ ap (λ t. words_of t ++ rest) (sym cut) in
     record {
-      done = r.done ++ word ∷ [];
-      split = r.split ∙ ap (λ ws. r.done ++ map folded ws) words ∙ ap (λ w. r.done ++ w ∷ map folded (words_from bytes end)) (sym same)
-          ∙ sym (append_assoc r.done (word ∷ []) (map folded (words_from bytes end)));
-      read = more_read row begun left more r.done (word ∷ []) r.read step;
+      done = r.done ++ words_of part;
+      split = r.split ∙ ap (λ ws. r.done ++ ws) next ∙ sym (append_assoc r.done (words_of part) rest);
+      read = more_read row begun left more r.done (words_of part) r.read step;
     }
+
+-- behind the last part nothing is left
+pub all_parts : (row : List (List ℕ)) (s : List ℕ) (begun at left : ℕ) → length s ≤ at → IsPartedAt row s begun at left → Continues row begun (words_of s) left
+all_parts row s begun at left end r =
+    let all : words_of s ≡ r.done = r.split ∙ ap (λ ws. r.done ++ ws) (ap words_of (drop_all at s end) ∙ no_words) ∙ append-nil r.done in
+    subst (λ ws. Continues row begun ws left) (sym all) r.read
 
 -- a list around one of its items
 around : {X : Type 0} (xs : List X) (n : ℕ) (x : X) → n < length xs → x ≡ get_or xs n x → xs ≡ (take n xs ++ x ∷ []) ++ drop (n + 1) xs

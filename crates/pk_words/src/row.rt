@@ -3,9 +3,16 @@
 ghost use Rattle.std.specs.Prelude.{◌≡◌, ◌+◌, ◌<◌, ◌≤◌, ◌∷◌, [], length, IfOk, IsAscii};
 ghost use Rattle.pk_model.specs.Tree.{stand_in};
 ghost use Rattle.pk_model.specs.Words.{words_of};
-ghost use Rattle.pk_words.specs.Rows.{AreShorter, Continues, IsShorter, IsTable, texts};
+ghost use Rattle.pk_words.specs.Rows.{
+  AreShorter,
+  Continues,
+  IsShorter,
+  IsTable,
+  texts,
+};
 
-use pk_pieces::{fold_into, lower_into, next_word, part_end};
+use crate::sought::{SoughtRow, skip};
+use pk_pieces::{ascii_part_end, fold_into, lower_into, next_word};
 use std::alloc::{AllocError, Global};
 use unicode_segmentation::UnicodeSegmentation;
 
@@ -60,7 +67,7 @@ fn after(row: &[&str], table: &[usize], begun: usize, word: &str) -> usize
 
 /// Whether the words stand in the text's folded words in a row; where there is no word, they do. No
 /// text is cut further than through the part in which the row ends. The table is that of
-/// [`row_table`]; `piece` is overwritten, and holds a part of the text at most.
+/// [`row_table`]; `piece` is overwritten, and holds a word of the text at most.
 pub fn has_row(
     row: &[&str],
     table: &[usize],
@@ -70,15 +77,28 @@ pub fn has_row(
     requires { IsTable (texts row.now) table.now }
     ensures { IfOk result (λ found. found ≡ stand_in (texts row.now) (words_of text.now)) }
 {
-    if row.is_empty() {
+    let sought = SoughtRow {
+        words: row,
+        table,
+        rarest: 0,
+    };
+    has_row_by(&sought, piece, text)
+}
+
+/// The same, by the rarest of the words: of a text in which it is rare, little is cut.
+pub fn has_row_by(sought: &SoughtRow, piece: &mut String, text: &str) -> Result<bool, AllocError>
+    ensures { IfOk result (λ found. found
+        ≡ stand_in (texts sought.now.words.now) (words_of text.now)) }
+{
+    if sought.words.is_empty() {
         return Ok(true);
     }
     let mut begun = 0;
     let mut at = 0;
     'parts: while at < text.len() {
-        let end = part_end(text, at);
-        begun = after_part(row, table, piece, begun, &text[at..end])?;
-        if begun == row.len() {
+        let end = ascii_part_end(text, at);
+        begun = after_part(sought, piece, begun, &text[at..end])?;
+        if begun == sought.words.len() {
             return Ok(true);
         }
         at = end;
@@ -86,60 +106,57 @@ pub fn has_row(
     Ok(false)
 }
 
-/// How many words of the row are begun after a part of a text: all, where it ends there.
+/// How many words of the row are begun after a part of a text: all, where it ends there. If it is not
+/// in ASCII, word follows word.
 fn after_part(
-    row: &[&str],
-    table: &[usize],
+    sought: &SoughtRow,
     piece: &mut String,
     begun: usize,
     part: &str,
 ) -> Result<usize, AllocError>
-    requires within { begun < length row.now }
-    requires table { IsTable (texts row.now) table.now }
-    ensures within { IfOk result (λ left. left ≤ length row.now) }
+    requires { begun < length sought.now.words.now }
+    ensures within { IfOk result (λ left. left ≤ length sought.now.words.now) }
     ensures continues { IfOk result (λ left.
-        Continues (texts row.now) begun (words_of part.now) left) }
+        Continues (texts sought.now.words.now) begun (words_of part.now) left) }
 {
     if part.is_ascii() {
-        return after_ascii(row, table, piece, begun, part);
+        return after_ascii(sought, piece, begun, part);
     }
     let mut left = begun;
     'words: for word in part.unicode_words() {
         fold_into(piece, word)?;
-        left = after(row, table, left, piece.as_str());
-        if left == row.len() {
+        left = after(sought.words, sought.table, left, piece.as_str());
+        if left == sought.words.len() {
             return Ok(left);
         }
     }
     Ok(left)
 }
 
-/// The same of a part in ASCII. It is folded at once, and each word, folded, is a slice of that.
+/// The same of a part in ASCII. Where no word of the row is begun, only those are looked at that
+/// may be its first.
 fn after_ascii(
-    row: &[&str],
-    table: &[usize],
+    sought: &SoughtRow,
     piece: &mut String,
     begun: usize,
     part: &str,
 ) -> Result<usize, AllocError>
     requires ascii { IsAscii part.now }
-    requires within { begun < length row.now }
-    requires table { IsTable (texts row.now) table.now }
-    ensures within { IfOk result (λ left. left ≤ length row.now) }
+    requires within { begun < length sought.now.words.now }
+    ensures within { IfOk result (λ left. left ≤ length sought.now.words.now) }
     ensures continues { IfOk result (λ left.
-        Continues (texts row.now) begun (words_of part.now) left) }
+        Continues (texts sought.now.words.now) begun (words_of part.now) left) }
 {
-    lower_into(piece, part)?;
-    let folded = piece.as_str();
     let bytes = part.as_bytes();
     let mut left = begun;
-    let mut at = 0;
+    let (mut at, mut next) = skip(sought, bytes, begun, 0, 0);
     'words: while let Some((start, end)) = next_word(bytes, at) {
-        left = after(row, table, left, &folded[start..end]);
-        if left == row.len() {
+        lower_into(piece, &part[start..end])?;
+        left = after(sought.words, sought.table, left, piece.as_str());
+        if left == sought.words.len() {
             return Ok(left);
         }
-        at = end;
+        (at, next) = skip(sought, bytes, left, end, next);
     }
     Ok(left)
 }
