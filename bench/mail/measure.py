@@ -1,8 +1,8 @@
 """Measures a first load of a maildir, its disk, finds, a kill in its midst and a second writer.
 
-    measure.py DATA MAILS [shards | log | growth | starts | once]
+    measure.py DATA MAILS [shards | log | growth | starts | line | once]
 
-With `shards`, `log` or `starts` it measures these alone, with `growth` how fast each fifth of a load
+With `shards`, `log`, `starts` or `line` it measures these alone, with `growth` how fast each fifth of a load
 of the log is, with `once` one load of each, its disk and finds.
 DATA/mails/maildir has the mails, DATA/log a syslog.
 Each system is a command line that loads all of them, one that counts those with a word, and a
@@ -33,6 +33,7 @@ ASKED = 9
 SHARDS = 4
 WORDS = ["zymotic", "water"]
 STARTS = 21
+LINES, LINE_LOADS = (1_000, 1_000_000), 5  # Documents of a store into which one line is loaded.
 FTS = [sys.executable, os.path.abspath(__file__), "fts"]
 # The installed client; RUBEWOLA names it.
 RUBEWOLA = [os.environ.get("RUBEWOLA", "rubewola")]
@@ -206,6 +207,32 @@ def growth(data):
             f"{rates[-1] / rates[0]:.2f}")
 
 
+def one_line(data):
+    """What a load of one line takes in a small store and in a large one."""
+    rows = ["| documents in the store | a load of one line | most memory |", "|---|---|---|"]
+    for count in LINES:
+        folder = data / "line"
+        shutil.rmtree(folder, ignore_errors=True)
+        folder.mkdir()
+        large, small, store = folder / "large.log", folder / "small.log", folder / "store"
+        with open(large, "w", encoding="ascii") as log:
+            log.writelines(f"Nov 26 11:15:56 host unit{at % 99}: line {at}\n" for at in range(count))
+        subprocess.run([*RUBEWOLA, "load-log", store, large], check=True, capture_output=True)
+        took, most = [], 0
+        for at in range(LINE_LOADS):
+            with open(small, "a", encoding="ascii") as log:
+                log.write(f"Nov 26 12:00:00 host other: one more {at}\n")
+            begin = time.monotonic()
+            with subprocess.Popen([*RUBEWOLA, "load-log", store, small],
+                                  stderr=subprocess.DEVNULL) as load:
+                _, _, used = os.wait4(load.pid, 0)
+                load.returncode = 0
+            took.append(time.monotonic() - begin)
+            most = max(most, used.ru_maxrss)
+        rows.append(f"| {count:,} | {statistics.median(took):.2f} s | {most / 1024:.0f} MB |")
+    return "\n".join(rows)
+
+
 def best_loads(measured):
     """The least seconds of a load of each system, which take turns."""
     rounds = [[load(system) for system in measured] for _ in range(LOADS)]
@@ -335,6 +362,8 @@ if __name__ == "__main__":
         print(growth(pathlib.Path(sys.argv[1]).absolute()))
     elif sys.argv[3:] == ["starts"]:
         print(starts(pathlib.Path(sys.argv[1]).absolute(), WORDS[0]))
+    elif sys.argv[3:] == ["line"]:
+        print(one_line(pathlib.Path(sys.argv[1]).absolute()))
     elif sys.argv[3:] == ["once"]:
         once(pathlib.Path(sys.argv[1]).absolute(), WORDS)
     elif sys.argv[3:]:

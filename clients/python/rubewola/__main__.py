@@ -2,6 +2,7 @@
 
 from __future__ import annotations
 
+import _signal
 import os
 import sys
 
@@ -43,6 +44,12 @@ def done(words: list[str]) -> int:
     return getattr(actions, command.run)(Given(command, rest))
 
 
+def _heed_interrupts() -> None:
+    """Lets an interrupt stop what is done, if the entry made it end the process until now."""
+    if _signal.getsignal(_signal.SIGINT) is _signal.SIG_DFL:
+        _signal.signal(_signal.SIGINT, _signal.default_int_handler)
+
+
 def main() -> int:
     """Does what the command line says, and gives the status; nothing is left to be printed."""
     if sys.stdout is None:
@@ -50,6 +57,7 @@ def main() -> int:
         return 2
     sys.stdout.reconfigure(encoding="utf-8", errors="surrogateescape")
     try:
+        _heed_interrupts()
         status = done(sys.argv[1:])
         sys.stdout.flush()
         return status

@@ -6,7 +6,7 @@ import os
 import sys
 
 from . import queries, searching
-from .store import Failed, NoSuchDocument, Store
+from .store import MOST_NUMBER, Failed, NoSuchDocument, Store
 from .stored import split
 from .told import Misused, tell, waits
 
@@ -14,6 +14,7 @@ TYPE_CHECKING = False
 if TYPE_CHECKING:
     from .arguments import Given
 
+DIGITS = 18  # No number of a document has so many; Python refuses to read thousands of them.
 WAIT = 10  # Seconds for which a store that another program has is waited for.
 WIDTH = 100  # Characters of a line of the text, where the terminal does not tell.
 
@@ -32,20 +33,20 @@ def put(lines: object, end: str = "\n") -> None:
 def search(given: Given) -> int:
     """Prints what is found in all stores, the newest last. Each store is closed before anything is
     printed."""
-    results, count, words = searching.Results(), 0, []
+    results, count, query = searching.Results(), 0, None
     for path in given.stores:
         with opened(path) as store:
             found = searching.answer(store, " ".join(given.words), tell)
-            count, words = count + len(found.numbers), found.query.words
+            count, query = count + len(found.numbers), found.query
             if "count" not in given.options:
                 numbers = searching.newest(found, given.options.get("limit", sys.maxsize))
                 results.read(store, numbers, path if len(given.stores) > 1 else "")
-    lines = [str(count)] if "count" in given.options else _lines(given, results, words)
+    lines = [str(count)] if "count" in given.options else _lines(given, results, query)
     put(lines, "\0" if "null" in given.options else "\n")
     return 0 if count else 1
 
 
-def _lines(given: Given, results: searching.Results, words: list[str]) -> object:
+def _lines(given: Given, results: searching.Results, query: queries.Query) -> object:
     """The lines of what was found; on a terminal with the words marked, and with what is round
     them."""
     form, limit = given.options.get("format", "text"), given.options.get("limit", sys.maxsize)
@@ -54,7 +55,7 @@ def _lines(given: Given, results: searching.Results, words: list[str]) -> object
     if form != "text" or not is_seen and "context" not in given.options:
         return map(searching.FORMATS[form], documents)
     from . import marks
-    return marks.lines(documents, words, _columns() if is_seen else WIDTH, is_seen)
+    return marks.lines(documents, query, _columns() if is_seen else WIDTH, is_seen)
 
 
 def _columns() -> int:
@@ -64,21 +65,22 @@ def _columns() -> int:
         return WIDTH
 
 
-def _number(word: str) -> int:
+def number(word: str) -> int:
+    """The number of a document, as it is typed."""
     if not word.isdecimal():
         raise Misused(f"{word} is no number of a document")
-    return int(word)
+    return int(word) if len(word) <= DIGITS else MOST_NUMBER
 
 
 def show(given: Given) -> int:
     """Prints the texts of documents."""
-    texts, numbers, status = [], [*map(_number, given.words)], 0
+    texts, numbers, status = [], [*map(number, given.words)], 0
     with opened(given.stores[0]) as store:
-        for number in numbers:
+        for one in numbers:
             try:
-                texts.append(store.show(number))
+                texts.append(store.show(one))
             except NoSuchDocument as refused:
-                tell(f"{number}: {refused}")
+                tell(f"{one}: {refused}")
                 status = 1
     put(queries.plain(split(text)[0]).removesuffix("\n") for text in texts)
     return status
@@ -86,23 +88,23 @@ def show(given: Given) -> int:
 
 def delete(given: Given) -> int:
     """Deletes documents by their numbers or by a query, and commits."""
-    numbers, query = [*map(_number, given.words)], given.options.get("query")
+    numbers, query = [*map(number, given.words)], given.options.get("query")
     if bool(numbers) == bool(query):
         raise Misused("delete wants numbers, or --query and a query")
     with opened(given.stores[0]) as store:
         if query:
             numbers = searching.find(store, query, tell)
-        deleted = sum(_is_deleted(store, number) for number in numbers)
+        deleted = sum(_is_deleted(store, one) for one in numbers)
         store.commit()
     tell(f"deleted {deleted} documents")
     return 0 if deleted == len(numbers) > 0 else 1
 
 
-def _is_deleted(store: Store, number: int) -> bool:
+def _is_deleted(store: Store, one: int) -> bool:
     try:
-        store.delete(number)
+        store.delete(one)
     except NoSuchDocument as refused:
-        tell(f"{number}: {refused}")
+        tell(f"{one}: {refused}")
         return False
     return True
 
@@ -147,7 +149,7 @@ def create(given: Given) -> int:
     """Makes an empty store."""
     from . import facts
     from .store import make
-    make(given.stores[0], facts.units(given.options.get("size", "64M")))
+    make(given.stores[0], facts.units(given.options.get("size", "256M")))
     return 0
 
 

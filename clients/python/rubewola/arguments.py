@@ -3,6 +3,7 @@
 from __future__ import annotations
 
 import os
+import sys
 from collections import namedtuple
 
 from .told import Misused
@@ -12,6 +13,7 @@ if TYPE_CHECKING:
     from typing import Any
 
 STORE = "RUBEWOLA_STORE"
+_DIGITS = 18  # Python refuses to read a number of thousands; no number that is larger means more.
 STORES = "[STORE ..]"  # The words of a command that are all stores.
 
 
@@ -27,9 +29,10 @@ class Option(namedtuple("Option", ("name", "help", "value", "short"), defaults=(
     def read(self, text: str) -> int | str:
         """Its value."""
         if self.value == "N":
-            if not text.isdecimal() or not int(text):
+            digits = text.lstrip("0") if text.isdecimal() else ""
+            if not digits:
                 raise Misused(f"{self.name} wants a number of at least 1")
-            return int(text)
+            return int(digits) if len(digits) <= _DIGITS else sys.maxsize
         if "|" in self.value and text not in self.value.split("|"):
             raise Misused(f"{self.name} is one of {self.value.replace('|', ', ')}")
         return text

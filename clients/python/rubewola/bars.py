@@ -2,41 +2,68 @@
 
 from __future__ import annotations
 
+from array import array
+from collections import Counter
+
 from .markup import escaped, link
 from .searching import SPANS, within
-from .store import QueryRefused
+from .words import SIGN
 
 TYPE_CHECKING = False
 if TYPE_CHECKING:
     from collections.abc import Callable
 
     from .hits import Hits
+    from .store import Store
 
 WIDTH, HEIGHT, FOOT = 600, 60, 16  # In units of the picture; labels stand in the foot.
 _LEAST = 1  # What the bar of a single hit is high.
 _LABELS = 12  # There is room for so many years.
 
 
-def _full(hits: Hits, spans: list[str]) -> dict[str, int]:
-    """Those of the spans that have hits, with how many."""
-    return {span: count for span, count in zip(spans, hits.counts(spans)) if count}
+class Months:
+    """The month of each document of a store, read once for as long as the store stays the same."""
 
+    def __init__(self) -> None:
+        self._counts: object = None
+        self._names: list[str] = [""]
+        self._of = array("H")
 
-def months(hits: Hits) -> dict[str, int]:
-    """How many hits each month has, as `201005`, from the first that has some to the last. No text
-    is read: the decades are asked for, the years of those that have hits, and their months."""
-    spans = [*SPANS[1:-1]]
-    try:
+    def read(self, store: Store) -> None:
+        """Reads the lists of the months, where the store has changed since."""
+        counts = store.count()
+        if counts == self._counts:
+            return
+        spans = [*SPANS[1:-1]]
         for _ in ("decades", "years"):
-            spans = [inner for span in _full(hits, spans) for inner in within(span)]
-        full = _full(hits, spans)
-    except QueryRefused:  # There is no room for a day in the query.
-        return {}
+            full = zip(spans, list(store.counts(SIGN + span for span in spans)))
+            spans = [inner for span, count in full if count for inner in within(span)]
+        of, names = array("H", bytes(2 * counts.next)), [""]
+        for month, numbers in zip(spans, store.find_all(SIGN + month for month in spans)):
+            if numbers:
+                names.append(month)
+                for number in numbers:
+                    of[number] = len(names) - 1
+        self._of, self._names, self._counts = of, names, counts
+
+    def counted(self, numbers: list[int]) -> dict[str, int]:
+        """How many of these documents each month has."""
+        found = Counter(map(self._of.__getitem__, numbers))
+        return {self._names[at]: count for at, count in found.items() if at}
+
+
+def months(hits: Hits, known: list[Months]) -> dict[str, int]:
+    """How many hits each month has, as `201005`, from the first that has some to the last. No text
+    is read, and no query asked again: `known` has the month of each document of each store."""
+    full: Counter[str] = Counter()
+    for found, of_store in zip(hits.found, known):
+        of_store.read(found.store)
+        full.update(of_store.counted(found.numbers))
     if not full:
         return {}
     years = range(int(min(full)[:4]), int(max(full)[:4]) + 1)
     every = (f"{year}{month:02}" for year in years for month in range(1, 13))
-    return {month: full.get(month, 0) for month in every if min(full) <= month <= max(full)}
+    return {month: full[month] for month in every if min(full) <= month <= max(full)}
 
 
 def _named(month: str) -> str:
@@ -50,7 +77,7 @@ def drawn(counts: dict[str, int], address: Callable[[str], str]) -> str:
     step, most = WIDTH / len(counts), max(counts.values())
     bars = (link(address(_named(month)), _bar(at * step, step, count, most, _named(month)))
             for at, (month, count) in enumerate(counts.items()) if count)
-    return (f'<svg viewBox="0 0 {WIDTH} {HEIGHT + FOOT}" role="group" aria-label="hits by month">'
+    return (f'<svg class="bars" viewBox="0 0 {WIDTH} {HEIGHT + FOOT}" role="group" aria-label="hits by month">'
             f'{"".join(bars)}{_labels([*counts], step)}</svg>\n')
 
 

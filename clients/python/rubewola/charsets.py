@@ -3,8 +3,11 @@
 from __future__ import annotations
 
 import codecs
+import encodings
 from contextlib import suppress
+from encodings import aliases, normalize_encoding
 from functools import lru_cache
+from pkgutil import iter_modules
 
 # Names that mean more than they say, or that Python has not.
 _MEANT = {
@@ -22,13 +25,24 @@ _MEANT = {
 # Codecs of Python that are no charsets.
 _NO_CHARSETS = {"idna", "punycode", "unicode_escape", "raw_unicode_escape", "undefined"}
 _ASCII = bytes(range(128))
+_LONGEST_NAME = 64  # Characters of a charset's name.
+
+
+@lru_cache(maxsize=1)
+def _known() -> frozenset[str]:
+    """The names of Python's codecs. It looks for a file for each other name, and forgets none."""
+    modules = (module.name for module in iter_modules(encodings.__path__))
+    return frozenset(aliases.aliases) | frozenset(modules)
 
 
 @lru_cache(maxsize=1_024)
 def _codec(charset: str) -> str | None:
     name = charset.strip(" \t\"'").lower().replace("_", "-")
+    meant = _MEANT.get(name, name)
+    if normalize_encoding(meant) not in _known():
+        return None
     with suppress(LookupError, ValueError):
-        known = codecs.lookup(_MEANT.get(name, name)).name.replace("-", "_")
+        known = codecs.lookup(meant).name.replace("-", "_")
         if known not in _NO_CHARSETS:
             b"a".decode(known, "replace")  # What is no text encoding is refused.
             return known
@@ -39,7 +53,7 @@ def decoded(data: bytes, charset: str | None = None) -> str:
     """Bytes as text: by what their charset means; or else as UTF-8; or else by their charset with
     U+FFFD for each fault. Where that is UTF-8, or none is known, and most of the bytes above ASCII
     are faults, it is windows-1252."""
-    name = charset and _codec(str(charset)) or "utf_8"
+    name = charset and len(charset) <= _LONGEST_NAME and _codec(charset) or "utf_8"
     for codec in (name, "utf_8"):
         try:
             return data.decode(codec)

@@ -33,7 +33,7 @@ _ALL = (
     Command("tidy", "tidy", "", "makes one segment of eight neighbours"),
     Command("merge", "merge", "", "makes one segment of all, without what was deleted"),
     Command("create", "create", "", "makes an empty store", (
-        Option("--size", "its room, as 500M or 20G (default: 64M)", "SIZE"),)),
+        Option("--size", "its room, as 500M or 20G (default: 256M)", "SIZE"),)),
     Command("shell", "shell", "", "a prompt"),
     Command("serve", "serve", STORES, "a page for a browser on this machine, to search and read", (
         Option("--port", "the port of its address (default: one that is free)", "N"),)),

@@ -15,7 +15,8 @@ from .stored import split
 from .words import SIGN, named
 
 MERGED = 8  # Segments of which a tidy makes one.
-_COMMIT = SIGN + "commit"
+COMMIT = SIGN + "commit"  # A word of one document of each commit of loaders.
+_DIGITS = 16  # No number of a commit has so many; another program may write any.
 
 
 def commit(store: Store) -> None:
@@ -43,14 +44,14 @@ def add(store: Store, texts: list[bytes]) -> int:
 
 def _number(store: Store) -> int:
     """How many commits of loaders are behind the documents of a store."""
-    last = store.find(_COMMIT)[-1:]
-    return max((int(split(stored)[1].get("commit", 0)) for stored in store.show_all(last)),
-               default=0)
+    last = store.find(COMMIT)[-1:]
+    told = (split(stored)[1].get("commit", "") for stored in store.show_all(last))
+    return max((int(one) for one in told if one.isdecimal() and len(one) < _DIGITS), default=0)
 
 
 def _marked(texts: list[bytes], number: int) -> list[bytes]:
     """The texts, of which the last that has room says in which commit it comes."""
-    mark = "".join(f" {word}" for word in (_COMMIT, *named("commit", str(number)))).encode()
+    mark = "".join(f" {word}" for word in (COMMIT, *named("commit", str(number)))).encode()
     fitting = (at for at in reversed(range(len(texts))) if len(texts[at]) + len(mark) <= MOST_BYTES)
     at = next(fitting, None)
     return texts if at is None else [*texts[:at], texts[at] + mark, *texts[at + 1:]]

@@ -16,6 +16,7 @@ from functools import lru_cache
 from .ranges import EARLIER, LATER, RANGED
 from .words import SIGN
 
+_LOOKED_AT = 512  # Characters of a line, and of a mail's Date, in which a stamp is looked for.
 _MONTHS = "Jan Feb Mar Apr May Jun Jul Aug Sep Oct Nov Dec".split()
 _MONTH = f"(?P<month>{'|'.join(_MONTHS)})"
 _ISO = r"(?P<year>\d{4})([-/.])(?P<number>\d\d)\2(?P<day>\d\d)"
@@ -59,6 +60,7 @@ def _before(month: int, day: int, last: date) -> date | None:
 def of_line(line: str, written: date) -> date | None:
     """The day of the stamp that begins a line. One without a year is the last such day up to that
     on which the line's file was written."""
+    line = line[:_LOOKED_AT]
     for stamp in _STAMPS:
         if (found := stamp.match(line)) and (day := _day(stamp, found.groups(), written)):
             return day
@@ -87,7 +89,7 @@ def _told_day(told: dict[str, str], written: date) -> date | None:
 def of_value(value: object) -> date | None:
     """The day of a stamp as programs write it: a text, or seconds since 1970 or parts of them."""
     with suppress(ValueError, OverflowError, TypeError):
-        if isinstance(value, str) and not value.strip().isdigit():
+        if isinstance(value, str) and not (value := value[:_LOOKED_AT].strip()).isdigit():
             return of_line(value, date.today())
         seconds = float(value)
         for _ in range(3):  # It may be told in thousandths, of thousandths, of thousandths.
@@ -109,7 +111,7 @@ def _of_clock(text: str) -> datetime.datetime:
 def of_date(text: str) -> datetime.datetime | None:
     """The sender's day and time of a mail's Date, however it is spelled: as the standard has it,
     with a leap second, as in ISO 8601, without a zone or with one that is none."""
-    text = re.sub(r"(:\d\d):6[0-9]\b", r"\1:59", text.strip())
+    text = re.sub(r"(:\d\d):6[0-9]\b", r"\1:59", text[:_LOOKED_AT].strip())
     for read in (utils.parsedate_to_datetime, _of_iso, _of_clock):
         with suppress(TypeError, ValueError, IndexError, OverflowError):
             return read(text)

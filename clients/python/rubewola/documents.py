@@ -9,11 +9,10 @@ from __future__ import annotations
 from collections.abc import Iterable
 
 from .joined import parts
-from .stored import MARK
+from .stored import CUT, MARK
 from .words import SIGN, clean, guarded
 
 MOST_BYTES, MOST_TAIL_BYTES = 1_048_576, 524_288
-CUT = "\n[cut]"
 
 
 def document(kind: str, text: str, words: Iterable[str] = (),

@@ -11,18 +11,21 @@ from typing import Any
 
 from . import days
 from .charsets import decoded
-from .documents import document
-from .files import Input
-from .logs import Line, Logs, Read, entries_of
+from .files import Input, inputs
+from .logs import Line, Logs, Read, entries_of, entry
+from .mime import LONGEST_FIELD
 from .sources import Entry, Named
 from .store import Store
 from .told import InputRefused
-from .words import APART, asked, digest, field_name, field_words, has_word, named
+from .words import APART, LONGEST_NAME, asked, digest, field_name, field_words, has_word, named
 
 # The names under which entries tell their time, the surest first.
 _TIMES = ("@timestamp", "timestamp", "time", "ts", "datetime", "date", "t", "asctime", "created",
           "created_at", "eventtime")
+BYTE_ORDER = "\ufeff"  # Some programs begin a file with it.
 _DEEPEST = 32
+LONGEST_OBJECT = 16_777_216  # Bytes of a line of JSON that are read; of a longer one no value is.
+MOST_VALUES = 16_384  # Of an object, that are found by their names; more are words of its text.
 
 
 def _told(value: object) -> str:
@@ -44,7 +47,8 @@ def _flat(value: object, name: str = "", depth: int = 0) -> Iterator[tuple[str, 
 
 def _object(line: bytes) -> dict[str, Any] | None:
     with suppress(RecursionError, ValueError):
-        value = json.loads(decoded(line))
+        # To read a number takes a time that grows with the square of its length.
+        value = json.loads(decoded(line).removeprefix(BYTE_ORDER), parse_int=str)
         return value if isinstance(value, dict) else None
     return None
 
@@ -52,7 +56,7 @@ def _object(line: bytes) -> dict[str, Any] | None:
 def _first_line(source: Input) -> bytes:
     """The first line that is not empty."""
     with source.opened() as (stream, _):
-        return next((line for line in stream if line.strip()), b"")
+        return next((line for line, _ in stream.lines(LONGEST_OBJECT) if line.strip()), b"")
 
 
 class _Fields:
@@ -62,7 +66,7 @@ class _Fields:
         self._met: set[str] = set()
 
     def _words(self, name: str, value: object) -> list[str]:
-        field, told = field_name(name), _told(value)
+        field, told = field_name(name[:LONGEST_NAME]), _told(value)[:LONGEST_FIELD]
         if not field:
             return []
         words = named(field, told) if field in ("id", "path") else field_words(field, told)
@@ -77,11 +81,11 @@ class _Fields:
         if value is None:
             return decoded(line), [], bool(line.strip())
         flat = [(name, told) for name, told in _flat(value)]
-        by_name = {name.lower(): told for name, told in reversed(flat)}
+        by_name = {name.lower(): told for name, told in reversed(flat[:MOST_VALUES])}
         when = next(filter(None, (days.of_value(by_name.get(name)) for name in _TIMES)), None)
         words: list[str] = []
         before = None
-        for name, told in flat:
+        for name, told in flat[:MOST_VALUES]:
             if name.lower() != "date" and (own := self._words(name, told)):
                 words += [APART, *own] if name == before else own
                 before = name
@@ -98,6 +102,7 @@ class JsonLines(Logs):
 
     kind = "json"
     read_chunk = staticmethod(_read_json)
+    longest = LONGEST_OBJECT
 
     def __init__(self, *paths: str) -> None:
         super().__init__(*paths)
@@ -109,13 +114,12 @@ class JsonLines(Logs):
 
 
 def _read_journal(lines: list[bytes], with_parts: bool) -> list[Entry]:
-    entries = []
+    found = []
     for line in lines:
-        text, words, unreadable = _journal_entry(line)
-        data, is_cut = document(Journals.kind, text, [*named("sum", _cursor(line)), *words],
-                                with_parts)
-        entries.append(Entry(data, asked("sum", _cursor(line)), 0, is_cut, unreadable))
-    return entries
+        known = _cursor(line)
+        found.append(entry(Journals.kind, line, _journal_entry, date.max, named("sum", known),
+                           asked("sum", known), with_parts))
+    return found
 
 
 def _cursor(line: bytes) -> str:
@@ -124,7 +128,7 @@ def _cursor(line: bytes) -> str:
     return digest(str(entry.get("__CURSOR") or "").encode("utf-8", "replace") or line)
 
 
-def _journal_entry(line: bytes) -> Line:
+def _journal_entry(line: bytes, _: date) -> Line:
     entry = _object(line)
     try:
         seconds = int(entry["__REALTIME_TIMESTAMP"]) // 1_000_000
@@ -132,8 +136,9 @@ def _journal_entry(line: bytes) -> Line:
     except (KeyError, OverflowError, OSError, TypeError, ValueError):
         return f"[not read: no time]\n{decoded(line)}", [], True
     message = entry.get("MESSAGE") or ""
-    with suppress(TypeError, ValueError):  # What is no UTF-8 is a list of its bytes.
-        message = decoded(bytes(iter(message)))
+    if isinstance(message, list):  # So is what is no UTF-8, by its bytes.
+        with suppress(TypeError, ValueError):
+            message = decoded(bytes(map(int, message)))
     name = entry.get("SYSLOG_IDENTIFIER") or entry.get("_COMM") or "-"
     pid = f"[{entry['_PID']}]" if entry.get("_PID") else ""
     text = f"{when} {entry.get('_HOSTNAME', '-')} {name}{pid}: {message}"
@@ -149,8 +154,10 @@ class Journals(Named):
 
     def __init__(self, *paths: str) -> None:
         super().__init__()
-        self.inputs = [*{one.name: one for one in map(Input, paths)}.values()]
+        self.inputs, self.passed = inputs(paths)
         self.size = sum(one.size for one in self.inputs)
+        self.room = sum(one.room for one in self.inputs)
+        self.readable = len(self.inputs)
         for one in self.inputs:
             one.refuse_what_is_no_text()
             line = _first_line(one)
@@ -162,7 +169,7 @@ class Journals(Named):
         """All whole lines, one file after the other."""
         for one, before in zip(self.inputs, self.sizes_before(self.inputs)):
             with one.opened() as (stream, raw):
-                for line in stream:
+                for line, _ in stream.lines(LONGEST_OBJECT):
                     self.read = before + raw.tell()
                     if line.strip() and (line.endswith(b"\n") or _object(line)):
                         yield line.rstrip(b"\n")

@@ -5,12 +5,13 @@ from __future__ import annotations
 import os
 
 from .searching import SPANS, within
-from .store import Store
+from .store import UNIT, Store
 from .stored import KINDS
 from .told import Misused
 from .words import SIGN
 
-UNIT = 512  # Bytes.
+LEAST_UNITS, MOST_UNITS = 64, 2_147_483_648  # Of a store.
+_DIGITS = 18
 _FACTORS = {"": 1, "K": 1 << 10, "M": 1 << 20, "G": 1 << 30, "T": 1 << 40}
 
 
@@ -19,14 +20,17 @@ def units(size: str) -> int:
     number, factor = size.rstrip("KMGTkmgt"), size[-1:].upper()
     if not number.isdecimal() or len(size) - len(number) > 1:
         raise Misused("--size wants bytes, as 500M or 20G")
-    return int(number) * _FACTORS.get(factor, 1) // UNIT
+    found = int(number[:_DIGITS]) * _FACTORS.get(factor, 1) // UNIT
+    if not LEAST_UNITS <= found <= MOST_UNITS or len(number) > _DIGITS:
+        raise Misused("--size is from 32K to 1T")
+    return found
 
 
 def of(store: Store) -> list[str]:
     """How many documents of which kinds a store has, and from which day to which."""
     counts = store.count()
-    kinds = zip(KINDS, list(store.find_all(SIGN + kind for kind in KINDS)))
-    told = ", ".join(f"{len(numbers):,} {kind}" for kind, numbers in kinds if numbers)
+    kinds = zip(KINDS, list(store.counts(SIGN + kind for kind in KINDS)))
+    told = ", ".join(f"{count:,} {kind}" for kind, count in kinds if count)
     told = f" ({told})" if told else ""
     return [f"documents  {counts.live:,}{told}, next number {counts.next:,}",
             f"days       {' to '.join(_days(store)) or 'none'}"]
@@ -41,7 +45,7 @@ def _edge(store: Store, step: int) -> str:
     """The day of a document behind which none lies: going back the last, going on the first."""
     day, spans = "", list(SPANS[1:-1])
     while spans:
-        day = next((span for span in spans[::step] if store.find(SIGN + span)), "")
+        day = next((span for span in spans[::step] if store.has(SIGN + span)), "")
         spans = within(day) if day else []
     return day
 

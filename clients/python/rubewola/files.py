@@ -3,6 +3,7 @@
 from __future__ import annotations
 
 import bz2
+import errno
 import gzip
 import lzma
 import os
@@ -11,15 +12,16 @@ import stat
 import sys
 import tempfile
 import zlib
-from collections.abc import Iterator
+from collections.abc import Callable, Iterable, Iterator
 from contextlib import contextmanager
 from datetime import date
 from functools import lru_cache
-from typing import BinaryIO
+from typing import Any, BinaryIO
 
 from .told import InputRefused
 
 STANDARD_INPUT = "-"
+UNPACKED = 10  # Times the bytes of a packed file that come out of it, or fewer.
 
 _PACKED = {b"\x1f\x8b": gzip.open, b"BZh": bz2.open, b"\xfd7zXZ\0": lzma.open}
 # What begins files that are no text, and what to do about them.
@@ -40,6 +42,8 @@ _ODD = bytes([*range(1, 8), *range(14, 27), *range(28, 32), 127])
 @lru_cache(maxsize=None)
 def _held(path: str) -> BinaryIO:
     """A file with all that standard input or a pipe gives, which can be read once."""
+    if path == STANDARD_INPUT and sys.stdin is None:
+        raise OSError(errno.EBADF, "standard input is closed")
     held = tempfile.TemporaryFile()
     with open(sys.stdin.fileno() if path == STANDARD_INPUT else path, "rb",
               closefd=path != STANDARD_INPUT) as stream:
@@ -48,14 +52,56 @@ def _held(path: str) -> BinaryIO:
     return held
 
 
+class Stream:
+    """The bytes of a file, unpacked. Where no more of it can be read it ends, and the file's
+    `fault` says why."""
+
+    def __init__(self, source: Input, stream: Any) -> None:
+        self._source, self._stream = source, stream
+
+    def _tried(self, read: Callable[[int], bytes], size: int) -> bytes:
+        try:
+            data = read(size)
+            self._source.is_read |= bool(data)
+            return data
+        except (EOFError, zlib.error, lzma.LZMAError, OSError) as error:
+            why = (error.strerror if isinstance(error, OSError) else None) or (
+                f"its end is missing, or it is damaged ({error})")
+            self._source.fault = f"{self._source.path}: {why}"
+            return b""
+
+    def read(self, size: int) -> bytes:
+        """So many bytes, or what there is."""
+        pieces, left = [], size
+        while left and (data := self._tried(self._stream.read1, left)):
+            pieces.append(data)
+            left -= len(data)
+        return b"".join(pieces)
+
+    def line(self, longest: int) -> bytes:
+        """A line, or so many bytes of it."""
+        return self._tried(self._stream.readline, longest)
+
+    def lines(self, longest: int) -> Iterator[tuple[bytes, int]]:
+        """Lines, each with how many bytes it has. Of a longer one the beginning is given, and its
+        end, if it has one."""
+        while line := self.line(longest):
+            size, last = len(line), line
+            while not last.endswith(b"\n") and (more := self.line(longest)):
+                size, last = size + len(more), more
+            ends = last.endswith(b"\n") and size > len(line)
+            yield (line + b"\n" if ends else line), size
+
+
 class Input:
-    """A file that is loaded, by its name."""
+    """A file that is loaded, by its name; with its `fault`, once no more of it can be read, and
+    whether any of it could be."""
 
     def __init__(self, path: str) -> None:
-        self.path = path
+        self.path, self.fault, self.is_read = path, "", False
         self._is_file = path != STANDARD_INPUT and stat.S_ISREG(os.stat(path).st_mode)
         if os.path.isdir(path) and path != STANDARD_INPUT:
-            raise IsADirectoryError(f"{path}: is a folder")
+            raise IsADirectoryError(errno.EISDIR, "is a folder", path)
         with self._raw() as raw:
             told, head = os.fstat(raw.fileno()), raw.read(8)
         self.size, self.written = told.st_size, date.fromtimestamp(told.st_mtime)
@@ -79,20 +125,21 @@ class Input:
         held.seek(0)
         return os.fdopen(os.dup(held.fileno()), "rb")
 
+    @property
+    def room(self) -> int:
+        """About how many bytes come out of it."""
+        return self.size * (UNPACKED if self._open else 1)
+
     @contextmanager
-    def opened(self) -> Iterator[tuple[BinaryIO, BinaryIO]]:
+    def opened(self) -> Iterator[tuple[Stream, BinaryIO]]:
         """The file's bytes, unpacked, and the file as it lies there, whose place tells how much is
         read."""
         with self._raw() as raw:
-            try:
-                if not self._open:
-                    yield raw, raw
-                    return
-                with self._open(raw) as unpacked:
-                    yield unpacked, raw
-            except (EOFError, zlib.error, lzma.LZMAError, gzip.BadGzipFile) as error:
-                raise InputRefused(f"{self.path}: its end is missing, or it is damaged "
-                                   f"({error})") from error
+            if not self._open:
+                yield Stream(self, raw), raw
+                return
+            with self._open(raw) as unpacked:
+                yield Stream(self, unpacked), raw
 
     def refuse_what_is_no_text(self) -> None:
         """Refuses archives, programs and the like."""
@@ -106,3 +153,17 @@ class Input:
             told = "no text"
         if told:
             raise InputRefused(f"{self.path}: {told}")
+
+
+def inputs(paths: Iterable[str]) -> tuple[list[Input], list[str]]:
+    """The files of these names, each once; and why others cannot be read."""
+    found: dict[str, Input] = {}
+    passed: list[str] = []
+    for path in paths:
+        try:
+            one = Input(path)
+        except OSError as error:
+            passed.append(f"{path}: {error.strerror or error}")
+        else:
+            found[one.name] = one
+    return [*found.values()], passed

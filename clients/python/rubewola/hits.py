@@ -17,10 +17,10 @@ class Hits:
 
     def __init__(self, stores: list[Store], typed: str) -> None:
         notes: list[str] = []
-        self._found = [searching.answer(store, typed, notes.append) for store in stores]
+        self.found = [searching.answer(store, typed, notes.append) for store in stores]
         self.notes = [*dict.fromkeys(notes)]
-        self.words = self._found[0].query.words
-        self.numbers = self._merged(found.numbers for found in self._found)
+        self.query = self.found[0].query
+        self.numbers = self._merged(found.numbers for found in self.found)
 
     @staticmethod
     def _merged(each: Iterable[list[int]]) -> list[tuple[int, int]]:
@@ -28,11 +28,7 @@ class Hits:
 
     def inside(self, span: str) -> list[tuple[int, int]]:
         """What of it lies in a decade, a year, a month or a day, as its digits."""
-        return self._merged(found.inside(span) for found in self._found)
-
-    def counts(self, spans: list[str]) -> list[int]:
-        """How much of it lies in each of many."""
-        return [*map(sum, zip(*(found.counts(spans) for found in self._found)))]
+        return self._merged(found.inside(span) for found in self.found)
 
     def read(self, start: int, count: int) -> list[dict[str, Any]]:
         """So many documents behind the newest `start`, the newest first; `store` is the place of
@@ -40,6 +36,6 @@ class Hits:
         newer = {*searching.newest(self, start)} if start else set()
         wanted = [hit for hit in searching.newest(self, start + count) if hit not in newer]
         results = searching.Results()
-        for place, found in enumerate(self._found):
+        for place, found in enumerate(self.found):
             results.read(found.store, [number for number, at in wanted if at == place], str(place))
         return [*results.newest(count)][::-1]

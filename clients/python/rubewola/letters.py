@@ -3,7 +3,7 @@
 from __future__ import annotations
 
 import re
-from unicodedata import category, normalize
+from unicodedata import category, combining, normalize
 
 # Signs that nobody sees and that would be part of a word: soft hyphens, signs of direction, joiners
 # at a word's end.
@@ -20,10 +20,28 @@ ALONE = ("[\u0e00-\u0eff\u1000-\u109f\u1780-\u17ff\u1950-\u19df\u1a20-\u1aaf"
 _ALONE = re.compile(ALONE)
 _KATAKANA = re.compile("[\u30a0-\u30ff\u31f0-\u31ff\uff66-\uff9f]+")
 
+MOST_MARKS = 30
+# A run of signs that are neither letters nor ASCII, in which there may be more.
+_MARKS = re.compile(rf"[^\w\x00-\x7f]{{{MOST_MARKS + 1},}}")
+
+
+def _few_marks(run: re.Match[str]) -> str:
+    """A run of signs, of whose marks those are left out that stand behind MOST_MARKS others."""
+    if not any(map(combining, run[0])):
+        return run[0]
+    kept, marks = [], 0
+    for sign in run[0]:
+        marks = marks + 1 if combining(sign) else 0
+        if marks <= MOST_MARKS:
+            kept.append(sign)
+    return "".join(kept)
+
 
 def clean(text: str) -> str:
-    """A text in Unicode's form NFC and without signs that nobody sees."""
-    text = normalize("NFC", text)
+    """A text in Unicode's form NFC and without signs that nobody sees. Of the marks on one letter
+    there are at most MOST_MARKS, as in Unicode's texts that are safe to stream: more are no
+    writing, and the time to order them grows with their square."""
+    text = normalize("NFC", _MARKS.sub(_few_marks, text))
     return _UNSEEN.sub("", text) if _MAYBE_UNSEEN.search(text) else text
 
 

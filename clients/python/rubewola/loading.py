@@ -21,6 +21,7 @@ from multiprocessing import active_children, connection
 from multiprocessing.process import BaseProcess
 from typing import Any, NamedTuple, Union
 
+from . import limits, searching
 from .commits import add, commit
 from .entries import Journals, JsonLines
 from .logs import Logs
@@ -29,32 +30,33 @@ from .maildirs import Maildirs
 from .progress import Progress
 from .sources import Entry, Task
 from .store import LAST_TRY, Failed, Full, NoSuchDocument, Store, StoreError, make
-from .stored import KINDS, earlier
 from .told import waits
-from .words import SIGN
 
 BATCH_DOCUMENTS, BATCH_BYTES = 4_096, 16_777_216  # A commit comes after so many.
-LEAST_UNITS, MOST_UNITS = 131_072, 2_147_483_648  # Of a new store: from 64 MiB to 1 TiB.
+LEAST_UNITS, MOST_UNITS = 524_288, 2_147_483_648  # Of a new store: from 256 MiB to 1 TiB.
 WAIT = 60  # Seconds for which a store that another program has is waited for.
 WATCHED = 1  # Seconds after which it is seen whether the processes are still there.
-AHEAD = 64  # Chunks that are decoded while a batch is added.
+AHEAD, AHEAD_BYTES = 64, 134_217_728  # Chunks that are decoded while a batch is added.
 
 Source = Union[Mailboxes, Maildirs, Logs, JsonLines, Journals]
 
 
 class Loaded(NamedTuple):
-    """What a load did: documents that were added, of which some were cut, some could not be read,
-    and some took the place of another; and documents that were deleted."""
+    """What a load did: documents that were added, of which some were cut, some are stored by their
+    heads since they could not be read or took too long, and some took the place of another;
+    documents that were deleted; and files that were passed over, or the rest of them."""
 
     documents: int = 0
     cut: int = 0
     unreadable: int = 0
+    slow: int = 0
     moved: int = 0
     pruned: int = 0
+    passed: int = 0
 
     def __str__(self) -> str:
-        told = {"cut": self.cut, "unreadable": self.unreadable, "moved": self.moved,
-                "pruned": self.pruned}
+        told = {"cut": self.cut, "unreadable": self.unreadable, "slow": self.slow,
+                "moved": self.moved, "pruned": self.pruned, "not readable": self.passed}
         more = ", ".join(f"{count} {what}" for what, count in told.items() if count)
         return f"{self.documents} documents" + (f" ({more})" if more else "")
 
@@ -80,8 +82,10 @@ class Shared:
             self._left = store.count()
 
 
-def _ends_with_parent() -> None:
-    """Lets a process end when the one that started it does, however that ends."""
+def _begin_decoding() -> None:
+    """Lets a process that decodes have so much memory, and end when the one that started it does,
+    however that ends."""
+    limits.limit_memory()
     parent = multiprocessing.parent_process()
 
     def watch() -> None:
@@ -112,18 +116,22 @@ def in_order(tasks: Iterator[Task], jobs: int) -> Iterator[list[Entry]]:
     first = list(islice(tasks, 2))
     if jobs == 1 or len(first) < 2:
         for function, *given in chain(first, tasks):
-            yield function(*given)
+            with limits.timed():
+                entries = function(*given)
+            yield entries
         return
     # A fork is quick. It comes before any other thread, and while no store is open.
     context = multiprocessing.get_context("fork" if sys.platform == "linux" else None)
-    pool, waiting = ProcessPoolExecutor(jobs, context, _ends_with_parent), deque()
-    others, own, is_broken = set(active_children()), set(), False
+    pool, waiting = ProcessPoolExecutor(jobs, context, _begin_decoding), deque()
+    others, own, is_broken, held = set(active_children()), set(), False, deque()
     try:
         for task in chain(first, tasks):
             with _no_interrupt():
                 waiting.append(pool.submit(_columns, *task))
             own.update(set(active_children()) - others)
-            if len(waiting) > AHEAD:
+            held.append(_bytes_of(task))
+            while len(waiting) > AHEAD or len(waiting) > 1 and sum(held) > AHEAD_BYTES:
+                held.popleft()
                 yield [*map(Entry._make, zip(*_result(waiting.popleft(), own)))]
         while waiting:
             yield [*map(Entry._make, zip(*_result(waiting.popleft(), own)))]
@@ -136,9 +144,16 @@ def in_order(tasks: Iterator[Task], jobs: int) -> Iterator[list[Entry]]:
         pool.shutdown(wait=not is_broken, cancel_futures=True)
 
 
+def _bytes_of(task: Task) -> int:
+    """The bytes that are handed over with a task."""
+    given = task[1] if isinstance(task[1], list) else [getattr(task[1], "lines", b"")]
+    return sum(len(one) for one in given if isinstance(one, bytes))
+
+
 def _columns(function: Callable[..., list[Entry]], *given: Any) -> list[tuple[Any, ...]]:
     """What a task gives, by columns, which are handed over twice as fast as entries."""
-    return [*zip(*function(*given))]
+    with limits.timed():
+        return [*zip(*function(*given))]
 
 
 def _result(future: Future[list[Any]], processes: set[BaseProcess]) -> list[Any]:
@@ -172,19 +187,26 @@ def _add(store: Store, entries: list[Entry]) -> Loaded:
     try:
         added = add(store, [entry.data for entry in entries])
     except Full as full:
-        raise StoreError(f"the store has no room for more: {full.need * 512:,} bytes in a row are "
-                         f"wanted, and {full.largest * 512:,} are free; what was committed before "
-                         "stays, and a larger store takes it over, as the guide tells") from full
+        raise StoreError(f"{store.path} is full: {full.need * 512:,} bytes in a row are wanted, and "
+                         f"{full.largest * 512:,} are free. What was committed before stays. Make a "
+                         f"larger one, as `rubewola create --size {_larger(store.path)} NEW`, and "
+                         "load into it, or carry this one over, as the guide tells of growing"
+                         ) from full
     return Loaded(added, sum(entry.cut for entry in entries),
-                  sum(entry.unreadable for entry in entries),
+                  sum(entry.unreadable for entry in entries), sum(entry.slow for entry in entries),
                   sum(1 for entry in entries if entry.replaces))
 
 
-def _make(path: str, size: int) -> None:
-    """Makes a store with eight times the room of the input. Its file is sparse: what is never
-    written takes no room."""
+def _larger(path: str) -> str:
+    """Four times the room of a store, as it is written."""
+    return f"{max(os.path.getsize(path) * 4 >> 20, 1)}M"
+
+
+def _make(path: str, room: int) -> None:
+    """Makes a store with eight times the bytes that are to be read. Its file is sparse: what is
+    never written takes no room."""
     try:
-        make(path, max(LEAST_UNITS, min(MOST_UNITS, size // 64)))
+        make(path, max(LEAST_UNITS, min(MOST_UNITS, room // 64)))
     except Failed as failed:
         if failed.reason != "exists":
             raise
@@ -208,19 +230,22 @@ def _refuse_earlier(store: Store, source: Source) -> None:
     """Refuses a store whose documents an earlier client wrote: they have no names."""
     if isinstance(source, Logs):
         return  # A log may go on in one.
-    others = store.find(f"NOT ({' OR '.join(SIGN + kind for kind in KINDS)})")
-    for stored in store.show_all(others[:1]):
-        if (told := earlier(stored)) and told[1]:
-            raise StoreError("the store was filled by an earlier client, whose documents have no "
-                             "names: load all into a new store")
+    if searching.has_earlier(store):
+        raise StoreError(f"{store.path} was filled by an earlier client, whose documents have no "
+                         "names: load all into a new store")
 
 
 def load(path: str, source: Source, with_parts: bool = True, jobs: int = 0,
          prune: bool = False) -> Loaded:
     """Loads what the store at the path lacks of the source; makes the store where there is none.
-    With `prune`, of a source of maildirs, it deletes the mails that are no more."""
+    What cannot be read is passed over, and told by `source.passed`. With `prune`, of a source of
+    maildirs, it deletes the mails that are no more."""
+    lost = [one.fault for one in source.inputs if one.fault and not one.is_read]
+    if source.passed + lost and source.readable == len(lost):
+        source.passed, source.readable = source.passed + lost, 0
+        return Loaded(passed=len(source.passed))
     if not os.path.exists(path):
-        _make(path, source.size)
+        _make(path, source.room)
     shared, done = Shared(path), Loaded()
     with shared.session() as store:
         _refuse_earlier(store, source)
@@ -231,6 +256,7 @@ def load(path: str, source: Source, with_parts: bool = True, jobs: int = 0,
     with closing(decoded), closing(progress.drawn(decoded)) as chunks:
         for batch in _batches(chunks):
             progress.committed(done.documents)
+            batch = _readable(source, batch)
             with shared.session() as store:
                 if shared.changed:
                     batch = source.still_lacking(store, batch)
@@ -239,4 +265,13 @@ def load(path: str, source: Source, with_parts: bool = True, jobs: int = 0,
         with shared.session() as store:
             done = done._replace(pruned=source.prune(store))
             commit(store)
-    return done
+    source.passed.extend(one.fault for one in source.inputs if one.fault)
+    return done._replace(passed=len(source.passed))
+
+
+def _readable(source: Source, batch: list[Entry]) -> list[Entry]:
+    """The entries that could be read; the source is told of the others."""
+    passed = [entry.passed for entry in batch if entry.passed]
+    source.passed.extend(passed)
+    source.readable -= len(passed)
+    return [entry for entry in batch if not entry.passed]

@@ -11,20 +11,23 @@ import glob
 import os
 import re
 from collections.abc import Callable, Iterator
+from contextlib import suppress
 from datetime import date
 from hashlib import blake2b
-from typing import BinaryIO, NamedTuple
+from typing import NamedTuple
 
-from . import days
+from . import days, limits
 from .charsets import decoded
-from .documents import document
-from .files import Input
+from .documents import MOST_BYTES, document
+from .files import Input, Stream, inputs
 from .sources import CHUNK_BYTES, CHUNK_ITEMS, Entry, Task, has_kind
 from .store import NoSuchDocument, Store, StoreError
 from .stored import earlier, split
 from .words import SIGN, asked, digest, named
 
 _LINE_END = b"\n"
+LONGEST_LINE = MOST_BYTES  # Bytes of a line that are read.
+_DIGITS = 18  # Of the bytes of a file.
 
 
 class Mark(NamedTuple):
@@ -44,7 +47,7 @@ class Mark(NamedTuple):
 def _mark_of(stored: str) -> Mark | None:
     known = split(stored)[1]
     size, _, told = known.get("read", "").partition("_")
-    if not size.isdigit() or "first" not in known:
+    if not size.isdecimal() or len(size) > _DIGITS or "first" not in known:
         return None
     return Mark(known["first"], int(size), told, known.get("file", ""))
 
@@ -59,14 +62,17 @@ class _Digests:
     """The digests of what a file begins with."""
 
     def __init__(self) -> None:
-        self._state, self.size = blake2b(digest_size=8), 0
+        self._state, self.size, self.is_line_end = blake2b(digest_size=8), 0, True
 
     def take(self, data: bytes) -> None:
+        """Takes bytes that follow."""
         self._state.update(data)
         self.size += len(data)
+        self.is_line_end = data.endswith(_LINE_END)
 
     @property
     def digest(self) -> str:
+        """The digest of all that was taken."""
         return self._state.copy().hexdigest()
 
 
@@ -90,10 +96,18 @@ class _File:
 
     def __init__(self, source: Input) -> None:
         self.source, self.begin, self.note = source, 0, ""
-        with source.opened() as (stream, _):
-            line = stream.readline()
-        whole = line.endswith(_LINE_END) or line and not source.grows
-        self.first = digest(line) if whole else ""
+        self.first = _first_of(source)
+
+
+def _first_of(source: Input) -> str:
+    """The digest of a file's first line, however long that is; nothing where it has no end yet."""
+    digests, last = _Digests(), b""
+    with source.opened() as (stream, _):
+        while not last.endswith(_LINE_END) and (more := stream.line(LONGEST_LINE)):
+            last = more
+            digests.take(last)
+    whole = last.endswith(_LINE_END) or last and not source.grows
+    return digests.digest if whole else ""
 
 
 class Read(NamedTuple):
@@ -119,12 +133,27 @@ def entries_of(read: Read, kind: str, parsed: Callable[[bytes, date], Line],
         lines.pop()
     entries, last, query = [], len(lines) - 1, f"{read.first} {read.begin}"
     for at, line in enumerate(lines):
-        text, words, unreadable = parsed(line.rstrip(b"\r"), read.written)
-        if at in (0, last):
-            words = [*read.marks, *words]
-        data, is_cut = document(kind, text, words, with_parts)
-        entries.append(Entry(data, query, 0, is_cut, unreadable))
+        marks = read.marks if at in (0, last) else []
+        entries.append(entry(kind, line.rstrip(b"\r"), parsed, read.written, marks, query, with_parts))
     return entries
+
+
+def entry(kind: str, line: bytes, parsed: Callable[[bytes, date], Line], written: date,
+          marks: list[str], asked_by: str, with_parts: bool) -> Entry:
+    """A line as a document with these marks. One that takes too much time or memory is stored as
+    it stands."""
+    for read_as in (parsed, _bare):
+        limits.begin(len(line))
+        with suppress(limits.Slow, MemoryError):
+            text, words, is_unreadable = read_as(line, written)
+            data, is_cut = document(kind, text, [*marks, *words],
+                                    with_parts and read_as is parsed)
+            return Entry(data, asked_by, 0, is_cut, is_unreadable, read_as is not parsed)
+    raise MemoryError
+
+
+def _bare(line: bytes, _: date) -> Line:
+    return decoded(line[:MOST_BYTES]), [], False
 
 
 def _parsed(line: bytes, written: date) -> Line:
@@ -142,13 +171,16 @@ class Logs:
 
     kind = "log"
     read_chunk = staticmethod(_read_lines)
+    longest = LONGEST_LINE
 
     def __init__(self, *paths: str) -> None:
-        self.inputs = [*{one.name: one for one in map(Input, paths)}.values()]
+        self.inputs, self.passed = inputs(paths)
         for one in self.inputs:
             one.refuse_what_is_no_text()
         self.size, self.read = sum(one.size for one in self.inputs), 0
+        self.room = sum(one.room for one in self.inputs)
         self.notes: list[str] = []
+        self.readable = len(self.inputs)
         self._files: list[_File] = []
 
     def begin(self, store: Store) -> None:
@@ -209,8 +241,8 @@ class Logs:
         text, _ = told
         for file in self._files:
             with file.source.opened() as (stream, _):
-                for line in stream:
-                    number, file.begin = number - 1, file.begin + len(line)
+                for line, size in stream.lines(self.longest):
+                    number, file.begin = number - 1, file.begin + size
                     if number == 0:
                         if decoded(line).split() == text.split():
                             self.notes.append("the store is of an earlier client: `date:` finds no "
@@ -230,20 +262,50 @@ class Logs:
                     yield self.read_chunk, read, with_parts
             before += file.source.size
 
-    def _reads(self, file: _File, stream: BinaryIO) -> Iterator[Read]:
+    def _reads(self, file: _File, stream: Stream) -> Iterator[Read]:
         digests, last = _Digests(), _LINE_END
         while digests.size < file.begin:
             last = stream.read(min(file.begin - digests.size, CHUNK_BYTES))
+            if not last:
+                return
             digests.take(last)
-        if not last.endswith(_LINE_END):  # A last line that had no end.
-            digests.take(stream.readline())
-        for lines in _whole_lines(stream, file.source, self.notes):
+        while not last.endswith(_LINE_END) and (last := stream.line(self.longest)):
+            digests.take(last)  # A last line that had no end.
+        begin = digests.size
+        for lines in self._whole_lines(stream, file.source, digests):
             if file.note:
                 self.notes.append(file.note)
-            begin, file.note = digests.size, ""
-            digests.take(lines)
+            file.note = ""
             mark = Mark(file.first, digests.size, digests.digest, file.source.name)
             yield Read(lines, mark.words(), file.first, begin, file.source.written)
+            begin = digests.size
+
+    def _whole_lines(self, stream: Stream, source: Input, digests: _Digests) -> Iterator[bytes]:
+        """The lines of a stream, so many at once as a process decodes; the digests are those of
+        all that is read up to there. A last one without its end is left out where more may come. Of
+        one that is too long the rest is passed over."""
+        rest = b""
+        while data := stream.read(max(CHUNK_BYTES, len(rest)) // 4):
+            *pieces, rest = _pieces(rest + data)
+            for piece in pieces:
+                digests.take(piece)
+                yield piece
+            if len(rest) > self.longest and (end := rest.rfind(_LINE_END) + 1):
+                digests.take(rest[:end])
+                yield rest[:end]
+                rest = rest[end:]
+            if len(rest) > self.longest:
+                digests.take(rest)
+                begin, rest = rest[:self.longest], _behind_line(stream, digests)
+                if digests.is_line_end or not source.grows:
+                    yield begin + _LINE_END
+        end = rest.rfind(_LINE_END) + 1 if source.grows else len(rest)
+        if rest[:end]:
+            digests.take(rest[:end])
+            yield rest[:end]
+        if rest[end:] or not digests.is_line_end:
+            self.notes.append(f"{source.path}: its last line has no end yet, and waits for the next "
+                              "load")
 
     def still_lacking(self, store: Store, entries: list[Entry]) -> list[Entry]:
         """The entries, if nobody has added lines behind those that this load knows of."""
@@ -266,21 +328,17 @@ def _rotated(source: Input) -> list[Input]:
     """The files that a log may have been rotated to, the oldest first."""
     numbered = re.compile(re.escape(source.path) + r"[.-](?:\d[\d-]*|old)(?:\.(?:gz|xz|bz2))?")
     paths = filter(numbered.fullmatch, glob.glob(glob.escape(source.path) + "[.-]*"))
-    return [Input(path) for path in sorted(filter(os.path.isfile, paths), key=os.path.getmtime)]
+    return inputs(sorted(filter(os.path.isfile, paths), key=os.path.getmtime))[0]
 
 
-def _whole_lines(stream: BinaryIO, source: Input, notes: list[str]) -> Iterator[bytes]:
-    """The lines of a stream, so many at once as a process decodes. A last one without its end is
-    left out where more may come."""
-    rest = b""
-    while data := stream.read(max(CHUNK_BYTES, len(rest)) // 4):
-        *pieces, rest = _pieces(rest + data)
-        yield from pieces
-    end = rest.rfind(_LINE_END) + 1 if source.grows else len(rest)
-    if rest[:end]:
-        yield rest[:end]
-    if rest[end:]:
-        notes.append(f"{source.path}: its last line has no end yet, and waits for the next load")
+def _behind_line(stream: Stream, digests: _Digests) -> bytes:
+    """Reads on to the end of a line, and gives what is read behind it."""
+    while data := stream.read(CHUNK_BYTES):
+        end = data.find(_LINE_END) + 1
+        digests.take(data[:end] if end else data)
+        if end:
+            return data[end:]
+    return b""
 
 
 def _pieces(data: bytes) -> Iterator[bytes]:

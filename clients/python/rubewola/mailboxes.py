@@ -4,18 +4,29 @@ from __future__ import annotations
 
 import re
 from collections.abc import Iterator
-from typing import BinaryIO
 
-from .documents import document
-from .files import Input
-from .mails import mail, query_of
+from .files import Stream, inputs
+from .mails import LONGEST_MAIL, entry, query_of
 from .sources import Entry, Named
 from .store import Store
 from .told import InputRefused
 
 _READ, _LOOKED_AT, _SUM_DIGITS = 4_194_304, 1_024, 16
 _BEGIN = b"From "
-_TIMED = re.compile(rb"From \S.* \d\d:\d\d(?::\d\d)? .*\d{4}|From \S.* \d{4} \d\d:\d\d")
+_BEHIND = 4  # Bytes before a line `From ` that tell whether it stands behind an empty line.
+_TIME, _YEAR = re.compile(rb" \d\d:\d\d(?::\d\d)? "), re.compile(rb"\d{4}")
+_YEAR_AND_TIME = re.compile(rb" \d{4} \d\d:\d\d")
+
+
+def _is_timed(data: bytes, at: int, end: int) -> bool:
+    """Whether a line that begins with `From ` has a sender and a time, as `23:30:00 2010`."""
+    sender = at + len(_BEGIN)
+    if data[sender:sender + 1].isspace():
+        return False
+    if time := _TIME.search(data, sender, end):
+        if _YEAR.search(data, time.end(), end):
+            return True
+    return bool(_YEAR_AND_TIME.search(data, sender, end))
 
 
 def _is_behind_empty_line(data: bytes, at: int) -> bool:
@@ -30,37 +41,65 @@ def _bare(data: bytes) -> bytes:
     return raw[:-1] if raw.endswith(b"\n\n") or raw == b"\n" else raw
 
 
-def boxed(stream: BinaryIO) -> Iterator[bytes]:
+class _Box:
+    """A mailbox as it is read: `data` begins with the mail that is read, or, once that is too long,
+    goes on in its midst; then `held` is its beginning."""
+
+    def __init__(self, stream: Stream) -> None:
+        self._stream, self._size = stream, _READ
+        self.data, self.start, self._searched = stream.read(_READ).lstrip(b"\r\n"), 0, 0
+        self._held = b""
+        first = self.data.find(b"\n")
+        first = len(self.data) if first < 0 else first
+        self._is_timed = self.data.startswith(_BEGIN) and _is_timed(self.data, 0, first)
+
+    def mails(self) -> Iterator[bytes]:
+        """The mails."""
+        while True:
+            at = self.data.find(b"\n" + _BEGIN, self._searched)
+            end = self.data.find(b"\n", at + 1) if at >= 0 else -1
+            if end < 0:  # The line `From ` may not be read whole yet.
+                if not self._more(at if at >= 0 else len(self.data) - len(_BEGIN)):
+                    break
+            elif self._begins(at, end):
+                yield self._ended(at + 1)
+                self.start = self._searched = at + 1
+            else:
+                self._searched = end
+        if self._held or self.data[self.start:]:
+            yield self._ended(len(self.data))
+
+    def _begins(self, at: int, end: int) -> bool:
+        """Whether a mail begins with the line behind a place."""
+        if self._is_timed:
+            return _is_timed(self.data, at + 1, end)
+        return _is_behind_empty_line(self.data, at)
+
+    def _ended(self, end: int) -> bytes:
+        """The mail that ends at a place."""
+        raw, self._held = self._held or self.data[self.start:end], b""
+        return _bare(raw)[:LONGEST_MAIL]
+
+    def _more(self, searched: int) -> bool:
+        """Reads on; whether there is more. Of a mail that is too long the beginning is kept."""
+        more = self._stream.read(self._size)
+        if len(self.data) - self.start > LONGEST_MAIL + _LOOKED_AT and not self._held:
+            self._held = self.data[self.start:self.start + LONGEST_MAIL + _LOOKED_AT]
+        kept = max(searched - _BEHIND, self.start) if self._held else self.start
+        self._searched = max(searched, self.start) - kept
+        self.data, self.start = self.data[kept:] + more, 0
+        self._size = max(self._size, min(len(self.data), LONGEST_MAIL))
+        return bool(more)
+
+
+def boxed(stream: Stream) -> Iterator[bytes]:
     """The mails of a mailbox. A line `From ` begins one: where the first of the box has a time,
     each that has one, else each behind an empty line."""
-    data, start, searched, size = stream.read(_READ).lstrip(b"\r\n"), 0, 0, _READ
-    timed = bool(_TIMED.match(data))
-    while True:
-        at = data.find(b"\n" + _BEGIN, searched)
-        end = data.find(b"\n", at + 1) if at >= 0 else -1
-        if end < 0:  # The line `From ` may not be read whole yet.
-            more = stream.read(size)
-            if not more:
-                break
-            searched = (at if at >= 0 else max(len(data) - len(_BEGIN), start)) - start
-            data, start, size = data[start:] + more, 0, max(size, len(data) - start)
-        elif _TIMED.match(data, at + 1, end) if timed else _is_behind_empty_line(data, at):
-            yield _bare(data[start:at + 1])
-            start = searched = at + 1
-        else:
-            searched = end
-    if data[start:]:
-        yield _bare(data[start:])
+    return _Box(stream).mails()
 
 
 def _read(mails: list[bytes], with_parts: bool) -> list[Entry]:
-    entries = []
-    for raw in mails:
-        parsed = mail(raw)
-        data, is_cut = document(Mailboxes.kind, parsed.text, parsed.words, with_parts)
-        is_cut = is_cut or parsed.cut
-        entries.append(Entry(data, query_of(raw), 0, is_cut, parsed.unreadable))
-    return entries
+    return [entry(Mailboxes.kind, raw, [], query_of(raw), with_parts) for raw in mails]
 
 
 class Mailboxes(Named):
@@ -72,8 +111,10 @@ class Mailboxes(Named):
 
     def __init__(self, *paths: str) -> None:
         super().__init__()
-        self.inputs = [*{one.name: one for one in map(Input, paths)}.values()]
+        self.inputs, self.passed = inputs(paths)
         self.size = sum(one.size for one in self.inputs)
+        self.room = sum(one.room for one in self.inputs)
+        self.readable = len(self.inputs)
         for one in self.inputs:
             with one.opened() as (stream, _):
                 head = stream.read(_LOOKED_AT).lstrip(b"\r\n")

@@ -3,14 +3,13 @@
 from __future__ import annotations
 
 import os
+import stat
 from collections import Counter
 from collections.abc import Iterator
 from contextlib import suppress
-from pathlib import Path
 from typing import NamedTuple
 
-from .documents import document
-from .mails import identity, mail
+from .mails import LONGEST_MAIL, entry, identity
 from .places import FOLDERS, Places, base_name, place_of
 from .sources import Entry, Named
 from .store import Store
@@ -27,32 +26,44 @@ class Wanted(NamedTuple):
 
 
 def _raw(path: str) -> bytes | None:
-    """The bytes of a mail, whose flags may have changed since its folder was looked at."""
+    """The bytes of a mail, whose flags may have changed since its folder was looked at; None where
+    it is gone."""
     with suppress(FileNotFoundError):
-        return Path(path).read_bytes()
+        return _begin_of(path)
     with suppress(FileNotFoundError):
         now = Places().path_at(place_of(path))
-        return Path(now).read_bytes() if now else None
+        return _begin_of(now) if now else None
     return None
 
 
+def _begin_of(path: str) -> bytes:
+    with open(path, "rb") as file:
+        return file.read(LONGEST_MAIL)
+
+
 def _sum(path: str) -> str | None:
-    raw = _raw(path)
-    return None if raw is None else identity(raw)[1]
+    """The checksum of a mail; None where it is gone or cannot be read."""
+    with suppress(OSError):
+        raw = _raw(path)
+        return None if raw is None else identity(raw)[1]
+    return None
 
 
 def _read(wanted: list[Wanted], with_parts: bool) -> list[Entry]:
-    entries = []
-    for path, replaces in wanted:
+    return [one for path, replaces in wanted for one in _entries(path, replaces, with_parts)]
+
+
+def _entries(path: str, replaces: int, with_parts: bool) -> Iterator[Entry]:
+    """A mail; none where it is gone; why, where it cannot be read."""
+    place = named("path", place_of(path))
+    try:
         raw = _raw(path)
-        if raw is None:  # The mail is gone.
-            continue
-        parsed, place = mail(raw), named("path", place_of(path))
-        words = [*place, *named("name", base_name(path)), *parsed.words]
-        data, is_cut = document(Maildirs.kind, parsed.text, words, with_parts)
-        is_cut = is_cut or parsed.cut
-        entries.append(Entry(data, place[0], replaces, is_cut, parsed.unreadable))
-    return entries
+    except OSError as error:
+        yield Entry(b"", place[0], passed=f"{path}: {error.strerror}")
+        return
+    if raw is not None:
+        names = [*place, *named("name", base_name(path))]
+        yield entry(Maildirs.kind, raw, names, place[0], with_parts, replaces)
 
 
 class Maildirs(Named):
@@ -66,18 +77,22 @@ class Maildirs(Named):
         super().__init__()
         self.paths = [path for top in tops for path in self._files(top)]
         self.paths = sorted(dict.fromkeys(self.paths), key=lambda path: (base_name(path), path))
-        self.size = sum(map(_bytes_of, self.paths))
+        self.size = self.room = sum(map(_bytes_of, self.paths))
+        self.readable = len(self.paths)
         count = Counter(map(base_name, self.paths))
         self._twice = {name for name, files in count.items() if files > 1}
         self._taken: dict[str, list[str]] = {}
         self._replaced: set[int] = set()
 
-    @staticmethod
-    def _files(top: str) -> Iterator[str]:
+    def _files(self, top: str) -> Iterator[str]:
         """The files of mails below a folder; of folders that are linked, each once."""
         top, seen, is_maildir = os.path.abspath(top), set(), False
-        os.listdir(top)  # Complains where there is no folder.
-        for folder, below, names in os.walk(top, onerror=_complain, followlinks=True):
+        try:
+            os.stat(top)
+        except OSError as error:
+            self.passed.append(f"{top}: {error.strerror}")
+            return
+        for folder, below, names in os.walk(top, onerror=self._pass, followlinks=True):
             known = os.path.realpath(folder)
             if known in seen:
                 below.clear()
@@ -86,10 +101,23 @@ class Maildirs(Named):
             if os.path.basename(folder) in FOLDERS:
                 is_maildir = True
                 files = (os.path.join(folder, name) for name in names if not name.startswith("."))
-                yield from filter(os.path.isfile, files)
-        if not is_maildir:
+                yield from filter(self._is_mail, files)
+        if not is_maildir and not self.passed:
             raise InputRefused(f"no maildir in {top}: neither `cur` nor `new` is there, nor in a "
                                "folder below")
+
+    def _is_mail(self, path: str) -> bool:
+        """Whether a file is there; what cannot be looked at is passed over."""
+        try:
+            return stat.S_ISREG(os.stat(path).st_mode)
+        except OSError as error:
+            self._pass(error)
+        return False
+
+    def _pass(self, error: OSError) -> None:
+        """Keeps why a folder or a file cannot be read, if it is there."""
+        if not isinstance(error, FileNotFoundError):
+            self.passed.append(f"{error.filename}: {error.strerror}")
 
     def items(self) -> Iterator[str]:
         """The paths of all mails."""
@@ -125,13 +153,17 @@ class Maildirs(Named):
         if name not in self._twice:
             return False
         own, before = _sum(path), self._taken.setdefault(name, [])
+        if own is None:
+            return False
         is_copy = own in before
         before.append(own)
         return is_copy
 
     def prune(self, store: Store) -> int:
         """Deletes the mails that are in none of the folders, nor at the place where they were, and
-        gives how many they were."""
+        gives how many they were. Where a folder cannot be read none is deleted: it may hold them."""
+        if self.passed:
+            return 0
         here = [asked("path", place_of(path)) for path in self.paths]
         kept = {number for found in self.found(store, here) for number in found}
         lost = [number for number in store.find(SIGN + self.kind) if number not in kept]
@@ -141,11 +173,6 @@ class Maildirs(Named):
                 if not places.path_at(split(text)[1].get("path", ""))]
         list(store.ask_all(f"delete {number}" for number in gone))
         return len(gone)
-
-
-def _complain(error: OSError) -> None:
-    if not isinstance(error, FileNotFoundError):  # The folder is gone.
-        raise error
 
 
 def _bytes_of(path: str) -> int:

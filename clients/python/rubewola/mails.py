@@ -9,27 +9,31 @@ from __future__ import annotations
 import re
 from collections.abc import Iterator
 from contextlib import suppress
-from email import errors, header, message_from_bytes
-from email.message import Message
 from functools import lru_cache
 from typing import NamedTuple
 
-from . import days
+from . import days, limits
 from .charsets import decoded
+from .documents import MOST_BYTES, document
+from .mime import LONGEST_FIELD, Part, blocks, read, text_of
 from .pages import charset_of, page_text
+from .sources import Entry
 from .stored import HEAD
-from .words import APART, asked, clean, digest, field_words, named
+from .words import APART, asked, clean, digest, field_words, guarded, named, unguarded
 
-LONGEST_FIELD = 262_144
+LONGEST_MAIL = 134_217_728  # Bytes of a mail that are read.
+MOST_HEAD_BYTES = 500_000  # Of the lines of a head, as they are stored.
 
 # Fields of a mailbox's mail that change as it is read.
 _CHANGING = re.compile(rb"^(?:Status|X-Status|X-Keywords|X-UID|X-IMAP|X-IMAPbase|Content-Length"
                        rb"|Lines|X-Mozilla-Status2?|X-Mozilla-Keys|X-Evolution|X-KMail-[\w-]+)"
                        rb"[ \t]*:.*\n(?:[ \t].*\n)*", re.IGNORECASE | re.MULTILINE)
-_ID = re.compile(rb"^Message-ID[ \t]*:\s*(.*(?:\r?\n[ \t].*)*)", re.IGNORECASE | re.MULTILINE)
+_ID = re.compile(rb"^Message-ID[ \t]*:(.*(?:\r?\n[ \t].*)*)", re.IGNORECASE | re.MULTILINE)
 _BLANK = re.compile(rb"^\r?\n", re.MULTILINE)
 # Texts whose long lines go on behind a space.
 _FOLDED = ("text/calendar", "text/vcard", "text/x-vcard", "text/directory")
+_WITH_PARTS = ("multipart/", "message/partial", "message/rfc822")
+_DEEPEST = 8  # Alternatives within alternatives; of those further in all is shown.
 # What HTML may have more of than the plain text beside it: five times its words.
 _RICHER = 5
 
@@ -41,6 +45,7 @@ class Parsed(NamedTuple):
     words: list[str]
     cut: bool = False
     unreadable: bool = False
+    slow: bool = False
 
 
 @lru_cache(maxsize=1)
@@ -69,61 +74,53 @@ def one_line(text: str) -> str:
     return " ".join(text.split()).encode("utf-8", "replace").decode()
 
 
-def _unfolded(value: object) -> str:
-    value = value[:LONGEST_FIELD] if isinstance(value, str) else value
-    with suppress(errors.MessageError, ValueError):
-        return "".join(piece if isinstance(piece, str) else decoded(piece, charset)
-                       for piece, charset in header.decode_header(value))
-    return str(value)
-
-
-def field(message: Message, name: str) -> str:
+def field(part: Part, name: str) -> str:
     """The header fields of a name as one line of text."""
-    values = message.get_all(name)
-    return one_line(", ".join(map(_unfolded, values))[:LONGEST_FIELD]) if values else ""
+    values = part.values(name)
+    return one_line(", ".join(map(text_of, values))[:LONGEST_FIELD]) if values else ""
 
 
-def _is_long(message: Message) -> bool:
-    return any(len(str(value)) > LONGEST_FIELD for value in message.values())
+def _is_long(part: Part) -> bool:
+    return any(len(value) > LONGEST_FIELD for _, value in part.fields)
 
 
 class _Body:
     """What the parts of a mail hold: the `texts` to show, with those `behind` all parts; `more` of
     alternatives that are not shown; and the `names` of attached files."""
 
-    def __init__(self, message: Message) -> None:
+    def __init__(self, top: Part) -> None:
         self.names: list[str] = []
         self.more: list[str] = []
         self.behind: list[str] = []
-        self.texts = [*self._texts(message, True), *self.behind]
+        self.texts = [*self._texts(top, 0, True), *self.behind]
 
-    def _texts(self, top: Message, is_mail: bool = False) -> Iterator[str]:
+    def _texts(self, top: Part, depth: int, is_mail: bool = False) -> Iterator[str]:
         waiting = [top]  # No recursion: parts may stand in one another a thousand deep.
         while waiting:
             part = waiting.pop()
-            kind = part.get_content_type()
-            is_text, is_attached = part.get_content_maintype() == "text", _is_attached(part)
+            is_text = part.kind.startswith("text/")
+            is_attached = part.is_attached or part.kind == "text/x-amp-html"
             is_whole = is_mail and part is top  # Of a mail of one part that is the text.
-            name = part.get_filename()
+            name = one_line(part.file_name)
             if name and (is_attached or not is_text or not is_whole):
-                self.names.append(one_line(_unfolded(name)))
-            if part.is_multipart():
-                inner = part.get_payload()
-                yield from _heads(inner, kind)
-                if kind == "multipart/alternative":
-                    yield from self._chosen(inner)
+                self.names.append(name)
+            if part.kind.startswith("message/"):
+                yield from _heads(part)
+            if part.inner:
+                if part.kind == "multipart/alternative" and depth < _DEEPEST:
+                    yield from self._chosen(part.inner, depth + 1)
                 else:
-                    waiting.extend(reversed(inner))
-                if part.epilogue and part.epilogue.strip():
-                    self.behind.append(part.epilogue)
-            elif kind.startswith("multipart/") or is_text and (is_whole or not is_attached):
-                yield _part_text(part, kind)
+                    waiting.extend(reversed(part.inner))
+                if part.behind.strip():
+                    self.behind.append(decoded(part.behind))
+            elif part.kind.startswith(_WITH_PARTS) or is_text and (is_whole or not is_attached):
+                yield _part_text(part)
 
-    def _chosen(self, inner: list[Message]) -> Iterator[str]:
+    def _chosen(self, inner: list[Part], depth: int) -> Iterator[str]:
         """Of alternatives the plain ones, and the others too where they have many more words."""
         plain, rich = [], []
         for part in inner:
-            (plain if part.get_content_type() == "text/plain" else rich).extend(self._texts(part))
+            (plain if part.kind == "text/plain" else rich).extend(self._texts(part, depth))
         few, many = (sum(len(text.split()) for text in own) for own in (plain, rich))
         yield from plain
         if many > _RICHER * few:
@@ -132,48 +129,52 @@ class _Body:
             self.more.extend(rich)
 
 
-def _is_attached(part: Message) -> bool:
-    return part.get_content_disposition() == "attachment" or (
-        part.get_content_type() == "text/x-amp-html")
-
-
-def _heads(inner: list[Message], kind: str) -> Iterator[str]:
+def _heads(part: Part) -> Iterator[str]:
     """The heads of an attached mail, or of a report of a failed delivery, as text."""
-    if kind in ("message/rfc822", "message/news", "message/global"):
+    if part.kind in ("message/rfc822", "message/news", "message/global"):
         for name in ("from", "to", "cc", "subject", "date"):
-            if told := field(inner[0], name):
+            if part.inner and (told := field(part.inner[0], name)):
                 yield told
-    elif kind.startswith("message/"):
-        for block in inner:
-            yield "\n".join(f"{name}: {one_line(_unfolded(told))}" for name, told in block.items())
+    else:
+        for fields, rest in [(one.fields, b"") for one in part.inner] or blocks(part):
+            yield "\n".join(f"{name}: {one_line(text_of(value[:LONGEST_FIELD]))}"
+                            for name, value in fields)
+            if rest.strip():
+                yield decoded(rest)
 
 
-def _part_text(part: Message, kind: str) -> str:
-    transfer = part.get("content-transfer-encoding")
-    if transfer is not None:
-        bare = str(transfer).split(";")[0].strip(" \t\"'")
-        part.replace_header("content-transfer-encoding", bare)
-    data, charset = part.get_payload(decode=True) or b"", part.get_content_charset()
-    if kind == "text/html":
-        charset = charset or charset_of(data)
+def _part_text(part: Part) -> str:
+    data, charset = part.data, part.parameter("charset").lower()
+    if part.kind == "text/html":
+        charset = charset or charset_of(data) or ""
     text = decoded(data, charset).replace("\r\n", "\n")
-    if kind in _FOLDED:
+    if part.kind in _FOLDED:
         text = re.sub(r"\n[ \t]", "", text)
-    if str(part.get_param("delsp", "")).lower() == "yes":
+    if part.parameter("delsp").lower() == "yes":
         text = re.sub(r" \n(?!>)", "", text)
-    return page_text(text) if kind == "text/html" else text
+    return page_text(text) if part.kind == "text/html" else text
 
 
-def _day(message: Message) -> tuple[str, tuple[str, ...]]:
+def _day(top: Part) -> tuple[str, tuple[str, ...]]:
     """The time of the sender's clock, or else of the newest `Received`, and its day's words."""
-    told = field(message, "date")
-    received = (str(one).rpartition(";")[2] for one in message.get_all("received", [])[:1])
+    told = field(top, "date")
+    received = (decoded(one.rpartition(b";")[2]) for one in top.values("received")[:1])
     for text in (told, *received):
         if when := days.of_date(text):
             shown = when.isoformat(" ", "seconds")  # The zone is written as mails write it.
             zone = shown[19:].replace(":", "")
             return f"{shown[:19]} {zone}".strip(), days.words_of(when)
     return told, ()
+
+
+def _fitting(lines: list[str]) -> list[str]:
+    """The lines of a head as they are stored: each has its part of the room, so that none of them
+    takes that of the others."""
+    spelled = [guarded(clean(line)).encode() for line in lines]
+    if sum(map(len, spelled)) <= MOST_HEAD_BYTES:
+        return lines
+    most = MOST_HEAD_BYTES // len(lines)
+    return [unguarded(line[:most].decode(errors="ignore")) for line in spelled]
 
 
 def _lacking(texts: list[str], shown: str) -> list[str]:
@@ -189,29 +190,19 @@ def _words(text: str) -> list[str]:
     return re.findall(r"[^\W_]+", clean(text).casefold())
 
 
-def _parsed(message: Message, raw: bytes) -> Parsed:
-    head, (day, day_words) = [field(message, name) for name in HEAD[:4]], _day(message)
-    body = _Body(message)
+def _parsed(top: Part, raw: bytes) -> Parsed:
+    head, (day, day_words) = [field(top, name) for name in HEAD[:4]], _day(top)
+    body = _Body(top)
     text, attached = "\n".join(body.texts), ", ".join(body.names)
-    fields = {"from": head[0], "to": ", ".join(filter(None, [*head[1:3], field(message, "bcc")])),
-              "cc": head[2], "subject": head[3], "list": field(message, "list-id"),
+    fields = {"from": head[0], "to": ", ".join(filter(None, [*head[1:3], field(top, "bcc")])),
+              "cc": head[2], "subject": head[3], "list": field(top, "list-id"),
               "attachment": attached}
     found = [word for name, value in fields.items() if value for word in field_words(name, value)]
-    return Parsed("\n".join([*head, day, attached, "", text]),
+    lines = [*head, day, attached]
+    shown = _fitting(lines)
+    return Parsed("\n".join([*shown, "", text]),
                   [*_names(raw), *day_words, *found, *_lacking(body.more, text)],
-                  _is_long(message))
-
-
-def _message(raw: bytes) -> Message:
-    """The parts of a mail. Where it has one alone, its body is no work for the parser."""
-    blank = _BLANK.search(raw)
-    if blank and b"\r" not in raw[:blank.start()].replace(b"\r\n", b""):
-        message = message_from_bytes(raw[:blank.end()])
-        is_one = message.get_content_maintype() not in ("multipart", "message")
-        if is_one and not message.get_payload():
-            message.set_payload(raw[blank.end():].decode("ascii", "surrogateescape"))
-            return message
-    return message_from_bytes(raw)
+                  _is_long(top) or shown != lines)
 
 
 def mail(raw: bytes) -> Parsed:
@@ -221,14 +212,46 @@ def mail(raw: bytes) -> Parsed:
     if raw.startswith(b"From "):
         raw = raw.partition(b"\n")[2]
     try:
-        return _parsed(_message(raw), raw)
-    except Exception as error:  # Mails are broken in more ways than the parser names.
-        why = f"[not read: {type(error).__name__}]\n"
+        parsed = _parsed(read(raw), raw)
+        return parsed._replace(cut=parsed.cut or len(raw) >= LONGEST_MAIL)
+    except MemoryError:
+        raise
+    except Exception as error:  # Mails are broken in more ways than anybody knows.
+        return _by_head(raw, type(error).__name__)._replace(unreadable=True)
+
+
+def _by_head(raw: bytes, why: str) -> Parsed:
+    """The head of a mail that was not read, for a reason, and the rest as it stands."""
     blank = _BLANK.search(raw)
     end = blank.start() if blank else len(raw)
     try:
         head = re.sub(rb"^(?=Content-|MIME-)", b"X-", raw[:end], flags=re.I | re.M) + b"\n"
-        parsed = _parsed(message_from_bytes(head), raw)
+        parsed = _parsed(read(head), raw)
     except Exception:  # Nor may its head be sound.
-        parsed = Parsed("\n" * len(HEAD) + "\n", _names(raw))
-    return parsed._replace(text=parsed.text + why + decoded(raw[end:]), unreadable=True)
+        parsed = _unread(raw)
+    rest = decoded(raw[end:end + MOST_BYTES])
+    return parsed._replace(text=f"{parsed.text}[not read: {why}]\n{rest}")
+
+
+def _slow(raw: bytes) -> Parsed:
+    """A mail that takes too long, by its head."""
+    return _by_head(raw, "too slow")._replace(slow=True)
+
+
+def _unread(raw: bytes) -> Parsed:
+    """A mail of which nothing is read."""
+    return Parsed("\n" * len(HEAD) + "\n", _names(raw), slow=True)
+
+
+def entry(kind: str, raw: bytes, names: list[str], asked_by: str, with_parts: bool = True,
+          replaces: int = 0) -> Entry:
+    """A mail as a document with these names. One that takes too much time or memory is stored by
+    its head; one whose head does, by its names."""
+    for read_as in (mail, _slow, _unread):
+        limits.begin(len(raw))
+        with suppress(limits.Slow, MemoryError):
+            parsed = read_as(raw)
+            data, is_cut = document(kind, parsed.text, [*names, *parsed.words], with_parts)
+            return Entry(data, asked_by, replaces, is_cut or parsed.cut, parsed.unreadable,
+                         parsed.slow)
+    raise MemoryError

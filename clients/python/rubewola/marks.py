@@ -5,7 +5,7 @@ from __future__ import annotations
 import re
 
 from .letters import ALONE
-from .queries import plain
+from .queries import FIELDS, plain
 from .searching import as_line
 from .words import clean
 
@@ -14,32 +14,76 @@ if TYPE_CHECKING:
     from collections.abc import Iterable, Iterator
     from typing import Any
 
+    from .queries import Query
+
 BEGIN, END = "\x1b[1m", "\x1b[m"  # Bold, and as it was.
 
 # A run of letters and digits; of those that stand alone each.
 _RUN = re.compile(rf"{ALONE}|(?:(?!{ALONE})[^\W_])+")
 _INDENT = "    "
+# The fields that no line of a list has, with the names of the lines of a head.
+_HEAD_LINES = {"to": "to", "cc": "cc", "attachment": "attached"}
+FIELD_OF = {name: field for field, name in _HEAD_LINES.items()}
 _LOOKED_AT = 262_144  # Characters of a text in which a word is looked for.
 
 
 class Marks:
-    """The words of a query, and the beginnings of words, folded as the program folds them."""
+    """The words of a query, the beginnings of words and the phrases, folded as the program folds
+    them; and what is to be marked in a field alone."""
 
-    def __init__(self, typed: list[str]) -> None:
+    def __init__(self, typed: Iterable[str], fields: Iterable[tuple[str, str]] = ()) -> None:
+        self._typed, self._fields = [*typed], [*fields]
         self._words: set[str] = set()
+        self._phrases: dict[str, list[list[str]]] = {}  # By the first word.
         begun: list[str] = []
-        for chunk in typed:
+        for chunk in self._typed:
             runs = [run.casefold() for run in _RUN.findall(clean(chunk))]
+            if chunk.startswith('"') and len(runs) > 1:
+                self._phrases.setdefault(runs[0], []).append(runs)
+                continue
             if runs and chunk.endswith("*"):
                 begun.append(runs.pop())
             self._words.update(runs)
         self._begun = tuple(begun)
 
-    def _is_one(self, run: str) -> bool:
-        return run in self._words or run.startswith(self._begun)
+    @classmethod
+    def of(cls, query: Query) -> Marks:
+        """What is to be marked of a query."""
+        return cls(query.words, query.fields)
+
+    def within(self, name: str) -> Marks:
+        """What is to be marked in a field of a mail."""
+        values = [value for field, value in self._fields if field == name]
+        return Marks([*self._typed, *values]) if values else self
+
+    def of_line(self) -> Marks:
+        """What is to be marked in a line, which has its fields within it."""
+        values = [value for field, value in self._fields if field not in FIELDS]
+        return Marks([*self._typed, *values]) if values else self
 
     def _places(self, text: str) -> list[tuple[int, int]]:
-        return [run.span() for run in _RUN.finditer(text) if self._is_one(run[0].casefold())]
+        """Where something is to be marked, in the order of the text."""
+        runs = [(run.span(), run[0].casefold()) for run in _RUN.finditer(text)]
+        found: list[tuple[int, int]] = []
+        for at, ((begin, end), run) in enumerate(runs):
+            if run in self._words or run.startswith(self._begun):
+                found.append((begin, end))
+            for phrase in self._phrases.get(run, ()):
+                if [one for _, one in runs[at:at + len(phrase)]] == phrase:
+                    found.append((begin, runs[at + len(phrase) - 1][0][1]))
+        return _apart(found)
+
+    def finds(self, text: str) -> bool:
+        """Whether anything is to be marked in a text."""
+        return bool(self._places(text[:_LOOKED_AT]))
+
+    def head_line(self, doc: dict[str, Any], width: int) -> str:
+        """The line of a mail's head in which a field was found that no list of hits shows."""
+        for field, name in _HEAD_LINES.items():
+            marks = self.within(field)
+            if marks is not self and marks.finds(doc[name]):
+                return f"{name.capitalize()}: {marks.context(doc[name], width)}"
+        return ""
 
     def pieces(self, text: str) -> Iterator[tuple[str, bool]]:
         """A text in pieces, each with whether it is one of the words."""
@@ -66,13 +110,40 @@ class Marks:
         return text[begin:begin + width]
 
 
-def lines(documents: Iterable[dict[str, Any]], typed: list[str], width: int,
+def _apart(places: list[tuple[int, int]]) -> list[tuple[int, int]]:
+    """Places by where they begin, of which those that overlap are one."""
+    found: list[tuple[int, int]] = []
+    for begin, end in places:
+        if found and begin < found[-1][1]:
+            found[-1] = found[-1][0], max(end, found[-1][1])
+        else:
+            found.append((begin, end))
+    return found
+
+
+def lines(documents: Iterable[dict[str, Any]], query: Query, width: int,
           is_seen: bool) -> Iterator[str]:
-    """A line for each document, and behind that of a mail one of its text; where they are seen by
-    a person with the words marked."""
-    marks = Marks(typed)
-    show = marks.marked if is_seen else str
+    """A line for each document, and behind that of a mail one of its text, or of its head where a
+    field was found there; where they are seen by a person with the words marked."""
+    marks, room = Marks.of(query), width - len(_INDENT)
     for doc in documents:
-        yield show(as_line(doc))
-        if "date" in doc and (line := marks.context(doc["text"], width - len(_INDENT))):
-            yield _INDENT + show(line)
+        if "date" not in doc:
+            yield marks.of_line().marked(as_line(doc)) if is_seen else as_line(doc)
+            continue
+        yield _mail_line(doc, marks) if is_seen else as_line(doc)
+        head = "" if marks.finds(doc["text"]) else marks.head_line(doc, room)
+        if line := head or marks.context(doc["text"], room):
+            name = line.partition(":")[0].lower()
+            shown = marks.within(FIELD_OF.get(name, name)) if head else marks
+            yield _INDENT + (shown.marked(line) if is_seen else line)
+
+
+def _mail_line(doc: dict[str, Any], marks: Marks) -> str:
+    """The line of a mail with the words marked: in its sender and its subject also those that were
+    asked for in these."""
+    line, subject = as_line(doc), plain(doc["subject"])
+    before, found, behind = line.partition(f"  {subject}  ")
+    if not found:
+        return marks.marked(line)
+    return (marks.within("from").marked(before) + "  " + marks.within("subject").marked(subject)
+            + "  " + marks.marked(behind))

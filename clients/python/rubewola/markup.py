@@ -53,7 +53,8 @@ def page(top: str, query: str, body: str) -> str:
         '<meta name="viewport" content="width=device-width">'
         f'<title>{escaped(query or "Rubewola")}</title>'
         f'<link rel="stylesheet" href="{escaped(top)}style.css">\n'
-        f'<form action="{escaped(top)}" role="search">'
-        f'<input type="search" name="q" value="{escaped(query)}" maxlength="4096" dir="auto" '
-        f'aria-label="query" title="{_HINT}" autofocus><button>Search</button></form>\n'
+        f'<header><h1>{escaped(f"Search for {query}" if query else "Search")}</h1>'
+        f'<form action="{escaped(top)}" role="search"><label for="query">Query</label>'
+        f'<input type="search" id="query" name="q" value="{escaped(query)}" maxlength="4096" '
+        f'dir="auto" title="{_HINT}" autofocus><button>Search</button></form></header>\n'
         f"<main>{body}</main></html>\n")

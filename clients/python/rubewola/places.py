@@ -36,7 +36,7 @@ class Places:
         if folder not in self._seen:
             try:
                 self._seen[folder] = {base_name(name): name for name in os.listdir(folder)}
-            except OSError:
+            except (OSError, ValueError):  # A name that any program stored may be none.
                 self._seen[folder] = {}
         return self._seen[folder]
 

@@ -8,10 +8,10 @@ from collections.abc import Iterator
 from contextlib import suppress
 
 from . import commits, queries, searching
-from .actions import opened
+from .actions import number, opened
 from .store import Refused, Store
 from .stored import split
-from .told import tell
+from .told import Misused, tell
 
 TYPE_CHECKING = False
 if TYPE_CHECKING:
@@ -26,6 +26,9 @@ HISTORY = "~/.rubewola_history"
 def _lines() -> Iterator[str]:
     """What is typed; at a terminal with completion, and with what was typed before."""
     history = None
+    if sys.stdin is None:
+        raise Misused("standard input is closed")
+    sys.stdin.reconfigure(errors="surrogateescape")  # A line that is no text is refused, it alone.
     with suppress(ImportError, OSError):  # A Python without readline has a plain prompt.
         import readline
         if sys.stdin.isatty():
@@ -67,20 +70,51 @@ def answer(store: Store, line: str) -> str:
         lines = map(searching.as_line, results.newest(SHOWN))
         return "\n".join([*lines, f"found {len(found.numbers)}"])
     if command == "show":
-        if not rest.isdecimal():
-            return "refused show wants a number"
-        return queries.plain(split(store.show(int(rest)))[0])
+        return queries.plain(split(store.show(number(rest)))[0])
     return str(answer.__doc__) if command == "help" else store.ask(line)
+
+
+class _Uncommitted:
+    """What was added and deleted since the last commit."""
+
+    def __init__(self) -> None:
+        self.added = self.deleted = 0
+
+    def note(self, reply: str) -> None:
+        """Counts what a reply tells."""
+        self.added += reply.startswith("added ")
+        self.deleted += reply.startswith("deleted ")
+        if reply == "committed":
+            self.added = self.deleted = 0
+
+    def __str__(self) -> str:
+        told = {"added": self.added, "deleted": self.deleted}
+        return " and ".join(f"{count} {what}" for what, count in told.items() if count)
+
+
+def _answered(store: Store, line: str) -> str:
+    """The answer to a line, or why there is none."""
+    try:
+        return answer(store, line)
+    except UnicodeEncodeError:
+        return "refused not text: the line is no UTF-8"
+    except (Misused, Refused) as refused:
+        return f"refused {refused}"
 
 
 def shell(given: Given) -> int:
     """Answers a person's commands."""
     print("`help` names the commands, `quit` ends the session.")
-    with opened(given.stores[0]) as store:
-        for line in filter(None, _lines()):
-            try:
-                print(answer(store, line))
-            except Refused as refused:
-                print(f"refused {refused}")
-        commits.commit(store)
+    uncommitted = _Uncommitted()
+    try:
+        with opened(given.stores[0]) as store:
+            for line in filter(None, _lines()):
+                told = _answered(store, line)
+                uncommitted.note(told)
+                print(told)
+            commits.commit(store)
+            uncommitted.note("committed")
+    finally:
+        if str(uncommitted):
+            tell(f"not committed, and so lost: {uncommitted} documents")
     return 0

@@ -16,6 +16,10 @@ if TYPE_CHECKING:
 
 FIELDS = ("from", "to", "cc", "subject", "list", "attachment", "date", "id", "path")
 
+LONGEST = 65_536  # Characters of a query that are read; a value may be longer than what it asks for.
+# What the program refuses as a whole.
+_WHOLE = {"query too long": "the query is too long: it may have 4,096 bytes",
+          "query too deep": "the query is too deep: 64 brackets, or NOT in a row, may be open at once"}
 OPERATORS = ("AND", "OR", "NOT")
 _JOINERS = "\u200c\u200d"  # Within words of Persian and others; they steer nothing.
 
@@ -44,9 +48,9 @@ class Token(namedtuple("Token", ("text", "place", "name", "value", "rest"), defa
         return self.place + len(self.name) + 1
 
 
-class Query(namedtuple("Query", ("typed", "pieces", "notes", "words"))):
-    """A query as the program takes it: pieces with the places where they are typed; notes; and what
-    stands in it as words."""
+class Query(namedtuple("Query", ("typed", "pieces", "notes", "words", "fields"))):
+    """A query as the program takes it: pieces with the places where they are typed; notes; what
+    stands in it as words and phrases; and the values of its fields, each with the field's name."""
 
     @property
     def text(self) -> str:
@@ -83,6 +87,26 @@ def refused(told: str, query: str, place: int) -> QueryRefused:
     refusal = QueryRefused(told)
     refusal.place, refusal.args = place, (pointed(told, query, place),)
     return refusal
+
+
+def why(reason: str, text: str, byte: int | None) -> str:
+    """A reason for which the program refused a query, in plain words."""
+    if byte is None:
+        return _WHOLE.get(reason, reason)
+    before, behind = text.encode()[:byte].decode(errors="ignore"), text.encode()[byte:].decode(
+        errors="ignore")
+    if reason.startswith("query no word"):
+        return "no word is here: letters or digits make one"
+    if reason.startswith("query unclosed"):
+        return "nothing closes this " + ("quotation mark" if behind[:1] == '"' else "bracket")
+    if not behind:
+        return "the query ends where a word must come"
+    if behind[0] != ")":
+        return f"a word must come before this {behind.split(' ')[0]}"
+    outside = "".join(before.split('"')[::2])
+    if outside.count("(") > outside.count(")"):
+        return "a word must come before this closing bracket"
+    return "a closing bracket without an opening one"
 
 
 def _is_break(letter: str) -> bool:
@@ -138,13 +162,17 @@ def _tokens(typed: str) -> Iterator[Token]:
 def read(typed: str, has_field: Callable[[str], bool], today: datetime.date | None = None) -> Query:
     """The query that was typed. `has_field` tells of a name that is none of FIELDS whether
     documents of the store have it as a field."""
+    if len(typed) > LONGEST:
+        raise QueryRefused("query too long")
     typed = clean(typed.replace("\n", " "))
-    query = Query(typed, [], [], [])
+    query = Query(typed, [], [], [], [])
     tokens = [*_tokens(typed)]
     chunks = [token for token in tokens if token.is_chunk]
     for token in tokens:
         piece = _field(token, typed, has_field, today) if token.name else None
         query.pieces.append((token.place, piece or _words_text(token)))
+        if piece:
+            query.fields.append((token.name.casefold(), token.value))
         if not piece and token.is_chunk:
             query.notes.extend(_notes(token, chunks))
             if token.text not in OPERATORS:

@@ -9,12 +9,12 @@ from . import queries
 from .places import Places
 from .queries import plain, pointed
 from .store import NoSuchDocument, QueryRefused, shown
-from .stored import HEAD, MAILS, MARK, earlier, split
+from .stored import CUT, HEAD, MAILS, MARK, earlier, split
 from .words import SIGN, has_word
 
 TYPE_CHECKING = False
 if TYPE_CHECKING:
-    from collections.abc import Callable, Iterable, Iterator
+    from collections.abc import Callable, Iterator
     from typing import Any
 
     from .store import Store
@@ -23,7 +23,11 @@ IN_MEMORY = 67_108_864  # Bytes of texts that are held in memory; more go to a t
 EARLIER_CLIENT = ("documents of an earlier client have no fields that are found: load what they "
                   "come from into a new store")
 
+LONGEST_SENDER = 512  # Characters of a sender in which a name is looked for.
+
 _TAIL = MARK.replace("\n", "\v")
+_DAY = 86_400  # Seconds.
+_CLOCK = (0, 2, 5, 8, 11, 14, 17)  # Where two digits stand in `2010-05-14 23:30:00`.
 # What the days of documents lie in, the newest first: after RANGED, its decades, before it.
 SPANS = ("9", *(str(decade) for decade in range(209, 196, -1)), "0")
 
@@ -42,15 +46,10 @@ class Found(namedtuple("Found", ("store", "query", "numbers"))):
         """What of it lies in a decade, a year, a month or a day, as its digits."""
         return self.store.find(self._within(span))
 
-    def counts(self, spans: Iterable[str]) -> Iterator[int]:
-        """How much of it lies in each of many."""
-        replies = self.store.ask_all(f"find {self._within(span)}" for span in spans)
-        return (int(reply.split(" ", 2)[1].rstrip(":")) for reply in replies)
-
 
 def read(store: Store, typed: str) -> queries.Query:
     """A query with the fields of a store's documents."""
-    return queries.read(typed, lambda name: bool(store.find(has_word(name))))
+    return queries.read(typed, lambda name: store.has(has_word(name)))
 
 
 def answer(store: Store, typed: str, tell: Callable[[str], None] = _untold) -> Found:
@@ -61,13 +60,15 @@ def answer(store: Store, typed: str, tell: Callable[[str], None] = _untold) -> F
     try:
         numbers = store.find(query.text)
     except QueryRefused as refusal:
+        told = queries.why(refusal.reason, query.text, refusal.place)
         if refusal.place is not None:
             refusal.place = query.place(refusal.place)
-            refusal.args = (pointed(str(refusal), query.typed, refusal.place),)
+            told = pointed(told, query.typed, refusal.place)
+        refusal.args = (told,)
         raise
     for note in query.notes:
         tell(pointed(note.text, query.typed, note.place))
-    if SIGN in query.text and _has_earlier(store):
+    if SIGN in query.text and has_earlier(store):
         tell(EARLIER_CLIENT)
     return Found(store, query, numbers)
 
@@ -77,8 +78,8 @@ def find(store: Store, typed: str, tell: Callable[[str], None] = _untold) -> lis
     return answer(store, typed, tell).numbers
 
 
-def _has_earlier(store: Store) -> bool:
-    """Whether a store was begun by an earlier client's loader."""
+def has_earlier(store: Store) -> bool:
+    """Whether a store was begun by an earlier client's loader, as its first document tells."""
     try:
         told = earlier(store.show(1))
     except NoSuchDocument:
@@ -118,18 +119,54 @@ def parsed(stored: str, number: int) -> dict[str, Any]:
     if known.get("kind") not in MAILS:
         return {"number": number, "text": text}
     names = {name: known[name] for name in ("id", "path") if name in known}
-    lines = text.split("\n", len(HEAD) + 1)
-    return {"number": number, **names, **dict(zip(HEAD, lines[:-1])), "text": lines[-1]}
+    head, body = _mail_parts(text)
+    return {"number": number, **names, **dict(zip(HEAD, head)), "text": body}
 
 
-def _when(reply: str) -> tuple[str, str]:
-    """The day of a document and a mail's time on it, from a reply to `show`."""
+def _mail_parts(text: str) -> tuple[list[str], str]:
+    """The lines of a mail's head and its body, whatever the text holds: any program may have added
+    it, and a head that is too long was cut."""
+    *head, body = text.split("\n", len(HEAD) + 1)
+    if len(head) <= len(HEAD):
+        head, body = ([*head, body], "") if body != CUT.strip() else (head, body)
+    return [*head, *[""] * len(HEAD)][:len(HEAD)], body
+
+
+def _moment(reply: str) -> float:
+    """When a document came, as seconds in UTC from the year 0 on, from a reply to `show`: a mail by
+    its clock and zone, a line by its day. What has no day is older than all else."""
     words = reply.rpartition(_TAIL)[2].split(" ")
     for word in words:
         if len(word) == 9 and word[0] == SIGN and word[1:].isdecimal():
-            is_mail = words[0][1:] in MAILS
-            return word[1:], reply.split("\v", 5)[4][11:19] if is_mail else ""
-    return "", ""
+            clock = reply.split("\v", 5)[4:5] if words[0][1:] in MAILS else []
+            return _of_clock(clock[0]) if _has_clock(clock) \
+                else _days(word[1:]) * _DAY
+    return float("-inf")
+
+
+def _has_clock(lines: list[str]) -> bool:
+    """Whether a line is that of a mail's time: `2010-05-14 23:30:00`, or with a zone behind it."""
+    digits = "".join(lines[0][at:at + 2] for at in _CLOCK) if lines else ""
+    return len(digits) == 2 * len(_CLOCK) and digits.isdecimal()
+
+
+def _of_clock(line: str) -> float:
+    """The seconds of a mail's time, whose zone is written as mails write it: `-0600`."""
+    day = _days(line[:10].replace("-", ""))
+    hour, minute, second = (int(line[at:at + 2]) for at in _CLOCK[-3:])
+    sign, zone = line[20:21], line[21:25]
+    east = 0
+    if sign in ("+", "-") and len(zone) == 4 and zone.isdecimal():
+        east = (int(zone[:2]) * 60 + int(zone[2:])) * (60 if sign == "+" else -60)
+    return day * _DAY + hour * 3_600 + minute * 60 + second - east
+
+
+def _days(digits: str) -> int:
+    """How many days there are from the year 0 to a day of eight digits. Years begin with March, so
+    that a leap day is the last of one."""
+    year, month, day = int(digits[:4]), int(digits[4:6]), int(digits[6:])
+    year, month = (year - 1, month + 9) if month < 3 else (year, month - 3)
+    return 365 * year + year // 4 - year // 100 + year // 400 + (153 * month + 2) // 5 + day
 
 
 class _Texts:
@@ -169,14 +206,14 @@ class Results:
         self._names.append(name)
         replies = store.ask_all(f"show {number}" for number in numbers)
         for reply, number in zip(replies, numbers):
-            self._hits.append((*_when(reply), len(self._names) - 1, number,
+            self._hits.append((_moment(reply), len(self._names) - 1, number,
                                *self._texts.put(reply)))
         return self
 
     def newest(self, count: int) -> Iterator[dict[str, Any]]:
         """The documents by their parts: so many of the newest, the newest last."""
         places = Places()
-        for _, _, name, number, *held in sorted(self._hits)[-count:]:
+        for _, name, number, *held in sorted(self._hits)[-count:]:
             doc = parsed(shown(self._texts.get(*held)), number)
             if "path" in doc:
                 doc["path"] = places.path_at(doc["path"]) or doc["path"]
@@ -202,7 +239,10 @@ def sender(told: str) -> str:
     if (not angle or address.endswith(">")) and not any(sign in name for sign in '"(),:;\\[]'):
         return " ".join(name.split()) or address[:-1] or told
     from email.utils import parseaddr
-    return next(filter(None, parseaddr(told)), told)
+    try:
+        return next(filter(None, parseaddr(told[:LONGEST_SENDER])), told)
+    except (IndexError, RecursionError, ValueError):
+        return told
 
 
 def as_line(doc: dict[str, Any]) -> str:

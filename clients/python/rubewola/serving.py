@@ -6,14 +6,13 @@ import secrets
 import socket
 import socketserver
 import sys
-import threading
 import time
 from http.server import BaseHTTPRequestHandler
 from urllib.parse import parse_qs
 
 from .actions import opened, put
 from .told import Misused, tell
-from .views import WAIT, View, Views
+from .views import View, Views
 
 TYPE_CHECKING = False
 if TYPE_CHECKING:
@@ -23,7 +22,7 @@ LOOPBACK = "127.0.0.1"
 NAMES = (LOOPBACK, "localhost", "[::1]")  # Another name may be one that leads here since a moment.
 SITES = {"none", "same-origin"}  # From where a browser may ask: an address that was typed, or here.
 IDLE, LONGEST = 10, 30  # Seconds for which a client may say nothing, and take for a request.
-CLIENTS = 100  # As many at once; more are turned away.
+CLIENTS = 256  # As many at once; more are turned away.
 FIELDS = 8  # Fields of a request, of which two mean something.
 LARGEST_PORT = 65_535
 HEADERS = {
@@ -46,7 +45,7 @@ class Server(socketserver.ThreadingTCPServer):
         # A browser leaves the port of the web out.
         ends = (f":{self.port}", "") if self.port == 80 else (f":{self.port}",)
         self.hosts = {name + end for name in NAMES for end in ends}
-        self.views, self.turn = Views(stores, self.top), threading.Lock()
+        self.views = Views(stores, self.top)
         self._clients: dict[socket.socket, float] = {}
 
     def verify_request(self, request: socket.socket, _: object) -> bool:
@@ -104,15 +103,10 @@ class Handler(BaseHTTPRequestHandler):
     do_HEAD = do_GET
 
     def _view(self, rest: str, fields: dict[str, list[str]]) -> View:
-        """What is answered: one request after the other, as a store has one session."""
+        """What is answered."""
         query, start = (fields.get(name, [""])[0] for name in ("q", "start"))
         is_number = start.isascii() and start.isdecimal() and len(start) < 10
-        if not self.server.turn.acquire(timeout=WAIT):
-            return self.server.views.busy(query)
-        try:
-            return self.server.views.view(rest, query, int(start) if is_number else 0)
-        finally:
-            self.server.turn.release()
+        return self.server.views.view(rest, query, int(start) if is_number else 0)
 
     def send_error(self, code: int, *_: object) -> None:
         """Refuses what is no request, or one of another method."""

@@ -2,11 +2,13 @@
 
 from __future__ import annotations
 
-from collections.abc import Callable, Iterable, Iterator
+from collections.abc import Callable, Iterable, Iterator, Sequence
 from typing import Any, NamedTuple
 
+from .commits import COMMIT
 from .files import Input
-from .store import Store
+from .store import Refused, Store
+from .stored import split
 from .words import SIGN
 
 ASKED_AT_ONCE = 4_096
@@ -15,13 +17,16 @@ CHUNK_BYTES, CHUNK_ITEMS = 262_144, 2_048  # What a process decodes at once.
 
 class Entry(NamedTuple):
     """A document to be added: its bytes; a query that finds it where it is there already; the
-    number of the document whose place it takes, or 0; and what its reader should be told."""
+    number of the document whose place it takes, or 0; and what its reader should be told. One that
+    could not be read at all is `passed`, with why, and not added."""
 
     data: bytes
     query: str
-    replaces: int
-    cut: bool
-    unreadable: bool
+    replaces: int = 0
+    cut: bool = False
+    unreadable: bool = False
+    slow: bool = False
+    passed: str = ""
 
 
 # A function that gives entries, with what it is given. It may run in another process.
@@ -29,8 +34,14 @@ Task = tuple[Callable[..., list[Entry]], Any, bool]
 
 
 def has_kind(store: Store, kind: str) -> bool:
-    """Whether a store has documents of a kind."""
-    return bool(store.find(SIGN + kind))
+    """Whether a store has documents of a kind. The last document tells it mostly, and then those
+    that end a commit, which are few; so a large store takes no longer than a small one."""
+    try:
+        if split(store.show(store.count().next - 1))[1].get("kind") == kind:
+            return True
+    except Refused:
+        pass  # There is none, or it is deleted.
+    return store.has(f"{SIGN}{kind} {COMMIT}") or store.has(SIGN + kind)
 
 
 def portions(items: Iterable[Any], most: int, size_of: Callable[[Any], int] = lambda _: 0,
@@ -49,14 +60,17 @@ def portions(items: Iterable[Any], most: int, size_of: Callable[[Any], int] = la
 
 class Named:
     """A source whose items are known by their names, in any order. Of its `size` bytes, `read` are
-    read."""
+    read, and about `room` come out of them. So many files are `readable`; `passed` tells why others
+    are not."""
 
     kind: str
     read_chunk: Callable[[list[Any], bool], list[Entry]]
-    size = read = 0
+    size = room = read = readable = 0
+    inputs: Sequence[Input] = ()
 
     def __init__(self) -> None:
         self._asks, self._seen = False, set()
+        self.passed: list[str] = []
 
     def is_new(self, known: str) -> bool:
         """Whether a digest is met for the first time."""

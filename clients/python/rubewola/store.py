@@ -14,6 +14,10 @@ if TYPE_CHECKING:
     from collections.abc import Callable, Iterable, Iterator
     from typing import Any
 
+UNIT = 512  # Bytes.
+MOST_NUMBER = 4_294_967_295  # No document has this number, nor one behind it.
+LITTLE = 1_048_576  # Bytes: a disk with no more has no room for a commit.
+
 # What no reply to an `add` is longer than, and bytes of commands that are handed over at once.
 SHORT_REPLY, AT_ONCE = 32, 1_048_576
 
@@ -33,7 +37,14 @@ class StoreError(Exception):
 
     def __init__(self, reason: str) -> None:
         super().__init__(f"{reason} ({HINTS[reason]})" if reason in HINTS else reason)
-        self.reason = reason
+        self.reason, self.path = reason, ""
+
+    def of(self, path: str) -> StoreError:
+        """The same, of the store at a path; where the system refused it, with the cause."""
+        if not self.path:
+            cause = _cause(path) if self.reason == "disk" else ""
+            self.path, self.args = path, (f"{path}: {cause or self}",)
+        return self
 
 
 class Failed(StoreError):
@@ -104,7 +115,8 @@ class Store:
                  waiting: Callable[[], None] = lambda: None) -> None:
         """Opens the store; one that another program has is tried again for `wait` seconds, and
         `waiting` called once when that takes long."""
-        self._busy, path = False, os.path.abspath(path)
+        self._busy, self.path = False, os.path.abspath(path)
+        path = self.path
 
         def opened() -> None:
             self._program, self._awaited = Program("run", path), 0
@@ -151,22 +163,23 @@ class Store:
         one may be done. Until all replies are read the store takes no other command."""
         return self._ask_all(map(_line, commands), len)
 
-    def _ask_all(self, lines: Iterable[bytes], weight: Callable[[bytes], int]) -> Iterator[str]:
+    def _ask_all(self, lines: Iterable[bytes], weight: Callable[[bytes], int],
+                 longest: int = -1) -> Iterator[str]:
         # So much is on its way as fits into the pipes: neither side comes to wait for the other,
         # which may itself be waiting for its replies to be read. A command with a short reply
         # counts as that, which waits to be read; another as itself, which waits to be answered.
         if self._busy or self._program.status is not None:
-            raise Failed("busy" if self._busy else "closed")
+            raise Failed("busy" if self._busy else "closed").of(self.path)
         self._busy, before = True, 0
         try:
             for batch, size in _batches(lines, weight, self._in_flight // 2):
                 if before + size > self._in_flight:
-                    yield from self._replies(0)
+                    yield from self._replies(0, longest)
                 self._send(b"".join(batch))
                 self._awaited += len(batch)
-                yield from self._replies(len(batch))
+                yield from self._replies(len(batch), longest)
                 before = size
-            yield from self._replies(0)
+            yield from self._replies(0, longest)
         finally:
             while self._awaited and self._program.status is None:
                 self._awaited -= 1
@@ -180,20 +193,25 @@ class Store:
         except BrokenPipeError:
             pass  # Where the program has ended, the reply that does not come tells why.
 
-    def _replies(self, left: int) -> Iterator[str]:
-        """The replies that are awaited, but for so many."""
+    def _replies(self, left: int, longest: int) -> Iterator[str]:
+        """The replies that are awaited, but for so many; of each so many bytes."""
         while self._awaited > left:
             self._awaited -= 1
-            yield self._reply()
+            yield self._reply(longest)
 
-    def _reply(self) -> str:
-        line = self._program.output.readline()
-        if not line.endswith(b"\n"):
-            raise Failed(_reason(self._program))
+    def _reply(self, longest: int = -1) -> str:
+        """A reply, or so many bytes of it; the rest is passed over."""
+        line = last = self._program.output.readline(longest)
+        while last and not last.endswith(b"\n"):
+            last = self._program.output.readline(AT_ONCE)
+        if not last:
+            raise Failed(_reason(self._program)).of(self.path)
+        line = line if line.endswith(b"\n") else line + b"\n"
         reply = line[:-1].decode()
         if reply.startswith("refused "):
             reason = reply[len("refused "):]
-            raise next(kind for words, kind in REFUSALS.items() if reason.startswith(words))(reason)
+            kind = next(kind for words, kind in REFUSALS.items() if reason.startswith(words))
+            raise kind(reason).of(self.path) if reason in HINTS else kind(reason)
         return reply
 
     def add(self, text: str) -> int:
@@ -202,13 +220,12 @@ class Store:
 
     def add_all(self, texts: Iterable[str | bytes]) -> Iterator[int]:
         """Adds documents, many on their way at once, and gives their numbers."""
-        lines = (b"add %b\n" % (text if isinstance(text, bytes) else _one_line(text))
-                 for text in texts)
+        lines = (b"add %b\n" % _one_line(text) for text in texts)
         return (int(reply[6:]) for reply in self._ask_all(lines, lambda _: SHORT_REPLY))
 
     def delete(self, number: int) -> None:
         """Deletes a document."""
-        self.ask(f"delete {number}")
+        self.ask(f"delete {min(number, MOST_NUMBER)}")
 
     def find(self, query: str) -> list[int]:
         """The numbers of the documents that satisfy a query, rising."""
@@ -219,13 +236,24 @@ class Store:
         for reply in self.ask_all(f"find {query}" for query in queries):
             yield [int(number) for number in reply.split()[2:]]
 
+    def counts(self, queries: Iterable[str]) -> Iterator[int]:
+        """How many documents satisfy each of many queries; their numbers are not read."""
+        lines = (_line(f"find {query}") for query in queries)
+        return (int(reply.split(" ", 2)[1].rstrip(":"))
+                for reply in self._ask_all(lines, len, SHORT_REPLY * 4))
+
+    def has(self, query: str) -> bool:
+        """Whether a document satisfies a query."""
+        return any(self.counts([query]))
+
     def show(self, number: int) -> str:
         """The text of a document."""
         return list(self.show_all([number]))[0]
 
     def show_all(self, numbers: Iterable[int]) -> Iterator[str]:
         """The texts of documents, many on their way at once."""
-        return map(shown, self.ask_all(f"show {number}" for number in numbers))
+        return map(shown, self.ask_all(f"show {min(number, MOST_NUMBER)}"
+                                           for number in numbers))
 
     def commit(self) -> None:
         """Writes what is uncommitted to the disk. Once this returns, it stays."""
@@ -275,10 +303,10 @@ def _in_turn(path: str, attempt: Callable[[], Any], wait: float,
             return attempt()
         except Failed as failed:
             if failed.reason != "disk":
-                raise
+                raise failed.of(path)
             turn.wait()
             if time.monotonic() > max(begin + wait, begin + LAST_TRY):
-                raise
+                raise failed.of(path)
 
 
 class _Turn:
@@ -299,7 +327,7 @@ class _Turn:
                 except BlockingIOError:
                     now = time.monotonic()
                 if now >= self._ends:
-                    raise InUse
+                    raise InUse().of(self._path)
                 if now >= self._told:
                     self._told = float("inf")
                     self._waiting()
@@ -307,17 +335,47 @@ class _Turn:
 
 
 def make(path: str | os.PathLike[str], units: int) -> None:
-    """Makes a file of so many units of 512 bytes with an empty store."""
+    """Makes a file of so many units of 512 bytes with an empty store, which nobody but its owner
+    may read: a store has what was mailed."""
     path = os.path.abspath(path)
+    is_new, mask = not os.path.lexists(path), os.umask(0o077)
     try:
-        _told(Program("create", path, "--units", str(units)))
+        program = Program("create", path, "--units", str(units))
+    finally:
+        os.umask(mask)
+    try:
+        _told(program)
     except Failed as failed:
+        if is_new and failed.reason != "exists" and os.path.lexists(path):
+            os.unlink(path)
         if failed.reason == "disk":
-            folder = os.path.dirname(path)
-            os.stat(folder)  # The system tells what is wrong with it.
-            if not os.access(folder, os.W_OK):
-                raise PermissionError(f"no right to write to {folder}") from failed
-        raise
+            _tell_of_folder(os.path.dirname(path), units)
+        raise failed.of(path)
+
+
+def _tell_of_folder(folder: str, units: int) -> None:
+    """Raises what is wrong with a folder, if the system tells."""
+    os.stat(folder)
+    if not os.access(folder, os.W_OK):
+        raise PermissionError(f"no right to write to {folder}")
+    import resource
+    most = resource.getrlimit(resource.RLIMIT_FSIZE)[0]
+    if most != resource.RLIM_INFINITY and most < units * UNIT:
+        raise OSError(f"a file of {units * UNIT:,} bytes is wanted in {folder}, and no file may have "
+                      f"more than {most:,} (`ulimit -f`)")
+
+
+def _cause(path: str) -> str:
+    """Why the system refused to write to a store, if it tells."""
+    try:
+        told = os.statvfs(path)
+    except OSError as error:
+        return str(error.strerror)
+    if told.f_bavail * told.f_frsize < LITTLE:
+        return "No space left on the disk: what was committed stays; make room, and run it again"
+    if told.f_flag & os.ST_RDONLY:
+        return "Read-only file system"
+    return ""
 
 
 def _told(program: Program) -> str:
@@ -335,8 +393,10 @@ def _reason(program: Program) -> str:
     return reason.removeprefix("pk_find: ") or "the program was ended"
 
 
-def _one_line(text: str) -> bytes:
-    return text.replace("\n", "\v").encode()
+def _one_line(text: str | bytes) -> bytes:
+    """A text as it is carried: no text, of whatever type, may end its line."""
+    data = text if isinstance(text, bytes) else text.encode()
+    return data.replace(b"\n", b"\v") if b"\n" in data else data
 
 
 def _line(command: str) -> bytes:

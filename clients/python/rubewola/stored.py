@@ -5,6 +5,7 @@ from __future__ import annotations
 from .words import NAMING, SIGN, meant, unguarded
 
 MARK = "\n\x1d"
+CUT = "\n[cut]"  # Ends a text of which the rest was left out.
 HEAD = ("from", "to", "cc", "subject", "date", "attached")  # Of a mail, a line each.
 KINDS = ("maildir", "mbox", "log", "json", "journal")
 MAILS = KINDS[:2]

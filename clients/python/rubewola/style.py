@@ -15,7 +15,13 @@ button { font: inherit; padding: .4rem 1rem }
 a { color: var(--link) }
 a:visited { color: var(--seen) }
 mark { background: var(--mark); color: inherit }
+form label { padding: .4rem 0 }
+h1 { font-size: 1.1rem; margin: 0 0 .4rem }
 h2 { font-size: 1rem; margin: 1.2rem 0 .4rem }
+/* The bars are seen above the hits, and stand behind them for who goes from link to link. */
+main { display: flex; flex-direction: column }
+main > h2, main > .told { order: -2 }
+main > .bars { order: -1 }
 ol { list-style: none; padding: 0 }
 li { margin: 0 0 1.1rem }
 .who, dt, nav { color: var(--dim) }

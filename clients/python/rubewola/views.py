@@ -3,21 +3,25 @@
 from __future__ import annotations
 
 import re
+import threading
 from collections import namedtuple
-from contextlib import ExitStack
+from contextlib import ExitStack, contextmanager
 from urllib.parse import urlencode
 
 from . import bars, markup, searching, style
 from .hits import Hits
-from .marks import Marks
+from .marks import FIELD_OF, Marks
 from .store import Failed, InUse, NoSuchDocument, QueryRefused, Refused, Store
-from .stored import HEAD
+from .stored import HEAD, split
 
 TYPE_CHECKING = False
 if TYPE_CHECKING:
+    from collections.abc import Iterator
     from typing import Any
 
 AT_ONCE = 20  # Hits on a page.
+AROUND = 3  # Lines of a log that are shown before one, and as many behind it.
+TURN = 30  # Seconds for which a request waits for those before it.
 WAIT = 2  # Seconds for which a store that another program has is waited for.
 SNIPPET = 240  # Characters of a hit's text.
 LONGEST = 200_000  # Characters of a document that are shown.
@@ -29,19 +33,43 @@ class View(namedtuple("View", ("status", "text", "kind"), defaults=(markup.KIND,
     """An answer: a status of HTTP, a text and its type."""
 
 
-def _words(store: Store, query: str) -> list[str]:
-    """The words of a query that is only to be marked."""
+def _around(store: Store, number: int) -> list[tuple[int, str]]:
+    """The documents whose numbers stand round one, by their first lines."""
+    found = []
+    for one in range(max(number - AROUND, 1), number + AROUND + 1):
+        try:
+            text = split(store.show(one))[0] if one != number else ""
+        except NoSuchDocument:
+            continue
+        if text:
+            found.append((one, text.partition("\n")[0]))
+    return found
+
+
+def _marks(store: Store, query: str) -> Marks:
+    """What is to be marked of a query that is not asked."""
     try:
-        return searching.read(store, query).words
+        return Marks.of(searching.read(store, query))
     except QueryRefused:
-        return []
+        return Marks([])
 
 
 class Views:
     """The pages over stores, below an address. A store is open for one answer."""
 
     def __init__(self, stores: list[str], top: str) -> None:
-        self._stores, self._top = stores, top
+        self._stores, self._top, self._one = stores, top, threading.Lock()
+        self._months = [bars.Months() for _ in stores]
+
+    @contextmanager
+    def _turn(self) -> Iterator[None]:
+        """The one session that a store has; pages are written beside it."""
+        if not self._one.acquire(timeout=TURN):
+            raise InUse
+        try:
+            yield
+        finally:
+            self._one.release()
 
     def view(self, rest: str, query: str, start: int) -> View:
         """What stands at an address."""
@@ -84,14 +112,14 @@ class Views:
 
     def _hits(self, query: str, start: int) -> str:
         """All is read, the stores are closed, and then the page is written."""
-        with ExitStack() as stack:
+        with self._turn(), ExitStack() as stack:
             hits = Hits([stack.enter_context(Store(path, WAIT)) for path in self._stores], query)
-            documents, counts = hits.read(start, AT_ONCE), bars.months(hits)
-        marks, count = Marks(hits.words), len(hits.numbers)
+            documents, counts = hits.read(start, AT_ONCE), bars.months(hits, self._months)
+        marks, count = Marks.of(hits.query), len(hits.numbers)
         picture = bars.drawn(counts, lambda month: self._address(q=f"({query}) date:{month}"))
         items = "".join(self._hit(doc, query, marks) for doc in documents)
-        return (f"<h2>{count:,} found</h2>\n{''.join(map(markup.told, hits.notes))}{picture}"
-                f"<ol>\n{items}</ol>\n<nav>{self._turns(query, start, count)}</nav>")
+        return (f"<h2>{count:,} found</h2>\n{''.join(map(markup.told, hits.notes))}"
+                f"<ol>\n{items}</ol>\n<nav>{self._turns(query, start, count)}</nav>{picture}")
 
     def _turns(self, query: str, start: int, count: int) -> str:
         """Links to the pages before and behind."""
@@ -107,23 +135,39 @@ class Views:
         to = self._address(f"doc/{doc['store']}/{doc['number']}", q=query)
         store = self._stores[int(doc["store"])]
         where = f" {markup.line(store)}" if len(self._stores) > 1 else ""
-        text = markup.marked_line(marks.context(doc["text"], SNIPPET), marks)
         if "date" not in doc:
+            marks = marks.of_line()
+            text = markup.marked_line(marks.context(doc["text"], SNIPPET), marks)
             link = markup.link(to, str(doc["number"]))
             return f'<li>{link}<span class="who">{where}</span> {text}</li>\n'
-        subject = markup.marked_line(doc["subject"] or "(no subject)", marks)
-        who = f'{markup.escaped(doc["date"][:10])} {markup.line(searching.sender(doc["from"]))}'
+        subject = markup.marked_line(doc["subject"] or "(no subject)", marks.within("subject"))
+        sender = markup.marked_line(searching.sender(doc["from"]), marks.within("from"))
+        who = f'{markup.escaped(doc["date"][:10])} {sender}'
+        text = self._snippet(doc, marks)
         return (f'<li>{markup.link(to, subject)} <span class="who">{who}{where}</span>'
                 f"<br>{text}</li>\n")
 
+    @staticmethod
+    def _snippet(doc: dict[str, Any], marks: Marks) -> str:
+        """What is shown of a mail's text, or the line of its head in which a field was found."""
+        if not marks.finds(doc["text"]) and (head := marks.head_line(doc, SNIPPET)):
+            name = head.partition(":")[0].lower()
+            return markup.marked_line(head, marks.within(FIELD_OF.get(name, name)))
+        return markup.marked_line(marks.context(doc["text"], SNIPPET), marks)
+
     def _document(self, at: int, number: int, query: str) -> str:
-        with Store(self._stores[at], WAIT) as store:
+        with self._turn(), Store(self._stores[at], WAIT) as store:
+            around = _around(store, number)
             doc, = searching.Results().read(store, [number]).newest(1)
-            marks, text = Marks(_words(store, query)), doc["text"]
+            marks, text = _marks(store, query), doc["text"]
         names = {**{name: name.capitalize() for name in HEAD}, **FULL}
-        head = "".join(f"<dt>{title}</dt><dd>{markup.marked_line(doc[name], marks)}</dd>"
+        head = "".join(f"<dt>{title}</dt><dd>{markup.marked_line(doc[name], marks.within(FIELD_OF.get(name, name)))}</dd>"
                        for name, title in names.items() if doc.get(name))
         rest = f"<p>The first {LONGEST:,} of {len(text):,} characters.</p>" \
             if len(text) > LONGEST else ""
+        shown = marks if "date" in doc else marks.of_line()
+        lines = "".join(f"<li>{markup.link(self._address(f'doc/{at}/{one}', q=query), str(one))} "
+                        f"{markup.line(text[:SNIPPET])}</li>" for one, text in around)
+        rest += f"<h2>Lines round it</h2><ol>{lines}</ol>" if "date" not in doc and lines else ""
         return (f"<h2>Document {number}</h2>\n<dl>{head}</dl>\n"
-                f"<pre>{markup.marked(text[:LONGEST], marks)}</pre>{rest}")
+                f"<pre>{markup.marked(text[:LONGEST], shown)}</pre>{rest}")

@@ -12,6 +12,7 @@ from rubewola.files import Input
 from rubewola.loading import BATCH_BYTES, BATCH_DOCUMENTS, Logs, Mailboxes
 from rubewola.logs import Read
 from rubewola.sources import Task, portions
+from rubewola.told import InputRefused
 
 from .archive import Archive
 
@@ -24,17 +25,18 @@ class Lines:
     for the next load."""
 
     def __init__(self, *paths: str) -> None:
-        self._files, self.notes = Logs(*paths).inputs, list[str]()
+        self._files, self.notes = _whole(Logs(*paths)).inputs, list[str]()
 
     def items(self) -> Iterator[Item]:
         """All lines, with their ends."""
         for file in self._files:
             with file.opened() as (stream, _):
-                for line in stream:
+                for line, _ in stream.lines(Logs.longest):
                     if line.endswith(b"\n"):
                         yield line, file.written
-                    elif self._is_whole(file):
+                    elif not file.fault and self._is_whole(file):
                         yield line + b"\n", file.written
+            _refuse_faults([file])
 
     def _is_whole(self, file: Input) -> bool:
         """Whether a line without its end is one: of the last file more may come."""
@@ -54,16 +56,34 @@ class Mails:
     two."""
 
     def __init__(self, *paths: str) -> None:
-        self._boxes, self.notes = Mailboxes(*paths), list[str]()
+        self._boxes, self.notes = _whole(Mailboxes(*paths)), list[str]()
 
     def items(self) -> Iterator[Item]:
         """All mails."""
-        return ((raw, None) for raw in self._boxes.items())
+        for raw in self._boxes.items():
+            _refuse_faults(self._boxes.inputs)
+            yield raw, None
+        _refuse_faults(self._boxes.inputs)
 
     @staticmethod
     def task(items: list[bytes], _: None, with_parts: bool) -> Task:
         """What makes documents of mails."""
         return Mailboxes.read_chunk, items, with_parts
+
+
+def _whole(source: Any) -> Any:
+    """A source, all of whose files can be read: an item is known by its place among all, so none is
+    passed over."""
+    if source.passed:
+        raise InputRefused(source.passed[0])
+    return source
+
+
+def _refuse_faults(files: list[Input]) -> None:
+    """Refuses a file of which no more could be read."""
+    for file in files:
+        if file.fault:
+            raise InputRefused(file.fault)
 
 
 def tasks_of(source: Lines | Mails, items: list[Item], with_parts: bool) -> list[Task]:

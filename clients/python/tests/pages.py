@@ -12,10 +12,10 @@ from rubewola import serving
 from support import LONG
 
 # The tags and attributes that the page may have.
-TAGS = {*("html meta title link form input button main nav h2 ul ol li a span bdi br mark p pre dl "
+TAGS = {*("html meta title link header h1 label form input button main nav h2 ul ol li a span bdi br mark p pre dl "
           "dt dd svg rect text").split()}
 ATTRIBUTES = {*("lang charset name content rel href action role type value maxlength dir title "
-                "aria-label autofocus class viewbox x y width height").split()}
+                "aria-label autofocus class id for viewbox x y width height").split()}
 
 Answer = namedtuple("Answer", ("status", "head", "body"))
 

@@ -45,6 +45,18 @@ class InABrowser(Stores):
         self.browser.click("nav a")
         self.assertEqual((self.count("li"), self.text("nav")), (6, "newer · 21 to 26"))
 
+    def test_what_a_screen_reader_is_told(self):
+        self.browser.type("wort")
+        nodes = self.browser.do("Accessibility.getFullAXTree")["nodes"]
+        told = [(node["role"]["value"], node.get("name", {}).get("value", "")) for node in nodes
+                if not node.get("ignored") and "role" in node]
+        for wanted in (("heading", "Search for wort"), ("heading", "26 found"),
+                       ("searchbox", "Query"), ("button", "Search")):
+            self.assertIn(wanted, told)
+        bar = self.browser.value("[...document.querySelectorAll('a')]"
+                                 ".findIndex(one => one.closest('svg'))")
+        self.assertGreaterEqual(bar, 20)  # The hits come first.
+
     def test_a_click_on_a_bar(self):
         self.browser.type("wort")
         self.assertEqual(self.count("svg a"), 6)

@@ -104,7 +104,7 @@ class Commands(Stores):
     def test_info(self):
         self.run_line(r"\Adocuments  3 \(3 mbox\), next number 4\n"
                       r"days       2010-05-14 to 2010-05-15\n"
-                      r"room       67,108,864 bytes, [1-9][0-9,]* of them on the disk\n\Z", "info")
+                      r"room       268,435,456 bytes, [1-9][0-9,]* of them on the disk\n\Z", "info")
         self.store.unlink()
         Store.create(self.store, 64).close()
         self.run_line(r"\Adocuments  0, next number 1\ndays       none\n", "info")
@@ -217,7 +217,7 @@ class Completions(unittest.TestCase):
         self.assertEqual(self.completed("bash", script.format("a")), ["attachment:"])
         self.assertEqual(self.completed("bash", script.format("--co")), ["--count", "--context"])
 
-    @unittest.skipUnless(shutil.which("zsh"), "no zsh")
+    @unittest.skipUnless(shutil.which("zsh"), "wants zsh (apt-get install zsh)")
     def test_zsh(self):
         script = ('compadd() {{ print -- "$@"; }}; _files() {{ print files; }}; '
                   'words=(rubewola search store {0}); CURRENT=4; source "$1"')

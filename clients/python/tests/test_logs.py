@@ -156,7 +156,7 @@ class Logs(Stores):
         self.assertEqual(self.lines(), ["ina zeile", "endea", "inb zeile", "endeb", "inc zeile",
                                         "endec"])
         cut = self.write("d.gz", gzip.compress(b"x\n" * 9)[:-9])
-        self.run_line("its end is missing", "load-log", cut, status=2)
+        self.run_line("1 not readable.*\n.*|its end is missing", "load-log", cut)
 
     def test_standard_input(self):
         self.load("-", input="eins\nzwei")

@@ -292,7 +292,7 @@ class Cut(Stores):
         names = b"From: b@x\nTo: " + b", ".join(b"n%d@long.example.org" % n for n in range(40_000))
         self.write("box", mbox(many, names + b"\n\nsmall\n", b"From: c@x\n\nsmall\n",
                                HEAD + DEEP + b"\n"))
-        self.run_line(r"^loaded 4 documents \(2 cut, 1 unreadable\)", "load-mbox",
+        self.run_line(r"^loaded 4 documents \(2 cut\)", "load-mbox",
                       self.folder / "box")
         self.assert_found({"many subject:large": [1], "small": [2, 3], "to:n1": [2],
                            "from:ada": [4]})

@@ -87,6 +87,27 @@ class Shown(Pages):
             self.assertNotIn("<svg", self.page.find(month).body)
         self.assertIn("<title>2010-01: 2</title>", self.page.find("wort OR nichts").body)
 
+    def test_bars_ask_the_query_once(self):
+        self.page.find("wort")  # From now on the months of the documents are known.
+        with mock.patch.object(Store, "_ask_all", autospec=True, side_effect=Store._ask_all) as asks:
+            self.assertIn("<title>2010-01: 2</title>", self.page.find("wort OR nichts").body)
+        lines = [line for call in asks.call_args_list for line in [str(call)]]
+        self.assertLessEqual(len(lines), 5)
+
+    def test_headings_and_labels(self):
+        for body in (self.page.find("wort").body, self.page.ask("").body):
+            self.assertRegex(body, r"<h1>Search")
+            self.assertRegex(body, r'<label for="query">Query</label><input type="search" id="query"')
+        links = self.page.tags(self.page.find("wort")).links
+        self.assertIn("doc/0/", links[1])  # Behind the style alone; bars stand behind the hits.
+
+    def test_neighbours_of_a_line(self):
+        self.store = self.folder / "t"
+        self.loaded(9, "load-log", self.write("log", "".join(f"zeile{at}\n" for at in range(9))))
+        body = Page(self, self.store).ask("doc/0/5").body
+        for at, told in ((1, True), (2, True), (6, True), (7, True), (0, False), (8, False)):
+            self.assertEqual(f"zeile{at}" in body, told, at)
+
     def test_bars_of_many_years(self):
         counts = {f"{year}{month:02}": int(year % 7 == 0 and month == 3)
                   for year in range(1970, 2100) for month in range(1, 13)}
@@ -298,14 +319,14 @@ class Rules(Pages):
         tell.assert_called_once_with("a request met a fault: ValueError")
 
     def test_a_store_in_use(self):
-        with mock.patch.object(views, "WAIT", 0.1), mock.patch.object(serving, "WAIT", 0.1):
+        with mock.patch.object(views, "WAIT", 0.1), mock.patch.object(views, "TURN", 0.1):
             with Store(self.store):
                 for answer in (self.page.find("wort"), self.page.ask("doc/0/1")):
                     self.assertEqual(answer.status, 503)
                     self.assertIn("Retry-After: ", answer.head)
                     self.assertIn("Another program has the store", answer.body)
             self.assertEqual(self.page.find("wort").status, 200)
-            with self.page.server.turn:
+            with self.page.server.views._turn():
                 self.assertEqual(self.page.find("wort").status, 503)
         self.store.unlink()
         self.assertEqual(self.page.find("wort").status, 500)

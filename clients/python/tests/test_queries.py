@@ -158,7 +158,7 @@ class Told(Stores):
                                      r"zwei and eins\n {5}\^\n\Z"),
                 ("zwei foo:bar", 2, r'"foo" is no field here.*\nzwei foo:bar\n {5}\^\n\Z'),
                 ("date:2010-13", 2, r"no day: month must be in 1..12\ndate:2010-13\n {5}\^"),
-                ("from:a.b é OR )", 2, r"query unexpected at .*\nfrom:a.b é OR \)\n {14}\^\n"),
+                ("from:a.b é OR )", 2, r"a closing bracket without an opening one\nfrom:a.b é OR \)\n {14}\^\n"),
                 ("eins )", 2, r" {5}\^\n"), ("--format paths date:2010..", 0, "1\n2\n")]:
             with self.subTest(query):
                 self.run_line(told, "search", *query.split(), status=status)

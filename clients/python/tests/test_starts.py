@@ -1,8 +1,11 @@
 """The start of a search: what it imports, and what is installed."""
 
 import os
+import re
+import signal
 import subprocess
 import sys
+import time
 import unittest
 
 from support import TOP, Stores, mail, mbox
@@ -65,12 +68,40 @@ class Starts(Stores):
                                   cwd=self.folder, check=True, capture_output=True, text=True)
             self.assertEqual((told.stdout, told.stderr), ("8\n", ""))
         self.assertRegex(entry.read_text("utf-8"), r"\A#!/\S+ -SI\n")
+        self.check_modules_of_the_working_directory(top, bare)
+        self.check_early_interrupts(entry, bare)
         sources = {path.stem for path in top.glob("lib/rubewola/rubewola/*.py")}
         compiled = {path.name.partition(".")[0]
                     for path in top.glob("lib/rubewola/rubewola/__pycache__/*.pyc")}
         self.assertEqual(sources, compiled)
         subprocess.run(["make", "--silent", "uninstall", f"PREFIX={top}"], cwd=TOP, check=True)
         self.assertEqual([path for path in top.rglob("*") if path.is_file()], [])
+
+    def check_modules_of_the_working_directory(self, top, bare):
+        """No program runs a module that lies where it is started."""
+        for name in ("argparse", "json", "random", "runpy", "distributed", "rubewola"):
+            self.write(f"foreign/{name}.py", "raise SystemExit('foreign')\n")
+        for program in ("rubewola", "rubewola-shards"):
+            ran = subprocess.run([top / "bin" / program, "--help"], cwd=self.folder / "foreign",
+                                 env={**bare, "RUBEWOLA_PYTHON": sys.executable}, check=False,
+                                 capture_output=True, text=True)
+            self.assertNotIn("foreign", ran.stdout + ran.stderr, program)
+
+    def check_early_interrupts(self, entry, bare):
+        """An interrupt, however early, leaves no traceback but that of an interpreter that had not
+        come to the entry's first call."""
+        lines = entry.read_text("utf-8").splitlines()
+        first = next(at for at, line in enumerate(lines, 1) if "SIG_DFL" in line)
+        for at in range(16):
+            with subprocess.Popen([entry, "search", self.store, "wort"], env=bare, text=True,
+                                  stdout=subprocess.DEVNULL, stderr=subprocess.PIPE,
+                                  preexec_fn=lambda: signal.signal(
+                                      signal.SIGINT, signal.SIG_DFL)) as search:
+                time.sleep(at * 0.008)
+                search.send_signal(signal.SIGINT)
+                told = search.stderr.read()
+            begun = [int(at) for at in re.findall(rf'{entry.name}", line (\d+)', told)]
+            self.assertTrue("Traceback" not in told or max(begun, default=0) <= first, told)
 
 
 if __name__ == "__main__":

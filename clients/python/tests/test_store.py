@@ -132,7 +132,7 @@ class Commands(Stores):
     def test_a_store_too_small_is_told(self):
         Store.create(self.store, 64).close()
         self.write("box", mbox(*(mail(f"wort{number} " * 99) for number in range(99))))
-        self.run_line("the store has no room for more: [0-9,]+ bytes", "load-mbox",
+        self.run_line(r"/s is full: [0-9,]+ bytes .*rubewola create --size 1M NEW", "load-mbox",
                       self.folder / "box", status=2)
 
     def test_a_check_and_its_status(self):
@@ -141,7 +141,7 @@ class Commands(Stores):
             store.commit()
         self.run_line(r"\Aok 1 documents next 2 segments 1\n\Z", "check")
         self.store.write_bytes(self.store.read_bytes().replace(b"wort zahl", b"wort zehl"))
-        self.run_line(r"\Arubewola: damaged \(.*\n\Z", "check", status=1)
+        self.run_line(r"\Arubewola: /.*/s: damaged \(.*\n\Z", "check", status=1)
         self.store.unlink()
         self.run_line("missing", "check", status=2)
 
@@ -170,11 +170,11 @@ class Commands(Stores):
         Store.create(self.store, 64).close()
         typed = ("help\nadd red apple\n\nfind red AND\nfind red and red\nfind red\ncommit\nshow 1\n"
                  "add pear\nquit\n")
-        told = r"(?s)deletes.*added 1.* at 7.* 1: red apple\nfound 1.*committed.* red apple\n"
+        told = r"(?s)deletes.*added 1.*a word must come.* 1: red apple\nfound 1.*committed.* red apple\n"
         self.assertIn("the operator is AND", self.run_line(told, "shell", input=typed).stderr)
         self.assert_found({"apple": [1], "pear": [2]})
 
-    @unittest.skipUnless(shutil.which("mandoc"), "no mandoc")
+    @unittest.skipUnless(shutil.which("mandoc"), "wants mandoc (apt-get install mandoc)")
     def test_the_manuals_are_well_formed(self):
         subprocess.run(["mandoc", "-Tlint", "-Wwarning", *(TOP / "man").glob("*.1")], check=True)
 

@@ -145,7 +145,7 @@ class Searches(Shards):
 
     def test_a_store_that_another_program_has(self):
         with Store(self.folder / "a", wait=LONG):
-            self.run_line(r"missing: a \(in use ", "--wait", 2, "search", "line", status=2)
+            self.run_line(r"missing: a \(\S+: in use ", "--wait", 2, "search", "line", status=2)
         self.assert_whole()
 
     def test_the_scheduler_killed(self):
@@ -159,7 +159,7 @@ class Searches(Shards):
     def test_a_shard_lost_is_loaded_again(self):
         self.run_line("b: closed", "close")
         (self.folder / "b").unlink()
-        self.run_line(r"missing: b \(missing ", "search", "line", status=2)
+        self.run_line(r"missing: b \(\S+: missing ", "search", "line", status=2)
         made = self.run_line("b: created", "create", "--units", self.UNITS).stdout
         self.assertEqual(made.count("was there"), 2)
         self.assertRegex(self.load().stderr, f"^loaded {len(self.places('b'))} ")
@@ -187,11 +187,11 @@ class Searches(Shards):
             store.seek(at)
             store.write(b"\xff" * len(before))
         self.addCleanup(self.put_back, at, before)
-        self.run_line(r"missing: b \(damaged", "search", "line", status=2)
-        ran = self.run_line(r"missing: b \(damaged", "check", status=2)
+        self.run_line(r"missing: b \(\S+: damaged", "search", "line", status=2)
+        ran = self.run_line(r"missing: b \(\S+: damaged", "check", status=2)
         self.assertRegex(ran.stdout, "^a: ok [0-9]+ documents next [0-9]+ segments [0-9]+\nc: ok ")
         self.assertNotIn("b:", ran.stdout)
-        self.run_line("b is missing .damaged", "search", "--partial", "line", status=3)
+        self.run_line(r"b is missing .\S+: damaged", "search", "--partial", "line", status=3)
 
     def put_back(self, at, data):
         with open(self.folder / "b", "r+b") as store:
