@@ -1,8 +1,9 @@
 # Each target is one command, and can be typed by hand in its place.
-# demo and try run a session of the program; taste proves one small crate; test is the merge gate,
-# and rows, memory and client are parts of it; check proves what has changed; mutants tries wrong
-# bodies where a contract has changed; soak kills what an archive over machines runs; install puts
-# the program, its client and their manuals in place; deb and dist make packages.
+# demo and try run a session of the program; taste proves one small crate; smoke tests in five
+# minutes what no proof says; test is the merge gate, and rows, memory and client are parts of it;
+# check proves what has changed; mutants tries wrong bodies where a contract has changed; soak kills
+# what an archive over machines runs; install puts the program, its client and their manuals in place;
+# deb and dist make packages.
 
 SESSION = examples/mail.lines
 PROGRAM = crates/pk_find/out/pk_find
@@ -13,10 +14,8 @@ UNITS = 4096
 SOURCES = crates.txt $(wildcard crates/*/src/*.rt crates/*/specs/*.antt crates/*/proofs/*.antt \
     crates/*/proofs/*/*.antt)
 
-# A Python that has distributed, with the client, its tests and the program.
-SHARDS = PYTHONPATH=$(CURDIR)/clients/python:$(CURDIR)/clients/python/tests \
-    RUBEWOLA_PROGRAM=$(CURDIR)/$(PROGRAM) \
-    $(or $(RUBEWOLA_PYTHON),$(wildcard /usr/bin/python3),python3) -W ignore
+# A Python that has distributed.
+SHARDS = tools/shards_python.sh -W ignore
 
 PREFIX = /usr/local
 BIN = $(DESTDIR)$(PREFIX)/bin
@@ -31,7 +30,7 @@ PYTHON = $(shell python3 -c 'import sys; print(sys.base_prefix + "/bin/python3")
 VERSION = $(shell sed -n 's/^VERSION = "\(.*\)"/\1/p' clients/python/rubewola/commands.py)
 PACKAGES = $(CURDIR)/dist
 
-.PHONY: demo try taste test seals mutants client soak rows memory check fmt bench install \
+.PHONY: demo try taste smoke test seals mutants client soak rows memory check fmt bench install \
     uninstall deb dist
 
 # Makes a store in a file, and answers a session over a small mail archive; the program is proved and
@@ -52,6 +51,11 @@ taste:
 	cd crates/pk_vbyte && rt check
 	rt must-fail pk_vbyte
 
+# What no proof says, over programs that aren't proved: seals, tools, the engine's rows, the client. It
+# takes five minutes at most on four processors, and its last line says what it does not show.
+smoke:
+	python3 tools/smoke.py
+
 # The seals of the mutants; the gate: every proof from nothing, each must-fail edit, each test, each
 # program twice; then tests of the built program, sessions that are killed, the engine's rows, each
 # request for memory refused, and the tests of the client and of tools/.
@@ -70,17 +74,17 @@ mutants:
 # The tests of the Python client, over the built program; then those of archives over machines, where
 # that Python has Debian's python3-distributed, with schedulers and workers on loopback.
 client:
-	PYTHONPATH=$(CURDIR)/clients/python RUBEWOLA_PROGRAM=$(CURDIR)/$(PROGRAM) \
-	    python3 -m unittest discover clients/python/tests
-	$(SHARDS) -m unittest discover clients/python/tests/shards
+	python3 tools/run_tests.py client
+	$(SHARDS) tools/run_tests.py shards
 
 # Kills sessions, workers, nannies, the scheduler and the loader by chance until a load is whole.
 soak:
-	$(SHARDS) tools/shards_soak.py
+	PYTHONPATH=$(CURDIR)/clients/python:$(CURDIR)/clients/python/tests \
+	    RUBEWOLA_PROGRAM=$(CURDIR)/$(PROGRAM) $(SHARDS) tools/shards_soak.py
 
 # The engine's rows, over the built player: scripts, sweeps of failing calls, damage.
 rows:
-	python3 -m unittest discover --start-directory tests --top-level-directory .
+	python3 tools/run_tests.py rows
 
 # Refuses each request for memory in turn, over what `make test` built: of tests and of sessions of
 # the program on a file, then of the engine's rows.

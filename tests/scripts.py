@@ -32,6 +32,8 @@ from typing import NamedTuple
 
 HERE = pathlib.Path(__file__).resolve().parent
 PLAYER = os.environ.get("RUBEWOLA_PLAYER", HERE.parent / "crates/pk_player/out/pk_player")
+# For a player that is not proved, which is some times slower.
+IS_QUICK = os.environ.get("RUBEWOLA_QUICK") == "1"
 
 # How many decoded blocks stores keep, and how many pages a page cache below them keeps: neither
 # changes an answer.

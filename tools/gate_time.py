@@ -1,7 +1,7 @@
 #!/usr/bin/env python3
 """What the merge gate costs, crate by crate, in processor seconds.
 
-usage: tools/gate_time.py [COMMAND ..]      at the top of the repository
+usage: tools/gate_time.py [--into FILE] [COMMAND ..]      at the top of the repository
 
 Runs the command, `rt ci` without one, and looks four times a second at the processes below it. Each
 run of the prover names its crate, and is counted
@@ -14,11 +14,13 @@ with the processes that it waited for. When the command has ended the sums are p
 and behind it what the table leaves out: the rest of the command's processor time, which is that of
 the tests and programs that ran, of `rt` itself, and of the last quarter of a second of each run.
 The clock's minutes are of the whole. The command's output goes to standard error. Where it fails, or
-is broken off by Ctrl-C, the table is of what was run until then, and the status is 1.
+is broken off by Ctrl-C, the table is of what was run until then, and the status is 1; where it does
+not, a file that --into names has the same lines.
 """
 import collections
 import os
 import pathlib
+import re
 import resource
 import subprocess
 import sys
@@ -95,23 +97,43 @@ def watch(command):
 
 def row(name, costs):
     figures = [f"{costs[part]:.0f}" for part in ("proof", "tests", "edits")]
-    print(f"| {name} | {' | '.join(figures)} | {costs.total() / 60:.1f} |")
+    return f"| {name} | {' | '.join(figures)} | {costs.total() / 60:.1f} |"
 
 
-def main(command):
-    parts, seconds, minutes, status = watch(command)
-    print("| crate | proof, s | tests, s | edits, s | together, min |")
-    print("|---|---|---|---|---|")
+def machine():
+    """The name of the processors, and the load of the last minutes."""
+    told = re.search(r"model name\s*: (.*)", pathlib.Path("/proc/cpuinfo").read_text())
+    name = told[1] if told else "a processor without a name"
+    return f"{name}, load {', '.join(f'{load:.0f}' for load in os.getloadavg())}"
+
+
+def table(command, parts, seconds, minutes):
+    """The lines that tell what a command took."""
+    day = time.strftime("%d %B %Y")
+    yield f"What `{' '.join(command)}` took on {day}, by tools/gate_time.py: {machine()}"
+    yield "\n| crate | proof, s | tests, s | edits, s | together, min |\n|---|---|---|---|---|"
     for name in sorted(parts):
-        row(f"`{name}`", parts[name])
+        yield row(f"`{name}`", parts[name])
     together = sum(parts.values(), collections.Counter())
-    row("all of these", together)
-    print(f"\nrunning, and what ended between two looks: {(seconds - together.total()) / 60:.1f} min")
-    print(f"{seconds / 60:.1f} processor minutes in {minutes:.1f} minutes of the clock on "
-          f"{os.cpu_count()} processors; the gate may take {BUDGET_MINUTES}")
+    yield row("all of these", together)
+    yield f"\nrunning, and what ended between two looks: {(seconds - together.total()) / 60:.1f} min"
+    yield (f"{seconds / 60:.1f} processor minutes in {minutes:.1f} minutes of the clock on "
+           f"{os.cpu_count()} processors; the gate may take {BUDGET_MINUTES}")
+
+
+def main(words):
+    file, command = None, words
+    if words[:1] == ["--into"]:
+        file, command = words[1], words[2:]
+    command = command or ["rt", "ci"]
+    parts, seconds, minutes, status = watch(command)
+    told = "\n".join(table(command, parts, seconds, minutes)) + "\n"
+    print(told, end="")
     if status:
         sys.exit(f"{' '.join(command)} ended with status {status}: the figures are of a part of it")
+    if file:
+        pathlib.Path(file).write_text(told, encoding="utf-8")
 
 
 if __name__ == "__main__":
-    main(sys.argv[1:] or ["rt", "ci"])
+    main(sys.argv[1:])
