@@ -1,5 +1,5 @@
 //! What a merge writes: one segment of the documents that the deletion lists leave, in the place of
-//! a run of segments, or none.
+//! a run of segments, or none; and the table of the next body's entries.
 //!
 //! What is uncommitted stays so: deletions that no commit has taken are pending ones of the new
 //! segment.

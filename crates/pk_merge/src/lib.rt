@@ -43,8 +43,9 @@
 //!
 //! | what | how much |
 //! |---|---|
-//! | each document left | 24 bytes for its place, 12 in the directory, 4 in the list of one word |
-//! | each term of an input of kind 2 | some 40 bytes, and the word |
+//! | each document left | 16 bytes for its place, 12 in the directory, 4 in the list of one word |
+//! | each term of an input of kind 2 | 6 bytes and the word, up to 16 where pk_join says so |
+//! | each term of the input that is read | some 40 bytes and the word once more |
 //! | an input of kind 1 | the index of its texts, and its words |
 //! | an input of kind 2 | 32,768 bytes to read ahead, past 2,048 inputs its share of 64 MiB |
 //! | each deleted number | 4 bytes, and one for each number up to the next one, at most 64 |

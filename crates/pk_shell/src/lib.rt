@@ -27,9 +27,9 @@
 //! | `text too long`, `buffer full` | the text to add, or all that is uncommitted, is too long |
 //! | `numbers used up` | no number is left for a document, or none for what is to be written |
 //! | `no such document` | no live document has the number |
-//! | `too many segments` | a commit of new documents would be the 65th |
+//! | `too many segments` | a document is new, and the store has 4,096 segments |
 //! | `segment too large` | the segment to be written would pass 1,073,741,824 bytes |
-//! | `full need A largest B` | A units are needed in a row to write, and the disk has B |
+//! | `full need A largest B` | A units in a row are needed, and the longest free run has B |
 //! | `memory`, `disk` | a growth of memory was refused, a call of the device failed |
 //! | `damaged` | bytes of the disk are no spelling of what should stand there |
 //!
