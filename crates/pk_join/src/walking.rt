@@ -11,6 +11,7 @@ ghost use Rattle.std.specs.Prelude.{
   length,
   take,
   All,
+  IfNone,
   IfOk,
   IfSome,
   MatchOption,
@@ -264,6 +265,9 @@ pub(crate) fn next_word<D: Disk>(
     ensures fewer { IfOk result (λ o. IfSome o (λ _.
         to_come (lists_of inputs.old) (heads_of inputs.new) (length (lists_of inputs.old))
         < to_come (lists_of inputs.old) (heads_of inputs.old) (length (lists_of inputs.old)))) }
+    // None is answered where all words were passed, whatever the bytes are.
+    ensures ended { IfOk result (λ o. IfNone o
+        (to_come (lists_of inputs.new) (heads_of inputs.new) (length (lists_of inputs.new)) ≡ 0)) }
     ensures room { room_in list.new.joined ≡ room_in list.old.joined }
     ensures made { length list.new.made.items ≡ length list.old.made.items }
     ensures left { ReadsDisk D.Disk CountsFaults result disk.old disk.new }

@@ -1,6 +1,7 @@
 //! Many lists of numbers united.
-ghost use Rattle.std.specs.Prelude.{◌≡◌, ◌++◌, ◌∷◌, [], MatchOption, OnOk, All};
+ghost use Rattle.std.specs.Prelude.{◌≡◌, ◌++◌, ◌∷◌, [], IfNone, MatchOption, OnOk, All};
 ghost use Rattle.std.specs.List.Sorted.{IsStrictlyIncreasing};
+ghost use Rattle.pk_match.specs.Stack.{IsStack, lengths_of};
 ghost use Rattle.pk_match.specs.Uniting.{items_of, union_of};
 ghost use Rattle.pk_sets.specs.Sets.{union};
 
@@ -22,6 +23,9 @@ pub fn stack_list(
     ensures numbers { OnOk result (union_of (items_of lists.new.items)
         ≡ union (union_of (items_of lists.old.items)) list.items) }
     ensures rising { OnOk result (All IsStrictlyIncreasing (items_of lists.new.items)) }
+    // So the stack is no higher than the logarithm.
+    ensures stack { OnOk result (IsStack (lengths_of lists.old.items)
+        → IsStack (lengths_of lists.new.items)) }
 {
     let mut top = list;
     'shorter: while let Some(below) = pop_short(lists, top.len()) {
@@ -33,8 +37,10 @@ pub fn stack_list(
 
 // Takes the list at the top off, if it is at most twice as long.
 fn pop_short(lists: &mut Vec<Vec<u32>>, len: usize) -> Option<Vec<u32>>
-    ensures { MatchOption result (lists.new.items ≡ lists.old.items)
+    ensures popped { MatchOption result (lists.new.items ≡ lists.old.items)
         (λ list. lists.old.items ≡ lists.new.items ++ list ∷ []) }
+    ensures stack { IfNone result (IsStack (lengths_of lists.old.items)
+        → IsStack (lengths_of lists.old.items ++ len ∷ [])) }
 {
     let is_short = match lists.last() {
         Some(list) => list.len() / 2 <= len,

@@ -15,6 +15,7 @@ use Rattle.pk_merge.specs.declared.kept.Kept.{Kept}
 use Rattle.pk_merge.specs.declared.lists.Lists.{Lists}
 use Rattle.pk_merge.specs.declared.lists.Lists.TheVariants.{Packed, Walked}
 use Rattle.pk_merge.specs.declared.output.Output.{Output}
+use Rattle.pk_merge.specs.Endings.{EndsWith}
 use Rattle.pk_merge.specs.Keeping.{AreKept, EndBy, KeptApart}
 use Rattle.pk_merge.specs.Lists.{AreOfInputs, AreWithin}
 use Rattle.pk_merge.specs.Output.{IsFresh, LiesApart, count_given, given, places_of}
@@ -92,6 +93,22 @@ flushed (Ok u) b b' bytes o o' start size same empty count at is long =
     ∙ ap (λ (k : ℕ). take (o'.at - o'.start) (drop o'.start b') ++ take k o'.buffer.items) (sym empty)
     ∙ same ∙ is
 flushed (Err x) b b' bytes o o' start size same empty count at is long = tt
+
+-- so it ends with what was given last
+pub ends_with : {T : Type 0} (r : Result T StreamFault) (b b' front back : List ℕ) (o o' : Output) (start size : ℕ)
+    → OnOk r (given b' o' ≡ given b o) → OnOk r (o'.filled ≡ 0) → OnOk r (count_given o' ≡ count_given o)
+    → o'.start ≡ start → given b o ≡ front ++ back → o.start ≡ start → o.end ≡ start + size
+    → OnOk r (o.at + o.filled ≡ o.end) → OnOk r (EndsWith back (take size (drop start b')))
+ends_with (Ok u) b b' front back o o' start size same empty count at is from to whole = (
+  front,
+  flushed (Ok u) b b' (front ++ back) o o' start size same empty count at is (omega (arith, o.order, from, to, whole)),
+)
+ends_with (Err x) b b' front back o o' start size same empty count at is from to whole = tt
+
+-- and what is given last is at the end
+pub given_last : {T : Type 0} (r : Result T StreamFault) (all front back : List ℕ) → OnOk r (all ≡ front ++ back) → OnOk r (EndsWith back all)
+given_last (Ok u) all front back is = (front, is)
+given_last (Err x) all front back is = tt
 
 -- a place that ends so many bytes after its start
 pub places_are : (o : Output) (start size : ℕ) → o.start ≡ start → o.end ≡ start + size

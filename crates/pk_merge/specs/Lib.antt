@@ -1,6 +1,7 @@
 -- The definitions that the contracts cite.
 pub mod Choosing
 pub mod Counting
+pub mod Endings
 pub mod Gathering
 pub mod Inputs
 pub mod Keeping

@@ -17,8 +17,12 @@ pub struct MergeWriter<'a> {
 }
 
 impl<'a> WritesExtent for MergeWriter<'a> {
-    ghost use Rattle.std.specs.Prelude.{◌*◌};
+    ghost use Rattle.std.specs.Prelude.{◌≡◌, ◌*◌, OnOk, drop, length, take};
     ghost use Rattle.pk_disk.specs.Disk.{in_range};
+    ghost use Rattle.pk_merge.specs.Endings.{EndsWith};
+    ghost use Rattle.pk_replace.specs.Cause.{IsCause, IsUndamaged, StopsAtWrites};
+    ghost use Rattle.pk_replace.specs.Claims.{Claim, IsThere};
+    ghost use Rattle.pk_replace.specs.Writing.{WritesOnly};
     ghost use Rattle.pk_merge.specs.Streaming.{
       CanStream,
       IsSoundMerge,
@@ -38,7 +42,24 @@ impl<'a> WritesExtent for MergeWriter<'a> {
 
     ghost reads_nothing = { λ w. ⊥ };
 
-    fn write_into<D: Disk>(self, disk: &mut D) -> Result<(), StreamFault> {
+    fn write_into<D: Disk>(self, disk: &mut D) -> Result<(), StreamFault>
+        requires { CanStream (length (D.content disk.old)) self.first self.inputs.now
+            self.prepared }
+        ensures writes { WritesOnly D.Disk (in_range (512 * self.entry.first) self.entry.prepared.size)
+            disk.old disk.new }
+        ensures there { D.honest → OnOk result ((c : Claim)
+            → PromisesMerge self.entry.first self.entry.inputs.now self.entry.prepared (D.content disk.old) c
+            → IsThere (D.content disk.new) c) }
+        ensures undamaged { D.honest
+            → IsSoundMerge self.entry.inputs.now self.entry.prepared (D.content disk.old)
+            → IsUndamaged result }
+        ensures unread { ⊥ → StopsAtWrites result }
+        ensures size { length (D.content disk.new) ≡ length (D.content disk.old) }
+        ensures cause { IsCause D.Disk disk.old disk.new result }
+        // Whatever was read, after Ok all of the segment was written: it ends with the dictionary.
+        ensures whole { D.honest → OnOk result (EndsWith self.entry.prepared.dictionary.items
+            (take self.entry.prepared.size (drop (512 * self.entry.first) (D.content disk.new)))) }
+    {
         self.prepared.write_segment(disk, self.first)
     }
 

@@ -92,6 +92,25 @@ impl Output {
         Ok(())
     }
 
+    /// Writes what is held, where all of the stretch was given; else it is `Damaged`.
+    pub(crate) fn finish<D: Disk>(&mut self, disk: &mut D) -> Result<(), StreamFault>
+        requires { self.old.end ≤ length (D.content disk.old) }
+        ensures writes { WritesOnly D.Disk (places_of self.old) disk.old disk.new }
+        ensures given { D.honest → OnOk result
+            (given (D.content disk.new) self.new ≡ given (D.content disk.old) self.old) }
+        ensures empty { OnOk result (self.new.filled ≡ 0) }
+        ensures count { OnOk result (count_given self.new ≡ count_given self.old) }
+        ensures stretch { IsSameStretch self.old self.new }
+        ensures whole { OnOk result (self.old.at + self.old.filled ≡ self.old.end) }
+        ensures undamaged { self.old.at + self.old.filled ≡ self.old.end → IsUndamaged result }
+        ensures cause { IsCause D.Disk disk.old disk.new result }
+    {
+        if self.room() > 0 {
+            return Err(StreamFault::Damaged);
+        }
+        self.flush(disk)
+    }
+
     // Holds as many of the bytes as there is room for, and answers how many.
     fn hold(&mut self, bytes: &[u8]) -> usize
         requires { self.old.at + self.old.filled + length bytes.now ≤ self.old.end }
@@ -149,6 +168,10 @@ impl Output {
     pub(crate) fn offer<D: Disk>(&mut self, disk: &mut D, bytes: &[u8]) -> Result<(), StreamFault>
         requires { self.old.end ≤ length (D.content disk.old) }
         ensures given { IsGiven D.Disk disk.old disk.new self.old self.new result }
+        ensures count { OnOk result
+            (self.new.at + self.new.filled ≡ self.old.at + self.old.filled + length bytes.now) }
+        ensures there { D.honest → OnOk result (given (D.content disk.new) self.new
+            ≡ given (D.content disk.old) self.old ++ bytes.now) }
         ensures bytes { D.honest
             → self.old.at + self.old.filled + length bytes.now ≤ self.old.end
             → AreGiven D.Disk disk.old disk.new self.old self.new bytes.now result }
@@ -229,6 +252,8 @@ impl Output {
         requires low { from + len < 2 ^ 64 }
         requires apart { (from + len ≤ self.old.start) ⊎ (self.old.end ≤ from) }
         ensures given { IsGiven D.Disk disk.old disk.new self.old self.new result }
+        ensures count { OnOk result
+            (self.new.at + self.new.filled ≡ self.old.at + self.old.filled + len) }
         ensures bytes { D.honest → self.old.at + self.old.filled + len ≤ self.old.end
             → AreGiven D.Disk disk.old disk.new self.old self.new
             (take len (drop from (D.content disk.old))) result }

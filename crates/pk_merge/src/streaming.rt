@@ -20,7 +20,8 @@ ghost use Rattle.pk_join.specs.Inputs.{SpellsInputs};
 ghost use Rattle.pk_join.specs.declared.input.MergeInput.{MergeInput};
 ghost use Rattle.pk_merge.specs.Keeping.{AreKept, EndBy, KeptApart};
 ghost use Rattle.pk_merge.specs.Lists.{AreOfInputs, AreWithin, GiveLists};
-ghost use Rattle.pk_merge.specs.Output.{AreGiven, IsGiven, LiesApart};
+ghost use Rattle.pk_merge.specs.Endings.{EndsWith};
+ghost use Rattle.pk_merge.specs.Output.{AreGiven, IsGiven, LiesApart, given};
 ghost use Rattle.pk_merge.specs.Prepared.{CanWrite};
 ghost use Rattle.pk_model.specs.Collection.{Doc};
 ghost use Rattle.pk_replace.specs.Cause.{IsCause, IsUndamaged};
@@ -78,6 +79,9 @@ fn write_index<D: Disk>(
         + length (postings (live_in stored) ++ dictionary.now) ≤ output.old.end
         → AreGiven D.Disk disk.old disk.new output.old output.new
         (postings (live_in stored) ++ dictionary.now) result }
+    // Whatever the bytes are, the dictionary was given last.
+    ensures last { D.honest
+        → OnOk result (EndsWith dictionary.now (given (D.content disk.new) output.new)) }
 {
     lists.write(disk, output)?;
     output.offer(disk, dictionary)
@@ -97,13 +101,16 @@ impl Prepared {
         ensures undamaged { D.honest
             → OfInputs (D.content disk.old) first self (λ _. IsUndamaged result) }
         ensures cause { IsCause D.Disk disk.old disk.new result }
+        // Whatever was read, after Ok all of the segment was written: it ends with the dictionary.
+        ensures whole { D.honest → OnOk result (EndsWith self.dictionary.items
+            (take self.size (drop (512 * first) (D.content disk.new)))) }
     {
         let start = UNIT * u64::from(first);
         let mut output = Output::over(self.buffer, start, start + u64::from(self.size));
         let mut room = self.room;
         write_front(disk, &self.front, &self.documents, &mut room, &mut output)?;
         write_index(disk, self.lists, &self.dictionary, &mut output)?;
-        output.flush(disk)
+        output.finish(disk)
     }
 
     /// Writes the segment that is prepared from unit `first` on, as it is read: in writes of 65,536
@@ -121,6 +128,9 @@ impl Prepared {
             ≡ segment_spelling (live_in stored) 2)) }
         ensures undamaged { D.honest → OfInputs (D.content disk.old) first self
             (λ _. IfErr result (λ f. (f ≡ MergeFault.Disk) ⊎ (f ≡ MergeFault.NotWritten))) }
+        // Whatever was read, after Ok all of the segment was written: it ends with the dictionary.
+        ensures whole { D.honest → OnOk result (EndsWith self.dictionary.items
+            (take self.size (drop (512 * first) (D.content disk.new)))) }
         ensures cause { IsMergeCause D.Disk disk.old disk.new result }
     {
         self.write_segment(disk, first)?;

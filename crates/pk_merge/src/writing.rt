@@ -13,6 +13,8 @@ ghost use Rattle.std.specs.Prelude.{
   IfOk,
   IsTrue,
   MatchResult,
+  OnOk,
+  false,
 };
 ghost use Rattle.pk_disk.specs.Frames.{KeepsDisk};
 ghost use Rattle.pk_join.specs.Walk.{GoesAs, HasCome, IsSameWalk, WalksWithin, words_to_come};
@@ -40,6 +42,7 @@ fn go_on<D: Disk>(disk: &mut D, walk: &mut Walk) -> Result<bool, StreamFault>
         (λ e. e ≡ StreamFault.Read) }
     ensures fewer { IfOk result (λ more. IsTrue more
         → words_to_come walk.new < words_to_come walk.old) }
+    ensures ended { IfOk result (λ more. more ≡ false → words_to_come walk.new ≡ 0) }
     ensures same { IsSameWalk walk.old walk.new }
     ensures keeps { KeepsDisk D.Disk disk.old disk.new }
     ensures cause { IsCause D.Disk disk.old disk.new result }
@@ -64,6 +67,9 @@ fn write_list<D: Disk>(
     ensures bytes { D.honest → length (list_spelling list.now) ≤ length encoded.old
         → output.old.at + output.old.filled + length (list_spelling list.now) ≤ output.old.end
         → AreGiven D.Disk disk.old disk.new output.old output.new (list_spelling list.now) result }
+    // Whatever the bytes are, the whole list was given.
+    ensures count { OnOk result (output.new.at + output.new.filled
+        ≡ output.old.at + output.old.filled + length (list_spelling list.now)) }
 {
     let bytes = length_of(list);
     if bytes as usize > encoded.len() || u64::from(bytes) > output.room() {
@@ -83,6 +89,8 @@ pub(crate) fn write_lists<D: Disk>(
     requires walk { WalksWithin (length (D.content disk.old)) walk.old }
     requires stretch { output.old.end ≤ length (D.content disk.old) }
     ensures given { IsGiven D.Disk disk.old disk.new output.old output.new result }
+    // Whatever the bytes are, each word of each input was passed.
+    ensures ended { OnOk result (words_to_come walk.new ≡ 0) }
     ensures bytes { D.honest → (inputs : List MergeInput) (stored : List Stored)
         → HasCome (D.content disk.old) inputs stored walk.old [] (terms_of (live_in stored))
         → All (LiesApart output.old.start output.old.end) inputs

@@ -1,5 +1,5 @@
 -- What a disk keeps for a body, what its bytes hold, and that these say the same.
-use Rattle.std.specs.Prelude.{if◌then◌else◌}
+use Rattle.std.specs.Prelude.{All, if◌then◌else◌}
 use Rattle.std.proofs.Common.{◌≡◌, ◌==◌, inl, inr, ℕ, zero, suc, ◌+◌, ◌*◌, ◌/◌, ◌<◌, ◌≤◌, ◌&&◌, Bool, true, false, eqb, leb, ltb, List, [], ◌∷◌, ◌++◌, length, take, drop, Option, Some, None, refl, sym, ◌∙◌, ap, subst, arith, length-drop}
 use Rattle.std.specs.List.{AllByRecursion, flat_map, list_all}
 use Rattle.std.proofs.Math.Nat.{lt-mul-div-succ, min-le_left, mul-div-le}
@@ -347,6 +347,12 @@ entries_agree bytes image (e ∷ es) (s ∷ stored) agree spells =
       entries_agree bytes image es stored (all_back same (extents_of e) (flat_map extents_of es) each) spells.1,
     )
 
+pub entries_of_named : (bytes image : List ℕ) (b : Body) → All (λ (e : Extent). extent_bytes image e ≡ extent_bytes bytes e) (named b)
+    → (stored : List Stored) → SpellsEntries bytes b.entries stored → SpellsEntries image b.entries stored
+entries_of_named bytes image b agree stored spells =
+    let same : Extent → Type 0 = λ x. extent_bytes image x ≡ extent_bytes bytes x in
+    entries_agree bytes image b.entries stored (all_back same (table_extents b.table) (flat_map extents_of b.entries) (recursion_from_All same (named b) agree)) spells
+
 module _ (bytes image : List ℕ) (b : Body) (agree : AgreeWith bytes image b) where
   pub same_in_force : half_in_force image ≡ half_in_force bytes
   same_in_force =
@@ -369,7 +375,7 @@ module _ (bytes image : List ℕ) (b : Body) (agree : AgreeWith bytes image b) w
   }
 
   pub same_entries : (stored : List Stored) → SpellsEntries bytes b.entries stored → SpellsEntries image b.entries stored
-  same_entries stored spells = entries_agree bytes image b.entries stored (all_back same (table_extents b.table) (flat_map extents_of b.entries) each) spells
+  same_entries stored spells = entries_of_named bytes image b agree.extents stored spells
 
   pub agree_back : AgreeWith image bytes b
   agree_back = record {
@@ -379,15 +385,20 @@ module _ (bytes image : List ℕ) (b : Body) (agree : AgreeWith bytes image b) w
     extents = λ k e lt. sym (agree.extents k e lt);
   }
 
-pub holds_frame : (bytes image : List ℕ) (half : Half) (b : Body) (c : Collection) → HasBody bytes half b → AgreeWith bytes image b → Holds bytes c → Holds image c
-holds_frame bytes image half b c has agree holds =
+-- bytes with the same body in force and the same extents of it hold the same collection
+pub holds_with : (bytes image : List ℕ) (half image_half : Half) (b : Body) (c : Collection) → HasBody bytes half b → HasBody image image_half b
+    → All (λ e. extent_bytes image e ≡ extent_bytes bytes e) (named b) → Holds bytes c → Holds image c
+holds_with bytes image half image_half b c has shown agree holds =
     let same : holds.committed.body ≡ b = (one_body_in_force bytes holds.half half holds.committed.body b holds.current has).1 in
     let spelled : SpellsEntries bytes b.entries holds.committed.stored = subst (λ (u : Body). SpellsEntries bytes u.entries holds.committed.stored) same holds.spelled in
     record {
-      half = half;
+      half = image_half;
       committed = committed_of b holds.committed.stored;
-      current = same_body bytes image b agree half has;
-      spelled = same_entries bytes image b agree holds.committed.stored spelled;
+      current = shown;
+      spelled = entries_of_named bytes image b agree holds.committed.stored spelled;
       numbers = subst (λ (u : Body). IsCollection (whole_of (committed_of u holds.committed.stored))) same holds.numbers;
       stands_for = ap (λ (u : Body). collection_of (committed_of u holds.committed.stored)) (sym same) ∙ holds.stands_for;
     }
+
+pub holds_frame : (bytes image : List ℕ) (half : Half) (b : Body) (c : Collection) → HasBody bytes half b → AgreeWith bytes image b → Holds bytes c → Holds image c
+holds_frame bytes image half b c has agree holds = holds_with bytes image half half b c has (same_body bytes image b agree half has) agree.extents holds

@@ -13,3 +13,4 @@ mod OutcomeLemmas
 pub mod SessionLemmas
 pub mod StateLemmas
 mod WorkLemmas
+pub mod BesideLemmas

@@ -9,3 +9,4 @@ pub mod Kept
 pub mod Merged
 pub mod States
 pub mod Follows
+pub mod Beside

@@ -1,16 +1,20 @@
 //! Laws of the definitions, each the contract of a function with nothing to do.
 ghost use Rattle.std.specs.Prelude.{◌≡◌, ◌↔◌, ◌⊎◌, ℕ, ◌≤◌, Bool, true, false, ◌<◌};
-ghost use Rattle.std.specs.Prelude.{List, Result, length};
+ghost use Rattle.std.specs.Prelude.{All, List, Result, length};
 ghost use Rattle.pk_disk.specs.Disk.{IsImage};
+ghost use Rattle.pk_disk.specs.Units.{extent_bytes};
 ghost use Rattle.pk_manifest.specs.declared.half.Half.{Half};
 ghost use Rattle.pk_manifest.specs.declared.manifest.Part.{Part as Entry};
 ghost use Rattle.pk_manifest.specs.Current.{HasBody};
+ghost use Rattle.pk_manifest.specs.Evolves.{AreTold, in_force};
+ghost use Rattle.pk_manifest.specs.Sound.{named};
 ghost use Rattle.pk_manifest.specs.Spelling.{Body};
 ghost use Rattle.pk_model.specs.declared.commands.Refusal.{Refusal};
 ghost use Rattle.pk_model.specs.Collection.{Collection, Doc, IsCollection};
 ghost use Rattle.pk_model.specs.Limits.{max_segment_bytes};
 ghost use Rattle.pk_model.specs.Steps.{Answer, Request, commit, merge, tidy};
 ghost use Rattle.pk_segment.specs.Spelling.{segment_length};
+ghost use Rattle.pk_state.specs.Beside.{AreCommands, HoldsOneOf, IsMoment, IsShot, Left};
 ghost use Rattle.pk_state.specs.Committed.{Committed, Stored, collection_of, whole_of};
 ghost use Rattle.pk_state.specs.Follows.{Commits, Replaces};
 ghost use Rattle.pk_state.specs.Holds.{AgreeWith, Holds, IndexesEntries, SpellsEntries};
@@ -41,6 +45,24 @@ pub fn bytes_that_agree_hold_the_same()
     ensures { (bytes image : List ℕ) (half : Half) (b : Body) (c : Collection)
         → HasBody bytes half b → AgreeWith bytes image b
         → (Holds bytes c → Holds image c) × (Holds image c → Holds bytes c) }
+{}
+
+/// Bytes with the same body in force, in whichever half, and the same extents that it names hold the
+/// same collection.
+pub fn bytes_with_one_body_hold_the_same()
+    ensures { (bytes image : List ℕ) (half image_half : Half) (b : Body) (c : Collection)
+        → HasBody bytes half b → HasBody image image_half b
+        → All (λ e. extent_bytes image e ≡ extent_bytes bytes e) (named b)
+        → Holds bytes c → Holds image c }
+{}
+
+/// A reader beside a writer. Where it shows a body of a moment among the commands, of a generation no
+/// less than that in force at the first answer, it holds what the first command or a later one left.
+pub fn a_reader_holds_what_a_command_left()
+    ensures { (first : Left) (rest : List Left) (bytes image : List ℕ) (half : Half)
+        (generation : ℕ) (b : Body) → AreTold first.bytes → AreCommands first rest
+        → IsMoment first rest bytes → in_force first.bytes ≤ generation
+        → IsShot bytes image half generation b → HoldsOneOf first rest image }
 {}
 
 /// Entries that spell documents index them, so that a search needs no text of kind 2.

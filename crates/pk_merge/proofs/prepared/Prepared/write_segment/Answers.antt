@@ -16,7 +16,7 @@ use Rattle.pk_merge.specs.Prepared.{CanMerge, IsPrepared}
 use Rattle.pk_merge.proofs.FaultLemmas.{passed_on}
 use Rattle.pk_merge.proofs.GivenLemmas.{are_given_next, spells_stays}
 use Rattle.pk_merge.proofs.OutputLemmas.{stretch_then, writes_next}
-use Rattle.pk_merge.proofs.StreamLemmas.{all_bytes, apart_there, flushed, fresh_given, front_fits, lists_within, places_are, two_lengths}
+use Rattle.pk_merge.proofs.StreamLemmas.{all_bytes, apart_there, ends_with, flushed, fresh_given, front_fits, lists_within, places_are, two_lengths}
 use Rattle.pk_merge.proofs.prepared.Prepared.write_segment.Given as given
 use Rattle.pk_merge.proofs.prepared.Prepared.write_segment.Goals as goal
 use Rattle.pk_merge.proofs.prepared.Prepared.write_segment.Goals.{After-write_index}
@@ -126,9 +126,9 @@ returns-clause-writes g c =
     let q = c.write_index.new.output in
     let both = writes_next d o p c.args.disk.now c.write_front.new.disk c.write_index.new.disk first.stretch
     first.writes second.writes in
-    let all = writes_next d o q c.args.disk.now c.write_index.new.disk c.flush.new.disk
-    (stretch_then o p q first.stretch second.stretch) both c.flush.ensures.writes in
-    subst (λ (touched : ℕ → Bool). WritesOnly d touched c.args.disk.now c.flush.new.disk)
+    let all = writes_next d o q c.args.disk.now c.write_index.new.disk c.finish.new.disk
+    (stretch_then o p q first.stretch second.stretch) both c.finish.ensures.writes in
+    subst (λ (touched : ℕ → Bool). WritesOnly d touched c.args.disk.now c.finish.new.disk)
     (places_are o (512 * c.args.first) c.args.self.size (omega (arith, fresh.start_is, c.from-start.ensures))
     (omega (arith, fresh.end_is, c.from-start.ensures, c.from.ensures))) all
 
@@ -151,12 +151,12 @@ returns-clause-there g c = λ honest inputs stored can spells is.
     ∙ all_bytes docs c.deref.result.now c.deref-3.result.now front words in
     let first = c.in_ok-write_front.ensures.given.stretch in
     let second = c.in_ok-write_index.ensures.given.stretch in
-    flushed c.flush.result (content c.write_index.new.disk) (content c.flush.new.disk) _ q c.flush.new.self
+    flushed c.finish.result (content c.write_index.new.disk) (content c.finish.new.disk) _ q c.finish.new.self
     (512 * c.args.first) c.args.self.size
-    (c.flush.ensures.given honest) c.flush.ensures.empty c.flush.ensures.count
+    (c.finish.ensures.given honest) c.finish.ensures.empty c.finish.ensures.count
     (omega (
       arith,
-      c.flush.ensures.stretch.start,
+      c.finish.ensures.stretch.start,
       second.start,
       first.start,
       fresh.start_is,
@@ -174,3 +174,43 @@ returns-clause-there g c = λ honest inputs stored can spells is.
       second.start,
       first.start,
     ))
+
+pub returns-clause-undamaged : goal.returns-clause-undamaged
+returns-clause-undamaged g c = λ honest inputs stored can spells is.
+    let docs = live_in stored in
+    let fresh = c.over-output.ensures in
+    let xs = c.deref.result.now ++ texts docs in
+    let ys = postings docs ++ c.deref-3.result.now in
+    let all = subst (AreGiven g.D.Disk c.args.disk.now c.write_index.new.disk c.over-output.result c.write_index.new.output (xs ++ ys))
+    c.in_ok-write_index.was
+    (both g (goal.at.returns-clause-undamaged g c).After-write_index honest inputs stored can spells is) in
+    c.finish.ensures.undamaged
+    (omega (
+      arith,
+      all.count,
+      length-append xs ys,
+      two_lengths docs c.deref.result.now c.deref-3.result.now (c.deref.ensures.value ∙ is.front_is) (c.deref-3.ensures.value ∙ is.dictionary_is),
+      is.size_is,
+      fresh.at_is,
+      fresh.end_is,
+      fresh.none_held,
+      c.from.ensures,
+      c.in_ok-write_front.ensures.given.stretch.end,
+      c.in_ok-write_index.ensures.given.stretch.end,
+    ))
+
+pub returns-clause-whole : goal.returns-clause-whole
+returns-clause-whole g c = λ honest.
+    let content = g.D.Disk.content in
+    let fresh = c.over-output.ensures in
+    let q = c.write_index.new.output in
+    let first = c.in_ok-write_front.ensures.given.stretch in
+    let second = c.in_ok-write_index.ensures.given.stretch in
+    let last = c.in_ok-write_index.ensures.last honest in
+    let start : q.start ≡ 512 * c.args.first = omega (arith, second.start, first.start, fresh.start_is, c.from-start.ensures) in
+    let end : q.end ≡ 512 * c.args.first + c.args.self.size = omega (arith, second.end, first.end, fresh.end_is, c.from-start.ensures, c.from.ensures) in
+    ends_with c.finish.result (content c.write_index.new.disk) (content c.finish.new.disk) last.0 c.args.self.dictionary.items q c.finish.new.self
+    (512 * c.args.first) c.args.self.size
+    (c.finish.ensures.given honest) c.finish.ensures.empty c.finish.ensures.count
+    (c.finish.ensures.stretch.start ∙ start)
+    (last.1 ∙ ap (λ (l : List ℕ). last.0 ++ l) c.deref-3.ensures.value) start end c.finish.ensures.whole
