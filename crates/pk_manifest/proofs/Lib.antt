@@ -6,4 +6,11 @@ pub mod Fields
 pub mod Firm
 pub mod Sound
 pub mod Tables
-mod Windows
+pub mod Windows
+pub mod Said
+pub mod Evolving
+pub mod Ends
+pub mod Longer
+pub mod Moves
+pub mod Written
+pub mod Found

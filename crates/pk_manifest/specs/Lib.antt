@@ -5,3 +5,8 @@ pub mod Sound
 pub mod Fields
 pub mod Current
 pub mod Firm
+pub mod Said
+pub mod Evolves
+pub mod Moves
+pub mod Written
+pub mod Found

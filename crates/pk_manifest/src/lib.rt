@@ -32,7 +32,7 @@
 //! |---|---|
 //! | 0 | `PKSRCH01`, in version 2 `PKSRCH02` |
 //! | 8 | generation, u64 |
-//! | 16 | units of the disk, u32 |
+//! | 16 | units of the store, u32 |
 //! | 20 | next document number, u32 |
 //! | 24 | next segment id, u64 |
 //! | 32 | number of entries, u32, at most 64, in version 2 at most 4,096 |
@@ -62,10 +62,22 @@
 //! length; extents within the units from 34 to the disk's last; no two extents sharing a unit, the
 //! table's included.
 //!
+//! A disk may have more units than its store. `said_units` answers those that the body in force says,
+//! sound or not, and `store_units` those of the store on a disk of so many; `read_of` goes by a number
+//! of units that is given in place of the disk's.
+//!
 //! `read_current` answers the sound body in force, `NotAStore` exactly where both gates are closed,
 //! and `Damaged` where a half is in force whose bytes, with those of its table, are no sound body's.
 //! A refused `install` that met no failed write leaves the disk as it was; after a failed write each
 //! image still has the old body or the new one with its table in force.
+//!
+//! # Readers beside the writer
+//!
+//! `Evolves` in specs/ says how the bytes may change while others read them; laws say that moves as
+//! small as a reader sees them keep it (`laws::moves_let_the_bytes_evolve`), and so does a file that is
+//! made longer (`laws::a_file_may_be_made_longer`). The steps say which bytes they write, whatever they
+//! answer: `only` (a gate alone, a body alone) and `shuts` (a gate isn't opened), and of `finish` `bytes`
+//! and, after a fault, `part`. `IsFound` is a sound body behind an open gate, in force or not.
 //!
 //! # For the crates above
 //!
@@ -86,9 +98,10 @@ mod spelling;
 mod steps;
 
 pub use creating::establish;
+pub use decoding::{decode, table_place, u32_at, u64_at};
 pub use fault::ManifestFault;
-pub use gates::{close_spare, gate_open, open_spare, write_body};
-pub use half::Half;
+pub use gates::{OPEN, close_spare, gate_open, open_spare, write_body};
+pub use half::{BODY_SIZE, Half};
 pub use manifest::{Manifest, NO_TABLE, Part};
-pub use reading::read_current;
+pub use reading::{read_current, read_of, said_units, store_units};
 pub use steps::{finish, install, shut_spare};

@@ -28,6 +28,7 @@ ghost use Rattle.pk_pages.specs.Pages.{IsKept, IsReadAgain, KeepsOthers, page_by
 
 use crate::slots::{PAGE, Slot, empty_slots, fill, forget, kept};
 use pk_disk::{Disk, DiskFault};
+use pk_watch::Watched;
 use std::alloc::Global;
 
 /// A disk over another, which keeps pages of it in memory. Over an honest disk it is honest.
@@ -239,5 +240,16 @@ impl<D: Disk> Disk for PageCache<D> {
 
     fn sync(&mut self) -> Result<(), DiskFault> {
         self.disk.sync()
+    }
+}
+
+impl<D: Watched> Watched for PageCache<D> {
+    ghost shows_latest = { λ c. D.shows_latest c.disk };
+
+    ghost goes_on = { λ old new. D.goes_on old.disk new.disk };
+
+    // No page that is kept is asked.
+    fn is_latest(&mut self) -> Result<bool, DiskFault> {
+        self.disk.is_latest()
     }
 }

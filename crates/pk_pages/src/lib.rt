@@ -15,6 +15,7 @@
 //! | a longer read, an empty one | goes below as it is |
 //! | a write | forgets the pages that it touches, then goes below, whatever comes of it |
 //! | a sync | goes below |
+//! | whether it is the latest | is asked below, of a disk that can tell |
 //!
 //! The slots are a direct-mapped cache (Hennessy and Patterson, Computer Architecture, appendix B:
 //! "Where can a block be placed in a cache?"), written through, without allocation at a write.

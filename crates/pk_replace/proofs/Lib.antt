@@ -4,3 +4,4 @@ pub mod ClaimLemmas
 pub mod CopyLemmas
 pub mod CourseLemmas
 pub mod HeldLemmas
+pub mod EvolvingLemmas

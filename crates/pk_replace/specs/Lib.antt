@@ -6,3 +6,4 @@ pub mod Held
 pub mod Cause
 pub mod Copying
 pub mod Laws
+pub mod Evolving

@@ -10,6 +10,7 @@ ghost use Rattle.pk_manifest.specs.Firm.{IsFirm, IsShut};
 ghost use Rattle.pk_replace.specs.Cause.{IsCause, IsUndamaged, OnKept, OnRead, StopsAtWrites};
 ghost use Rattle.pk_replace.specs.Claims.{Claim, Each, IsUntouched};
 ghost use Rattle.pk_replace.specs.Course.{IsAfter, IsBefore, touched_by};
+ghost use Rattle.pk_replace.specs.Evolving.{EvolvesBy, IsBeside};
 ghost use Rattle.pk_replace.specs.Held.{Has, IsHeld, IsNext};
 
 use crate::stream::{StreamFault, WritesExtent};
@@ -53,6 +54,11 @@ fn install<D: Disk, W: WritesExtent>(
     ensures closed { D.honest → OnOk result (D.is_open disk.new ≡ nowhere) }
     ensures undamaged { D.honest → W.is_sound writer (D.content disk.old) → IsUndamaged result }
     ensures unread { W.reads_nothing writer → StopsAtWrites result }
+
+    // Who reads beside it meets bytes that evolve, whatever is answered.
+    ensures evolves { D.honest
+        → IsBeside (D.content disk.old) spare (W.touches writer) body.now
+        → EvolvesBy result (D.content disk.old) (D.content disk.new) spare body.now }
 
     // Sizes and counts, on every disk.
     ensures size { length (D.content disk.new) ≡ length (D.content disk.old) }
@@ -129,6 +135,11 @@ pub fn replace_with<D: Disk, W: WritesExtent>(
     // Damage is met by a writer that reads, on bytes that aren't sound for it.
     ensures undamaged { D.honest → W.is_sound writer (D.content disk.old) → IsUndamaged result }
     ensures unread { W.reads_nothing writer → IsUndamaged result }
+
+    // Who reads beside it meets bytes that evolve, whatever is answered.
+    ensures evolves { D.honest
+        → IsBeside (D.content disk.old) spare (W.touches writer) body.now
+        → EvolvesBy result (D.content disk.old) (D.content disk.new) spare body.now }
 
     // Sizes and counts, on every disk.
     ensures size { length (D.content disk.new) ≡ length (D.content disk.old) }

@@ -1,4 +1,6 @@
 -- Each image has the old body with its claims or the new one with its own; after Ok the new one is held, after a read that failed the old one.
+use Rattle.std.proofs.Common.{List, ℕ, subst}
+use Rattle.pk_replace.specs.Evolving.{EvolvesBy, IsBeside}
 use Rattle.pk_replace.proofs.CourseLemmas.{on_kept_weaker}
 use Rattle.pk_replace.proofs.HeldLemmas.{kept_held, kept_images, replaced, replaced_held}
 use Rattle.pk_manifest.proofs.Course.{ok_both}
@@ -21,3 +23,8 @@ returns-clause-kept g c = λ honest old_body claims held out.
 pub returns-clause-still : goal.returns-clause-still
 returns-clause-still g c = λ honest old_body claims held out.
     on_kept_weaker c.install.result (kept_images g.D.Disk c.args.spare (g.W.WritesExtent.touches c.args.writer) c.args.disk.now c.gate_open.new.disk (c.gate_open.ensures.read honest) old_body claims held c.install.new.disk out) (c.install.ensures.still honest)
+
+pub returns-clause-evolves : goal.returns-clause-evolves
+returns-clause-evolves g c = λ honest.
+    subst (λ (l : List ℕ). IsBeside l c.args.spare (g.W.WritesExtent.touches c.args.writer) c.args.body.now → EvolvesBy c.install.result l (g.D.Disk.content c.install.new.disk) c.args.spare c.args.body.now)
+    (c.gate_open.ensures.read honest).bytes (c.install.ensures.evolves honest)

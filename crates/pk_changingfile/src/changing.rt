@@ -1,0 +1,127 @@
+//! A file in memory that changes once.
+
+ghost use Rattle.std.specs.Prelude.{◌≡◌, ◌≤◌, true, false, length, take, drop, if◌then◌else◌};
+ghost use Rattle.pk_changingfile.specs.Going.{MayGo};
+
+use pk_snapshot::{HeldFile, ReadFault, SharedFile};
+
+/// A file in memory that has other bytes once some calls are made: in the course of the next one.
+#[derive(Drop)]
+pub struct ChangingFile {
+    before: Vec<u8>,
+    after: Vec<u8>,
+    // How many calls come before that.
+    left: u64,
+    has_changed: bool,
+    // Whether the bytes were marked since.
+    marked_after: bool,
+    ghost goes: { MayGo before.items after.items },
+    ghost order: { marked_after ≡ true → has_changed ≡ true },
+}
+
+impl ChangingFile {
+    /// A file of the first bytes, which has the other ones once so many calls are made.
+    pub fn new(before: Vec<u8>, after: Vec<u8>, left: u64) -> ChangingFile
+        requires { MayGo before.items after.items }
+        ensures before { result.before ≡ before }
+        ensures after { result.after ≡ after }
+        ensures left { result.left ≡ left }
+        ensures begins { result.has_changed ≡ false }
+    {
+        ChangingFile {
+            before,
+            after,
+            left,
+            has_changed: false,
+            marked_after: false,
+        }
+    }
+
+    // A call was made.
+    fn pass(&mut self)
+        ensures before { self.new.before ≡ self.old.before }
+        ensures after { self.new.after ≡ self.old.after }
+        ensures marked { self.new.marked_after ≡ self.old.marked_after }
+        ensures stays { self.old.has_changed ≡ true → self.new.has_changed ≡ true }
+    {
+        if self.left == 0 {
+            self.has_changed = true;
+        } else {
+            self.left -= 1;
+        }
+    }
+
+    // The bytes now.
+    fn bytes(&self) -> &[u8]
+        ensures { result.now ≡ (if self.now.has_changed then self.now.after.items
+            else self.now.before.items) }
+    {
+        if self.has_changed {
+            &self.after
+        } else {
+            &self.before
+        }
+    }
+
+    // Fills the start of `out`, and tells how much of it.
+    fn copy(&self, at: u64, out: &mut [u8]) -> usize
+        ensures count { result ≤ length out.old }
+        ensures given { take result out.new ≡ take result (drop at (if self.now.has_changed
+            then self.now.after.items else self.now.before.items)) }
+    {
+        let bytes = self.bytes();
+        let len = bytes.len() as u64;
+        if len <= at {
+            return 0;
+        }
+        let from = at as usize;
+        let n = out.len().min(bytes.len() - from);
+        out[..n].copy_from_slice(&bytes[from..from + n]);
+        n
+    }
+}
+
+impl SharedFile for ChangingFile {
+    ghost use Rattle.pk_changingfile.specs.Going.{content_of, marked_evolves};
+
+    ghost content = { λ f. content_of f.has_changed f.before.items f.after.items };
+
+    ghost marked = { λ f. content_of f.marked_after f.before.items f.after.items };
+
+    ghost honest = { Unit {0} };
+
+    fn mark(&mut self) {
+        self.marked_after = self.has_changed;
+    }
+
+    fn len(&self) -> Result<u64, ReadFault> {
+        Ok(self.bytes().len() as u64)
+    }
+
+    fn read_at(&mut self, at: u64, out: &mut [u8]) -> Result<usize, ReadFault> {
+        let n = self.copy(at, out);
+        self.pass();
+        Ok(n)
+    }
+
+    fn read_at_once(&mut self, at: u64, out: &mut [u8]) -> Result<(), ReadFault> {
+        let n = self.copy(at, out);
+        self.pass();
+        if n == out.len() {
+            Ok(())
+        } else {
+            Err(ReadFault::Failed)
+        }
+    }
+
+    ghost marked_before = { λ f honest. marked_evolves f.marked_after f.has_changed f.before.items f.after.items f.goes f.order };
+}
+
+/// Nothing is kept away: it changes when it is to.
+impl HeldFile for ChangingFile {
+    fn hold(&mut self) -> bool {
+        false
+    }
+
+    fn release(&mut self) {}
+}

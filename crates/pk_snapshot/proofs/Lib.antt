@@ -1,0 +1,10 @@
+-- The lemma pages.
+pub mod ConfirmLemmas
+pub mod SeenLemmas
+pub mod FillLemmas
+pub mod OrderLemmas
+pub mod ShownLemmas
+pub mod FoundLemmas
+pub mod OpenLemmas
+pub mod ShowsLemmas
+pub mod LatestLemmas

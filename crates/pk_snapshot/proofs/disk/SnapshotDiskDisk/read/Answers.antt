@@ -1,0 +1,28 @@
+-- What was read is confirmed.
+use Rattle.std.proofs.Common.{◌≡◌, ◌+◌, ◌≤◌, ◌∙◌, ℕ, length, ap, arith, rules}
+use Rattle.std.specs.Prelude.{slice_range}
+use Rattle.pk_snapshot.specs.Shared.{IsFilled}
+use Rattle.pk_snapshot.specs.Shown.{shown_bytes}
+use Rattle.pk_manifest.specs.Evolves.{body_in}
+use Rattle.pk_snapshot.proofs.FillLemmas.{ok_then}
+use Rattle.pk_snapshot.proofs.OpenLemmas.{found_shown}
+use Rattle.pk_snapshot.proofs.ShownLemmas.{length_shown, read_is}
+use Rattle.pk_snapshot.proofs.disk.SnapshotDiskDisk.read.Goals as goal
+
+pub returns-clause-given : goal.returns-clause-given
+returns-clause-given g c = λ h.
+    let f = g.F.SharedFile in
+    let disk = c.args.self.now in
+    let start = f.marked disk.file in
+    let old = f.content disk.file in
+    let mid = f.content c.fill.new.file in
+    let out = c.fill.new.out in
+    let from = disk.snapshot h in
+    let long : length out ≡ length c.args.out.now = c.fill.auto.out in
+    let total : length (shown_bytes disk.len disk.shown.extents.items start) ≡ disk.len = length_shown disk.len disk.shown.extents.items start in
+    let fits : c.args.at + length out ≤ disk.len = omega (arith, c.requires, long, total) in
+    let shown = disk.shown.extents.items in
+    let all : IsFilled old mid shown c.args.at out = ok_then c.fill.result (IsFilled old mid shown c.args.at out) c.if-is_err.ensures.negation (c.fill.ensures.given h) in
+    let last = c.in-Ok.ensures.given h (search rules) in
+    read_is start old mid (f.content c.is_still.new.file) disk.half disk.generation from.found.gate from.found.stamp_is (g.met.F.SharedFile.marked_before disk.file h) last disk.len disk.shown.extents.items (found_shown start disk.half disk.generation (body_in start disk.half) disk.shown.extents.items from.found from.names) c.args.at out fits all
+    ∙ ap (λ (n : ℕ). slice_range (shown_bytes disk.len disk.shown.extents.items start) c.args.at (c.args.at + n)) long

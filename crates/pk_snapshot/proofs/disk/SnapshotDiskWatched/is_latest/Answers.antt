@@ -1,0 +1,33 @@
+-- What was marked is shown, and a look marks nothing.
+use Rattle.std.proofs.Common.{◌≤◌, ap, sym, refl, ◌∙◌, arith}
+use Rattle.pk_manifest.specs.Evolves.{in_force}
+use Rattle.pk_snapshot.specs.Shown.{shown_bytes}
+use Rattle.pk_snapshot.proofs.LatestLemmas.{if_honest, marked_low}
+use Rattle.pk_snapshot.proofs.ShownLemmas.{length_shown}
+use Rattle.pk_snapshot.proofs.disk.SnapshotDiskWatched.is_latest.Goals as goal
+
+pub returns-clause-keeps : goal.returns-clause-keeps
+returns-clause-keeps g c =
+    let f = g.F.SharedFile in
+    let disk = c.args.self.now in
+    let shown = shown_bytes disk.len disk.shown.extents.items in
+    let start = f.marked disk.file in
+    let marked = f.marked c.is_latest.new.file in
+    record {
+      read = λ h. record {
+        bytes = ap shown (c.is_latest.ensures.marked h);
+        positions = refl;
+        images = record { later = omega arith; each = λ t image le is. is ∙ ap shown (c.is_latest.ensures.marked h) };
+        known = λ t image le is. is ∙ ap shown (sym (c.is_latest.ensures.marked h));
+      };
+      size = length_shown disk.len disk.shown.extents.items marked ∙ sym (length_shown disk.len disk.shown.extents.items start);
+      writes = refl;
+    }
+
+pub returns-clause-latest : goal.returns-clause-latest
+returns-clause-latest g c =
+    let f = g.F.SharedFile in
+    let disk = c.args.self.now in
+    if_honest f.honest (in_force (f.content disk.file) ≤ disk.generation) c.is_latest.result (λ h.
+    let from = (disk.snapshot h).found in
+    c.is_latest.ensures.latest h (marked_low (f.marked disk.file) (f.content disk.file) disk.half disk.generation from.gate from.stamp_is (g.met.F.SharedFile.marked_before disk.file h)))

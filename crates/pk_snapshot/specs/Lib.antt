@@ -1,0 +1,7 @@
+-- The definitions that contracts of shared files and of snapshots cite.
+pub mod Shared
+pub mod Shown
+pub mod Images
+pub mod Found
+pub mod Order
+pub mod Latest

@@ -1,0 +1,167 @@
+//! A disk that shows a file as it was, while another program may write it.
+
+ghost use Rattle.std.specs.Prelude.{◌≡◌, ◌≤◌, false, IfErr, IfOk};
+ghost use Rattle.pk_disk.specs.Disk.{nowhere};
+ghost use Rattle.pk_manifest.specs.Evolves.{Evolves, in_force};
+ghost use Rattle.pk_snapshot.specs.Found.{RefusedAs};
+ghost use Rattle.pk_snapshot.specs.Latest.{IsSnapshot};
+ghost use Rattle.pk_snapshot.specs.Shown.{ShowsBody, shown_bytes};
+
+use crate::fault::Refused;
+use crate::looking::{Looked, is_latest, look};
+use crate::reading::is_still;
+use crate::shared::SharedFile;
+use crate::shown::Shown;
+use pk_disk::{Disk, DiskFault};
+use pk_manifest::Half;
+use pk_watch::Watched;
+use std::alloc::Global;
+
+/// What a body claims on a file, as it was when that was opened, and zeros beside. Over an honest file
+/// it is honest. Once the body's gate was shut, or another body stands behind it, each read fails.
+#[derive(Drop)]
+pub struct SnapshotDisk<F: SharedFile> {
+    file: F,
+    len: u64,
+    half: Half,
+    generation: u64,
+    shown: Shown,
+    outdated: bool,
+    failed_reads: u64,
+    failed_writes: u64,
+    ghost snapshot: { F.honest → IsSnapshot (F.marked file) half generation len shown.extents.items },
+}
+
+impl<F: SharedFile + Drop> SnapshotDisk<F> {
+    /// Shows what is in force on a file, or what takes its place meanwhile: as many units as its body
+    /// says, which the file may have more of. The file is handed back with a refusal.
+    ///
+    /// `TooSmall` where the file has fewer than 64 units, `NotAStore` where both gates read as shut,
+    /// one after the other, `Damaged` where no body stands behind the gate that is sound for the units
+    /// that it says, from 64 to the file's, `Changed` where another body took the place of the one that
+    /// was read, `Disk` where a read failed, or `Memory`.
+    pub fn open(alloc: Global, mut file: F) -> Result<SnapshotDisk<F>, Refused<F>>
+        ensures fresh { F.honest → IfOk result
+            (λ d. in_force (F.content file) ≤ d.generation) }
+        ensures shows { F.honest → IfOk result (λ d. ShowsBody (F.marked d.file)
+            (⟦<SnapshotDisk<F> as Disk>⟧.content d) d.half d.generation) }
+        ensures refused { F.honest → IfErr result (λ r. RefusedAs (F.content file)
+            (F.content r.file) (F.marked r.file) r.why) }
+        ensures later { F.honest → IfErr result
+            (λ r. Evolves (F.content file) (F.content r.file)) }
+        ensures reads { IfOk result (λ d. d.failed_reads ≡ 0) }
+        ensures writes { IfOk result (λ d. d.failed_writes ≡ 0) }
+        ensures begins { IfOk result (λ d. d.outdated ≡ false) }
+    {
+        match look(alloc, &mut file) {
+            Ok(
+                Looked {
+                    len,
+                    half,
+                    generation,
+                    shown,
+                },
+            ) => Ok(SnapshotDisk {
+                file,
+                len,
+                half,
+                generation,
+                shown,
+                outdated: false,
+                failed_reads: 0,
+                failed_writes: 0,
+            }),
+            Err(why) => Err(Refused { file, why }),
+        }
+    }
+}
+
+impl<F: SharedFile> SnapshotDisk<F> {
+    /// Whether a read found that another body has taken the place of the one that is shown. Then
+    /// each read fails, and the file is to be opened anew.
+    pub fn is_outdated(&self) -> bool
+        ensures { result ≡ self.now.outdated }
+    {
+        let SnapshotDisk { outdated, .. } = self;
+        *outdated
+    }
+
+    /// The file, which may be opened anew.
+    pub fn into_file(self) -> F
+        ensures { result ≡ self.file }
+    {
+        let SnapshotDisk { file, .. } = self;
+        file
+    }
+}
+
+#[tactic(auto, using(crate::proofs::ShownLemmas::length_shown))]
+impl<F: SharedFile> Disk for SnapshotDisk<F> {
+    ghost use Rattle.pk_snapshot.specs.Images.{image_is, is_image};
+
+    ghost content = { λ d. shown_bytes d.len d.shown.extents.items (F.marked d.file) };
+
+    ghost is_open = { λ _. nowhere };
+
+    ghost moment = { λ _. 0 };
+
+    ghost images_since = { λ d _ image. image ≡ shown_bytes d.len d.shown.extents.items (F.marked d.file) };
+
+    ghost failed_reads = { λ d. d.failed_reads };
+
+    ghost failed_writes = { λ d. d.failed_writes };
+
+    ghost honest = { F.honest };
+
+    fn len(&self) -> u64 {
+        self.len
+    }
+
+    fn read(&mut self, at: u64, out: &mut [u8]) -> Result<(), DiskFault> {
+        if self.failed_reads == u64::MAX {
+            return Err(DiskFault);
+        }
+        if self.outdated || self.shown.fill(&mut self.file, at, out).is_err() {
+            self.failed_reads += 1;
+            return Err(DiskFault);
+        }
+        let Ok(still) = is_still(&mut self.file, self.half, self.generation) else {
+            self.failed_reads += 1;
+            return Err(DiskFault);
+        };
+        if !still {
+            self.outdated = true;
+            self.failed_reads += 1;
+            return Err(DiskFault);
+        }
+        Ok(())
+    }
+
+    fn write(&mut self, _at: u64, _bytes: &[u8]) -> Result<(), DiskFault> {
+        self.failed_writes = self.failed_writes.saturating_add(1);
+        Err(DiskFault)
+    }
+
+    fn sync(&mut self) -> Result<(), DiskFault> {
+        if self.failed_writes == u64::MAX {
+            return Err(DiskFault);
+        }
+        Ok(())
+    }
+
+    ghost counts_now = { λ disk t image honest le now. image_is (shown_bytes disk.len disk.shown.extents.items (F.marked disk.file)) image now };
+
+    ghost only_now = { λ disk image honest since. is_image (shown_bytes disk.len disk.shown.extents.items (F.marked disk.file)) image since };
+}
+
+impl<F: SharedFile> Watched for SnapshotDisk<F> {
+    ghost shows_latest = { λ d. F.honest → in_force (F.content d.file) ≤ d.generation };
+
+    ghost goes_on = { λ old new. F.honest → Evolves (F.content old.file) (F.content new.file) };
+
+    // Both gates are looked at, and then its own again. Beside a replacement it may answer no though
+    // nothing newer is in force.
+    fn is_latest(&mut self) -> Result<bool, DiskFault> {
+        is_latest(&mut self.file, self.half, self.generation)
+    }
+}

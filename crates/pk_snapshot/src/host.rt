@@ -1,0 +1,64 @@
+//! The files of the system that are only read. What they do, no clause says.
+
+ghost use Rattle.std.specs.Prelude.{[]};
+
+use crate::held::HeldFile;
+use crate::shared::{ReadFault, SharedFile};
+use std::fs::File;
+use std::io;
+use std::os::unix::fs::FileExt;
+
+// Why a call did not do what was asked.
+fn fault_of(error: &io::Error) -> ReadFault {
+    match error.kind() {
+        io::ErrorKind::Interrupted => ReadFault::Interrupted,
+        _ => ReadFault::Failed,
+    }
+}
+
+/// Promises nothing: it is not honest by contract.
+impl SharedFile for File {
+    ghost content = { λ _. [] };
+
+    ghost marked = { λ _. [] };
+
+    ghost honest = { ⊥ };
+
+    fn mark(&mut self) {}
+
+    fn len(&self) -> Result<u64, ReadFault> {
+        match File::metadata(self) {
+            Ok(metadata) => Ok(metadata.len()),
+            Err(error) => Err(fault_of(&error)),
+        }
+    }
+
+    fn read_at(&mut self, at: u64, out: &mut [u8]) -> Result<usize, ReadFault> {
+        match FileExt::read_at(self, out, at) {
+            Ok(n) => Ok(n),
+            Err(error) => Err(fault_of(&error)),
+        }
+    }
+
+    fn read_at_once(&mut self, at: u64, out: &mut [u8]) -> Result<(), ReadFault> {
+        match FileExt::read_at(self, out, at) {
+            Ok(n) if n == out.len() => Ok(()),
+            Ok(_) => Err(ReadFault::Failed),
+            Err(error) => Err(fault_of(&error)),
+        }
+    }
+
+    ghost marked_before = { λ file honest. absurd honest };
+}
+
+/// By a shared lock of the whole file.
+impl HeldFile for File {
+    fn hold(&mut self) -> bool {
+        self.try_lock_shared().is_ok()
+    }
+
+    // A lock that can't be given back goes with the file.
+    fn release(&mut self) {
+        let _ = self.unlock();
+    }
+}
