@@ -1,20 +1,25 @@
 //! The disk in a file.
 
-ghost use Rattle.std.specs.Prelude.{◌≡◌, ◌≤◌, ◌*◌, length, replicate, IfErr, IfOk, IsTrue, false};
+ghost use Rattle.std.specs.Prelude.{◌≡◌, ◌≤◌, ◌+◌, ◌*◌, length, replicate, take};
+ghost use Rattle.std.specs.Prelude.{IfErr, IfOk, IfSome, IsSome, IsTrue, false};
 ghost use Rattle.pk_disk.specs.Disk.{nowhere};
 ghost use Rattle.pk_disk.specs.Sizes.{least_units, most_units};
+ghost use Rattle.pk_disk.specs.Since.{OnlyNew};
 ghost use Rattle.pk_filedisk.specs.File.{IsDiskLength, IsOfMake, IsOfOpening};
-ghost use Rattle.pk_filedisk.specs.Length.{OpensByLength};
+ghost use Rattle.pk_filedisk.specs.Found.{IsFound, IsLeftByMaking, IsLeftByOpening, IsNewAt};
+ghost use Rattle.pk_filedisk.specs.Found.{files_left};
+ghost use Rattle.pk_filedisk.specs.Raw.{IsExtended, IsSameFile};
+ghost use Rattle.pk_filedisk.specs.Resized.{resized};
 
-use crate::fault::FileFault;
+use crate::fault::{FileFault, NotADisk};
 use crate::raw::RawFile;
-use crate::system::FileSystem;
+use crate::system::{FileSystem, OpensFiles};
 use crate::whole::{read_whole, write_whole};
 use pk_disk::{Disk, DiskFault, LEAST_UNITS, MAX_UNITS, UNIT};
 
 /// A file as a disk. Over an honest file it is honest. Its length is read once, as it is made or
-/// opened. The file is locked until the disk is dropped. After a sync that failed each later one
-/// does, and the file is not asked.
+/// opened, and need not be a whole number of units. The file is locked until the disk is dropped.
+/// After a sync that failed each later one does, and the file is not asked.
 #[derive(Drop)]
 pub struct FileDisk<F: RawFile> {
     file: F,
@@ -33,13 +38,14 @@ impl<F: RawFile + Drop> FileDisk<F> {
     /// Makes a file of `units` units of zero bytes, locks it, and syncs its length and its folder's
     /// entry.
     ///
-    /// `Exists` where there is something at the path, or `Disk`.
+    /// `Exists` where there is something at the path, and then it makes no file, or `Disk`, with the
+    /// file where it was made.
     #[tactic(auto, using(crate::proofs::ResizedLemmas::length_resized, crate::proofs::ResizedLemmas::resized_zeros))]
     pub fn make<S: FileSystem<File = F>>(
-        system: &S,
+        system: &mut S,
         path: &str,
         units: u64,
-    ) -> Result<FileDisk<F>, FileFault>
+    ) -> Result<FileDisk<F>, NotADisk<F>>
         requires least { least_units ≤ units }
         requires most { units ≤ most_units }
         ensures size { IfOk result
@@ -48,49 +54,128 @@ impl<F: RawFile + Drop> FileDisk<F> {
             (λ d. ⟦<FileDisk<F> as Disk>⟧.content d ≡ replicate (units * 512) 0) }
         ensures closed { F.honest → IfOk result
             (λ d. ⟦<FileDisk<F> as Disk>⟧.is_open d ≡ nowhere) }
+        ensures new { F.honest → IfOk result (λ d. IsNewAt F.is_new F.path path.now d.file) }
         ensures named { IfOk result (λ d. IsTrue (F.is_named d.file)) }
         ensures reads { IfOk result (λ d. ⟦<FileDisk<F> as Disk>⟧.failed_reads d ≡ 0) }
         ensures writes { IfOk result (λ d. ⟦<FileDisk<F> as Disk>⟧.failed_writes d ≡ 0) }
-        ensures fault { IfErr result IsOfMake }
+
+        // What it leaves where it makes no disk, and how many files it was given.
+        ensures fault { IfErr result (λ none. IsOfMake none.why) }
+        ensures left { F.honest → IfErr result (λ none. IsLeftByMaking
+            (IsNewAt F.is_new F.path path.now) none.why none.file) }
+        ensures opened { F.honest → S.opened system.new ≡ S.opened system.old + files_left result }
     {
-        let mut file = locked(system.create(path)?)?;
+        let made = match system.create(path) {
+            Ok(file) => file,
+            Err(why) => return Err(NotADisk::without_file(why)),
+        };
+        let mut file = locked(made)?;
         let len = units * UNIT;
         if file.set_len(len).is_err()
             || file.sync_all().is_err()
             || system.sync_folder(path, &mut file).is_err()
         {
-            return Err(FileFault::Disk);
+            return Err(NotADisk::refused(file));
         }
         Ok(FileDisk::of_file(file, len))
     }
 
     /// Opens a file, locks it and syncs its length.
     ///
-    /// `Missing` where there is nothing at the path, `BadLength` where the file is not 64 to 2^31
-    /// whole units long, or `Disk`, also where another opening of the file holds a lock.
+    /// `Missing` where there is nothing at the path, `BadLength` where the file has less than 64
+    /// whole units or more than 2^31, or `Disk`, also where another opening of the file holds a
+    /// lock. A file that was opened is handed back, with the bytes that it had.
     #[tactic(auto, using(crate::proofs::ResizedLemmas::length_resized, crate::specs::Resized::resized_same))]
-    pub fn on<S: FileSystem<File = F>>(system: &S, path: &str) -> Result<FileDisk<F>, FileFault>
+    pub fn on<S: OpensFiles<File = F>>(
+        system: &mut S,
+        path: &str,
+    ) -> Result<FileDisk<F>, NotADisk<F>>
         ensures size { IfOk result
             (λ d. IsDiskLength (length (⟦<FileDisk<F> as Disk>⟧.content d))) }
-        ensures length { F.honest → OpensByLength ⟦<FileDisk<F> as Disk>⟧.content
-            (S.may_hold system.now path.now) result }
+        ensures holds { F.honest → IfOk result
+            (λ d. S.may_hold system.old path.now (⟦<FileDisk<F> as Disk>⟧.content d)) }
+        ensures path { F.honest → IfOk result (λ d. F.path d.file ≡ path.now) }
         ensures closed { F.honest → IfOk result
             (λ d. ⟦<FileDisk<F> as Disk>⟧.is_open d ≡ nowhere) }
         ensures reads { IfOk result (λ d. ⟦<FileDisk<F> as Disk>⟧.failed_reads d ≡ 0) }
         ensures writes { IfOk result (λ d. ⟦<FileDisk<F> as Disk>⟧.failed_writes d ≡ 0) }
-        ensures fault { IfErr result IsOfOpening }
+
+        // What it leaves where it opens no disk, and how many files it was given.
+        ensures fault { IfErr result (λ none. IsOfOpening none.why) }
+        ensures left { F.honest → IfErr result (λ none. IsLeftByOpening F.content
+            (IsFound F.content F.path (S.may_hold system.old path.now) path.now)
+            none.why none.file) }
+        ensures opened { F.honest → S.opened system.new ≡ S.opened system.old + files_left result }
     {
-        let mut file = locked(system.open(path)?)?;
+        let found = match system.open(path) {
+            Ok(file) => file,
+            Err(why) => return Err(NotADisk::without_file(why)),
+        };
+        let mut file = locked(found)?;
         let Ok(()) = file.sync_all() else {
-            return Err(FileFault::Disk);
+            return Err(NotADisk::refused(file));
         };
         let Ok(len) = file.len() else {
-            return Err(FileFault::Disk);
+            return Err(NotADisk::refused(file));
         };
-        if len % UNIT != 0 || len / UNIT < u64::from(LEAST_UNITS) || len / UNIT > MAX_UNITS {
-            return Err(FileFault::BadLength);
+        if len / UNIT < u64::from(LEAST_UNITS) || len / UNIT > MAX_UNITS {
+            return Err(NotADisk {
+                why: FileFault::BadLength,
+                file: Some(file),
+            });
         }
         Ok(FileDisk::of_file(file, len))
+    }
+
+    /// The same file made longer, by zeros, and synced with its length. No write of the disk counts
+    /// as failed so far.
+    ///
+    /// `Err` hands the file back, where the system refused that, or where a sync failed before: it
+    /// begins with the bytes of the disk, and is as long as it was or longer, and so is what a crash
+    /// leaves of it.
+    #[tactic(auto, using(crate::proofs::ResizedLemmas::length_resized, crate::specs::Resized::resized_same, crate::proofs::ResizedLemmas::start_same, crate::proofs::ResizedLemmas::start_self))]
+    pub fn lengthen(self, len: u64) -> Result<FileDisk<F>, F>
+        requires { length (⟦<FileDisk<F> as Disk>⟧.content self) ≤ len }
+        ensures size { IfOk result
+            (λ d. length (⟦<FileDisk<F> as Disk>⟧.content d) ≡ len) }
+        ensures content { F.honest → IfOk result (λ d. ⟦<FileDisk<F> as Disk>⟧.content d
+            ≡ resized len (⟦<FileDisk<F> as Disk>⟧.content self)) }
+        ensures closed { F.honest → IfOk result
+            (λ d. ⟦<FileDisk<F> as Disk>⟧.is_open d ≡ nowhere) }
+        ensures images { F.honest → IfOk result (λ d. OnlyNew F.moment F.images_since self.file d.file
+            (IsExtended (⟦<FileDisk<F> as Disk>⟧.content self)
+            (⟦<FileDisk<F> as Disk>⟧.is_open self))) }
+        ensures same { IfOk result (λ d. IsSameFile F.is_new F.path self.file d.file) }
+        ensures reads { IfOk result (λ d. ⟦<FileDisk<F> as Disk>⟧.failed_reads d ≡ 0) }
+        ensures writes { IfOk result (λ d. ⟦<FileDisk<F> as Disk>⟧.failed_writes d ≡ 0) }
+
+        // What it leaves of the file where it is refused.
+        ensures start { F.honest → IfErr result
+            (λ f. take (length (⟦<FileDisk<F> as Disk>⟧.content self)) (F.content f)
+            ≡ ⟦<FileDisk<F> as Disk>⟧.content self) }
+        ensures images_left { F.honest → IfErr result
+            (λ f. OnlyNew F.moment F.images_since self.file f
+            (IsExtended (⟦<FileDisk<F> as Disk>⟧.content self)
+            (⟦<FileDisk<F> as Disk>⟧.is_open self))) }
+        ensures same_left { IfErr result (λ f. IsSameFile F.is_new F.path self.file f) }
+    {
+        let FileDisk {
+            mut file,
+            unsure,
+            ..
+        } = self;
+        if unsure || file.set_len(len).is_err() || file.sync_all().is_err() {
+            return Err(file);
+        }
+        Ok(FileDisk::of_file(file, len))
+    }
+
+    /// The file, still locked.
+    pub fn into_file(self) -> F
+        ensures { result ≡ self.file }
+    {
+        let FileDisk { file, .. } = self;
+        file
     }
 
     // The disk in a file of that length, with nothing failed so far.
@@ -115,15 +200,19 @@ impl<F: RawFile + Drop> FileDisk<F> {
 }
 
 // The file, once it is locked.
-fn locked<F: RawFile + Drop>(mut file: F) -> Result<F, FileFault>
+fn locked<F: RawFile + Drop>(mut file: F) -> Result<F, NotADisk<F>>
     ensures locked { IfOk result (λ f. IsTrue (F.is_locked f)) }
     ensures bytes { F.honest → IfOk result (λ f. F.content f ≡ F.content file) }
+    ensures same { IfOk result (λ f. IsSameFile F.is_new F.path file f) }
     ensures sure { IfOk result (λ f. F.is_sure f ≡ F.is_sure file) }
-    ensures fault { IfErr result (λ fault. fault ≡ FileFault.Disk) }
+    ensures fault { IfErr result (λ none. none.why ≡ FileFault.Disk) }
+    ensures left { F.honest → IfErr result (λ none. IfSome none.file (λ f. F.content f ≡ F.content file)) }
+    ensures same_left { IfErr result (λ none. IfSome none.file (IsSameFile F.is_new F.path file)) }
+    ensures handed { IfErr result (λ none. IsSome none.file) }
 {
     match file.try_lock() {
         Ok(()) => Ok(file),
-        Err(_) => Err(FileFault::Disk),
+        Err(_) => Err(NotADisk::refused(file)),
     }
 }
 

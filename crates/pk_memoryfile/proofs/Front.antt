@@ -1,13 +1,14 @@
 -- What a disk below tells of the front of what a file was asked to put.
-use Rattle.std.proofs.Common.{◌≡◌, inl, inr, ℕ, ◌+◌, ◌-◌, ◌≤◌, Bool, false, List, length, get_or, take, sym, ◌∙◌, ap, subst, arith}
+use Rattle.std.proofs.Common.{◌≡◌, Result, Ok, Err, IfOk, inl, inr, ℕ, ◌+◌, ◌-◌, ◌≤◌, Bool, false, List, length, get_or, take, sym, ◌∙◌, ap, subst, arith}
 use Rattle.std.proofs.lemmas.List.{get_or-take, length-take-le}
 use Rattle.std.proofs.lemmas.Bool.Decides.{nat_tests}
 use Rattle.pk_disk.specs.Disk.{IsImage, IsPartWritten, in_range, opened, written}
 use Rattle.pk_disk.specs.Since.{OnlyNew, StayKnown}
 use Rattle.pk_disk.proofs.Ranges.{opened_false, opened_left, opened_right, length-written, written_other, written_in}
 use Rattle.pk_disk.proofs.Moments.{weaker}
-use Rattle.pk_filedisk.specs.Raw.{IsPut, Wrote}
-use Rattle.pk_filedisk.proofs.Parts.{is_opened, put_part}
+use Rattle.pk_filedisk.specs.declared.raw.CallFault.{CallFault}
+use Rattle.pk_filedisk.specs.Raw.{IsPut, Wrote, moved}
+use Rattle.pk_filedisk.proofs.Parts.{is_opened, put_part, wrote_fewer}
 
 shorter_out : (at n m p : ℕ) → n ≤ m → in_range at m p ≡ false → in_range at n p ≡ false
 shorter_out at n m p le out = grind (arith, nat_tests)
@@ -80,3 +81,12 @@ wrote_failed content is_open moment images_since at new n old now fits le part i
   images = weaker moment images_since old now _ _ (front_images (content old) (is_open old) at new n fits le) images;
   known = known;
 }
+
+-- and told how many it put, or failed in the end
+pub wrote_ending : {F : Type 0} (content : F → List ℕ) (is_open : F → ℕ → Bool) (moment : F → ℕ) (images_since : F → ℕ → List ℕ → Type 0) (at : ℕ) (new : List ℕ) (n : ℕ) (result : Result ℕ CallFault) (old now : F)
+    → IfOk result (λ m. m ≡ n) → Wrote content is_open moment images_since at new n old now
+    → Wrote content is_open moment images_since at new (moved result) old now
+wrote_ending content is_open moment images_since at new n (Ok m) old now same wrote =
+    subst (λ (k : ℕ). Wrote content is_open moment images_since at new k old now) (sym same) wrote
+wrote_ending content is_open moment images_since at new n (Err fault) old now same wrote =
+    wrote_fewer content is_open moment images_since at new n old now wrote

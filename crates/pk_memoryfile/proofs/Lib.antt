@@ -1,2 +1,4 @@
--- The lemma page.
+-- The lemma pages.
 pub mod Front
+pub mod Joined
+pub mod LengthLemmas

@@ -10,11 +10,13 @@
 //! | `Told` | tells how many it moved | is done |
 //! | `Interrupted`, `Failed` | is answered so, though the bytes were moved | is answered so, and does nothing but to unsettle the length in `set_len` |
 //!
-//! Below the file is a `MemoryDisk`, which keeps its images. Where memory ends, `set_len` answers
-//! `Failed`, and the file has no bytes any more.
+//! Its images follow from a record of the calls that changed its bytes or its length (specs/
+//! `Record`). A call whose record finds no memory answers `Failed`, and changes nothing. Refusals are
+//! counted; past 2^64 - 1 of them a call is interrupted in place of being refused.
 #![tactic(auto)]
 
 pub mod laws;
 mod memory;
+mod record;
 
 pub use memory::{Ending, MemoryFile, Step};

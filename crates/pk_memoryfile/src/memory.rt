@@ -1,13 +1,15 @@
 //! A file in memory, whose calls are short, interrupted or refused by a script.
 
-ghost use Rattle.std.specs.Prelude.{◌≡◌, IfOk, IsTrue, true};
+ghost use Rattle.std.specs.Prelude.{◌≡◌, ◌+◌, [], string_bytes};
+ghost use Rattle.std.specs.Prelude.{IfOk, IsTrue, false, true};
 ghost use Rattle.pk_disk.specs.Since.{IsOnlyRead};
-ghost use Rattle.pk_disk.specs.Memory.{image_now, only_image_now};
-ghost use Rattle.pk_filedisk.specs.Resized.{resized};
+ghost use Rattle.pk_filedisk.specs.Raw.{IsSameFile, refusals, refusals_by, transfer_refusals};
+ghost use Rattle.pk_memoryfile.specs.Record.{ImageSince, moment_of, open_in};
+ghost use Rattle.pk_memoryfile.specs.Record.{image_now, only_image_now};
 
-use pk_disk::{Disk, MemoryDisk};
+use crate::record::Recorded;
 use pk_filedisk::{CallFault, RawFile};
-use std::alloc::{AllocError, Global};
+use std::alloc::Global;
 
 /// What a call answers, once it has moved its bytes.
 #[derive(Clone, Copy, Debug, PartialEq, Eq, Drop)]
@@ -30,24 +32,43 @@ pub struct Step {
 /// A file in memory. It is honest, whatever its script says.
 #[derive(Drop)]
 pub struct MemoryFile {
-    alloc: Global,
-    disk: MemoryDisk,
+    path: String,
+    is_new: bool,
+    memory: Recorded,
     // The steps to come, the next one last.
     script: Vec<Step>,
+    // How many calls were refused so far.
+    refused: u64,
     is_locked: bool,
     is_settled: bool,
     is_named: bool,
 }
 
 impl MemoryFile {
-    /// A file of these bytes, neither locked nor synced. The script has the first call's step last.
-    pub fn of_bytes(alloc: Global, bytes: Vec<u8>, script: Vec<Step>) -> MemoryFile
-        ensures { ⟦<MemoryFile as RawFile>⟧.content result ≡ bytes.items }
+    /// A file that was made at a path, without bytes.
+    pub fn made(alloc: Global, path: String, script: Vec<Step>) -> MemoryFile
+        ensures content { ⟦<MemoryFile as RawFile>⟧.content result ≡ [] }
+        ensures path { ⟦<MemoryFile as RawFile>⟧.path result ≡ string_bytes path }
+        ensures new { IsTrue (⟦<MemoryFile as RawFile>⟧.is_new result) }
+    {
+        let mut file = MemoryFile::opened(alloc, path, Vec::new(alloc), script);
+        file.is_new = true;
+        file
+    }
+
+    /// A file that was opened at a path, with these bytes, neither locked nor synced. The script has
+    /// the first call's step last.
+    pub fn opened(alloc: Global, path: String, bytes: Vec<u8>, script: Vec<Step>) -> MemoryFile
+        ensures content { ⟦<MemoryFile as RawFile>⟧.content result ≡ bytes.items }
+        ensures path { ⟦<MemoryFile as RawFile>⟧.path result ≡ string_bytes path }
+        ensures new { ⟦<MemoryFile as RawFile>⟧.is_new result ≡ false }
     {
         MemoryFile {
-            alloc,
-            disk: MemoryDisk::of_bytes(alloc, bytes),
+            path,
+            is_new: false,
+            memory: Recorded::of_bytes(alloc, bytes),
             script,
+            refused: 0,
             is_locked: false,
             is_settled: false,
             is_named: false,
@@ -61,6 +82,10 @@ impl MemoryFile {
             ≡ ⟦<MemoryFile as RawFile>⟧.is_locked self.old }
         ensures settled { ⟦<MemoryFile as RawFile>⟧.is_settled self.new
             ≡ ⟦<MemoryFile as RawFile>⟧.is_settled self.old }
+        ensures same { IsSameFile ⟦<MemoryFile as RawFile>⟧.is_new ⟦<MemoryFile as RawFile>⟧.path
+            self.old self.new }
+        ensures refused { ⟦<MemoryFile as RawFile>⟧.refused self.new
+            ≡ ⟦<MemoryFile as RawFile>⟧.refused self.old }
         ensures read { IsOnlyRead ⟦<MemoryFile as RawFile>⟧.content
             ⟦<MemoryFile as RawFile>⟧.is_open ⟦<MemoryFile as RawFile>⟧.moment
             ⟦<MemoryFile as RawFile>⟧.images_since self.old self.new }
@@ -80,32 +105,63 @@ fn next_step(script: &mut Vec<Step>) -> Step {
     }
 }
 
+// A refusal, which is counted; past the greatest count it is told as an interruption.
+fn refusal(refused: &mut u64) -> CallFault
+    ensures { refused.new ≡ refused.old + refusals_by result }
+{
+    if *refused == u64::MAX {
+        return CallFault::Interrupted;
+    }
+    *refused += 1;
+    CallFault::Failed
+}
+
 // How the next call ends, which moves no bytes.
-fn next_ending(script: &mut Vec<Step>) -> Result<(), CallFault> {
+fn next_ending(script: &mut Vec<Step>, refused: &mut u64) -> Result<(), CallFault>
+    ensures { refused.new ≡ refused.old + refusals result }
+{
     match next_step(script).ending {
         Ending::Told => Ok(()),
         Ending::Interrupted => Err(CallFault::Interrupted),
-        Ending::Failed => Err(CallFault::Failed),
+        Ending::Failed => Err(refusal(refused)),
     }
 }
 
-// The first `len` bytes, and zeros where there are fewer.
-#[tactic(auto, using(pk_filedisk::proofs::ResizedLemmas::resized_parts))]
-fn with_len(mut bytes: Vec<u8>, len: usize) -> Result<Vec<u8>, AllocError>
-    ensures { IfOk result (λ v. v.items ≡ resized len bytes.items) }
+// How a transfer ends that moved so many bytes of those it was asked for.
+fn transfer_ending(
+    ending: Ending,
+    asked: usize,
+    moved: usize,
+    refused: &mut u64,
+) -> Result<usize, CallFault>
+    ensures count { IfOk result (λ n. n ≡ moved) }
+    ensures refused { refused.new ≡ refused.old + transfer_refusals asked result }
 {
-    bytes.resize(len, 0)?;
-    Ok(bytes)
+    match ending {
+        Ending::Told if moved > 0 || asked == 0 => Ok(moved),
+        Ending::Told if *refused < u64::MAX => {
+            *refused += 1;
+            Ok(moved)
+        }
+        Ending::Failed => Err(refusal(refused)),
+        _ => Err(CallFault::Interrupted),
+    }
 }
 
 impl RawFile for MemoryFile {
-    ghost content = { λ m. ⟦<MemoryDisk as Disk>⟧.content m.disk };
+    ghost content = { λ m. m.memory.bytes.items };
 
-    ghost is_open = { λ m. ⟦<MemoryDisk as Disk>⟧.is_open m.disk };
+    ghost is_open = { λ m. open_in m.memory };
 
-    ghost moment = { λ m. ⟦<MemoryDisk as Disk>⟧.moment m.disk };
+    ghost moment = { λ m. moment_of m.memory };
 
-    ghost images_since = { λ m. ⟦<MemoryDisk as Disk>⟧.images_since m.disk };
+    ghost images_since = { λ m. ImageSince m.memory };
+
+    ghost is_new = { λ m. m.is_new };
+
+    ghost path = { λ m. string_bytes m.path };
+
+    ghost refused = { λ m. m.refused };
 
     ghost is_locked = { λ m. m.is_locked };
 
@@ -118,79 +174,67 @@ impl RawFile for MemoryFile {
     ghost honest = { Unit {0} };
 
     fn try_lock(&mut self) -> Result<(), CallFault> {
-        next_ending(&mut self.script)?;
+        next_ending(&mut self.script, &mut self.refused)?;
         self.is_locked = true;
         Ok(())
     }
 
     fn len(&self) -> Result<u64, CallFault> {
-        Ok(self.disk.len())
+        Ok(self.memory.bytes.len() as u64)
     }
 
     fn set_len(&mut self, len: u64) -> Result<(), CallFault> {
         self.is_settled = false;
-        next_ending(&mut self.script)?;
-        let none = MemoryDisk::of_bytes(self.alloc, Vec::new(self.alloc));
-        let disk = std::mem::replace(&mut self.disk, none);
-        let Ok(bytes) = with_len(disk.into_bytes(), len as usize) else {
-            return Err(CallFault::Failed);
-        };
-        self.disk = MemoryDisk::of_bytes(self.alloc, bytes);
-        Ok(())
+        next_ending(&mut self.script, &mut self.refused)?;
+        match self.memory.set_len(len as usize) {
+            Ok(()) => Ok(()),
+            Err(_) => Err(refusal(&mut self.refused)),
+        }
     }
 
     fn read_at(&mut self, at: u64, out: &mut [u8]) -> Result<usize, CallFault> {
         let step = next_step(&mut self.script);
-        let size = self.disk.len();
+        let size = self.memory.bytes.len() as u64;
         if at > size {
-            return Ok(0);
+            return transfer_ending(step.ending, out.len(), 0, &mut self.refused);
         }
         let left = (size - at) as usize;
         let n = out.len().min(step.most).min(left);
-        let Ok(()) = self.disk.read(at, &mut out[..n]) else {
-            return Err(CallFault::Failed);
-        };
-        match step.ending {
-            Ending::Told => Ok(n),
-            Ending::Interrupted => Err(CallFault::Interrupted),
-            Ending::Failed => Err(CallFault::Failed),
-        }
+        let start = at as usize;
+        out[..n].copy_from_slice(&self.memory.bytes[start..start + n]);
+        transfer_ending(step.ending, out.len(), n, &mut self.refused)
     }
 
     fn write_at(&mut self, at: u64, bytes: &[u8]) -> Result<usize, CallFault> {
         let step = next_step(&mut self.script);
-        let size = self.disk.len();
+        let size = self.memory.bytes.len() as u64;
         if at > size {
-            return Ok(0);
+            return transfer_ending(step.ending, bytes.len(), 0, &mut self.refused);
         }
         let left = (size - at) as usize;
         let n = bytes.len().min(step.most).min(left);
-        let Ok(()) = self.disk.write(at, &bytes[..n]) else {
-            return Err(CallFault::Failed);
+        let Ok(()) = self.memory.write(at, &bytes[..n]) else {
+            return Err(refusal(&mut self.refused));
         };
-        match step.ending {
-            Ending::Told => Ok(n),
-            Ending::Interrupted => Err(CallFault::Interrupted),
-            Ending::Failed => Err(CallFault::Failed),
-        }
+        transfer_ending(step.ending, bytes.len(), n, &mut self.refused)
     }
 
     fn sync_data(&mut self) -> Result<(), CallFault> {
-        next_ending(&mut self.script)?;
-        match self.disk.sync() {
+        next_ending(&mut self.script, &mut self.refused)?;
+        match self.memory.sync() {
             Ok(()) => Ok(()),
-            Err(_) => Err(CallFault::Failed),
+            Err(_) => Err(refusal(&mut self.refused)),
         }
     }
 
     fn sync_all(&mut self) -> Result<(), CallFault> {
-        next_ending(&mut self.script)?;
-        match self.disk.sync() {
+        next_ending(&mut self.script, &mut self.refused)?;
+        match self.memory.sync() {
             Ok(()) => {
                 self.is_settled = true;
                 Ok(())
             }
-            Err(_) => Err(CallFault::Failed),
+            Err(_) => Err(refusal(&mut self.refused)),
         }
     }
 

@@ -1,10 +1,11 @@
 //! Disks in files: over a system that notes its calls and fails one of them, over files whose calls
 //! are short, and in a real file.
 
-ghost use Rattle.std.specs.Prelude.{◌≡◌, [], IfOk};
+ghost use Rattle.std.specs.Prelude.{◌≡◌, ◌+◌, [], length, IfOk};
+ghost use Rattle.pk_filedisk.specs.Raw.{refusals};
 
 use pk_disk::{Disk, DiskFault};
-use pk_filedisk::{CallFault, FileDisk, FileFault, FileSystem, RawFile};
+use pk_filedisk::{CallFault, FileDisk, FileFault, FileSystem, NotADisk, OpensFiles, RawFile};
 use pk_memoryfile::{Ending, MemoryFile, Step};
 use std::alloc::{AllocError, Global};
 use std::cell::{Cell, RefCell};
@@ -49,7 +50,10 @@ impl FakeSystem {
 
     // The system, to open files in.
     fn files(&self) -> FakeFiles<'_> {
-        FakeFiles { system: self }
+        FakeFiles {
+            system: self,
+            given: 0,
+        }
     }
 
     // Notes a call, and fails it if it is the one.
@@ -79,6 +83,22 @@ impl FakeSystem {
 struct NotedFile<'a, F: RawFile> {
     system: &'a FakeSystem,
     file: F,
+    // How many calls the system refused, beside those that the file did.
+    refused: u64,
+}
+
+// Counts a call that the system refused; past the greatest count it is told as interrupted.
+fn count_refused(noted: Result<(), CallFault>, refused: &mut u64) -> Result<(), CallFault>
+    ensures { refused.new ≡ refused.old + refusals result }
+{
+    if noted.is_ok() {
+        return Ok(());
+    }
+    if *refused == u64::MAX {
+        return Err(CallFault::Interrupted);
+    }
+    *refused += 1;
+    Err(CallFault::Failed)
 }
 
 impl<'a, F: RawFile> RawFile for NotedFile<'a, F> {
@@ -89,6 +109,12 @@ impl<'a, F: RawFile> RawFile for NotedFile<'a, F> {
     ghost moment = { λ f. F.moment f.file };
 
     ghost images_since = { λ f. F.images_since f.file };
+
+    ghost is_new = { λ f. F.is_new f.file };
+
+    ghost path = { λ f. F.path f.file };
+
+    ghost refused = { λ f. F.refused f.file + f.refused };
 
     ghost is_locked = { λ f. F.is_locked f.file };
 
@@ -101,7 +127,7 @@ impl<'a, F: RawFile> RawFile for NotedFile<'a, F> {
     ghost honest = { F.honest };
 
     fn try_lock(&mut self) -> Result<(), CallFault> {
-        self.system.note("lock", "file")?;
+        count_refused(self.system.note("lock", "file"), &mut self.refused)?;
         self.file.try_lock()
     }
 
@@ -111,27 +137,27 @@ impl<'a, F: RawFile> RawFile for NotedFile<'a, F> {
     }
 
     fn set_len(&mut self, len: u64) -> Result<(), CallFault> {
-        self.system.note("set_len", "file")?;
+        count_refused(self.system.note("set_len", "file"), &mut self.refused)?;
         self.file.set_len(len)
     }
 
     fn read_at(&mut self, at: u64, out: &mut [u8]) -> Result<usize, CallFault> {
-        self.system.note("read_at", "file")?;
+        count_refused(self.system.note("read_at", "file"), &mut self.refused)?;
         self.file.read_at(at, out)
     }
 
     fn write_at(&mut self, at: u64, bytes: &[u8]) -> Result<usize, CallFault> {
-        self.system.note("write_at", "file")?;
+        count_refused(self.system.note("write_at", "file"), &mut self.refused)?;
         self.file.write_at(at, bytes)
     }
 
     fn sync_data(&mut self) -> Result<(), CallFault> {
-        self.system.note("sync_data", "file")?;
+        count_refused(self.system.note("sync_data", "file"), &mut self.refused)?;
         self.file.sync_data()
     }
 
     fn sync_all(&mut self) -> Result<(), CallFault> {
-        self.system.note("sync_all", "file")?;
+        count_refused(self.system.note("sync_all", "file"), &mut self.refused)?;
         self.file.sync_all()
     }
 
@@ -140,54 +166,75 @@ impl<'a, F: RawFile> RawFile for NotedFile<'a, F> {
     ghost only_now = { λ f. F.only_now f.file };
 }
 
-// That system, as one opens files in it.
+// That system, as one opens files in it, and how many it gave.
 #[derive(Drop)]
 struct FakeFiles<'a> {
     system: &'a FakeSystem,
+    given: u64,
 }
 
 impl<'a> FakeFiles<'a> {
-    // The file, empty.
-    fn file(&self) -> Result<NotedFile<'a, MemoryFile>, AllocError>
-        ensures { IfOk result (λ f. ⟦<NotedFile<'static, MemoryFile> as RawFile>⟧.content f ≡ []) }
+    // The file at a path.
+    fn file(&self, path: &str, is_new: bool) -> Result<NotedFile<'a, MemoryFile>, AllocError>
+        ensures content { IfOk result
+            (λ f. ⟦<NotedFile<'static, MemoryFile> as RawFile>⟧.content f ≡ []) }
+        ensures path { IfOk result
+            (λ f. ⟦<NotedFile<'static, MemoryFile> as RawFile>⟧.path f ≡ path.now) }
+        ensures new { IfOk result
+            (λ f. ⟦<NotedFile<'static, MemoryFile> as RawFile>⟧.is_new f ≡ is_new) }
     {
         let system = self.system;
+        let path = String::from_str(system.alloc, path)?;
         let steps = system.steps.clone()?;
-        let file = MemoryFile::of_bytes(system.alloc, Vec::new(system.alloc), steps);
-        Ok(NotedFile { system, file })
+        let file = if is_new {
+            MemoryFile::made(system.alloc, path, steps)
+        } else {
+            MemoryFile::opened(system.alloc, path, Vec::new(system.alloc), steps)
+        };
+        Ok(NotedFile {
+            system,
+            file,
+            refused: 0,
+        })
     }
 }
 
-impl<'a> FileSystem for FakeFiles<'a> {
+impl<'a> OpensFiles for FakeFiles<'a> {
     type File = NotedFile<'a, MemoryFile>;
 
     // Each file is empty.
     ghost may_hold = { λ _ _ bytes. bytes ≡ [] };
 
-    fn create(&self, path: &str) -> Result<NotedFile<'a, MemoryFile>, FileFault> {
-        if self.system.note("make", path).is_err() {
-            return match self.system.fault {
-                FileFault::Exists => Err(FileFault::Exists),
-                _ => Err(FileFault::Disk),
-            };
-        }
-        match self.file() {
-            Ok(file) => Ok(file),
-            Err(_) => Err(FileFault::Disk),
-        }
-    }
+    ghost opened = { λ s. s.given };
 
-    fn open(&self, path: &str) -> Result<NotedFile<'a, MemoryFile>, FileFault> {
-        if self.system.note("open", path).is_err() {
+    fn open(&mut self, path: &str) -> Result<NotedFile<'a, MemoryFile>, FileFault> {
+        if self.system.note("open", path).is_err() || self.given == u64::MAX {
             return match self.system.fault {
                 FileFault::Missing => Err(FileFault::Missing),
                 _ => Err(FileFault::Disk),
             };
         }
-        match self.file() {
-            Ok(file) => Ok(file),
-            Err(_) => Err(FileFault::Disk),
+        let Ok(file) = self.file(path, false) else {
+            return Err(FileFault::Disk);
+        };
+        self.given += 1;
+        Ok(file)
+    }
+}
+
+impl<'a> FileSystem for FakeFiles<'a> {
+    fn create(&mut self, path: &str) -> Result<NotedFile<'a, MemoryFile>, FileFault> {
+        if self.system.note("make", path).is_err() || self.given == u64::MAX {
+            return match self.system.fault {
+                FileFault::Exists => Err(FileFault::Exists),
+                _ => Err(FileFault::Disk),
+            };
         }
+        let Ok(file) = self.file(path, true) else {
+            return Err(FileFault::Disk);
+        };
+        self.given += 1;
+        Ok(file)
     }
 
     fn sync_folder(
@@ -195,7 +242,7 @@ impl<'a> FileSystem for FakeFiles<'a> {
         path: &str,
         file: &mut NotedFile<'a, MemoryFile>,
     ) -> Result<(), CallFault> {
-        self.system.note("sync folder of", path)?;
+        count_refused(self.system.note("sync folder of", path), &mut file.refused)?;
         file.file.name();
         Ok(())
     }
@@ -209,10 +256,23 @@ fn has_noted(system: &FakeSystem, want: &str) -> bool {
     }
 }
 
+// A disk of 64 units that is made at a path.
+fn made<'a>(
+    system: &'a FakeSystem,
+    path: &str,
+) -> Result<FileDisk<NotedFile<'a, MemoryFile>>, FileFault>
+    ensures { IfOk result (λ d. length (⟦<FileDisk<NotedFile<'static, MemoryFile>> as Disk>⟧.content d) ≡ 32768) }
+{
+    match FileDisk::make(&mut system.files(), path, 64) {
+        Ok(disk) => Ok(disk),
+        Err(none) => Err(none.why),
+    }
+}
+
 // Makes a disk at a path, by these calls.
 fn make_at(rt: &impl Abort, alloc: Global, path: &str, noted: &str) -> Result<(), Fail> {
     let system = FakeSystem::new(alloc, 0, FileFault::Disk);
-    let disk = FileDisk::make(&system.files(), path, 64)?;
+    let disk = made(&system, path)?;
     assert!(rt; has_noted(&system, noted));
     assert!(rt; disk.len() == LEN);
     Ok(())
@@ -227,23 +287,30 @@ fn a_disk_is_made_and_synced(rt: HostRuntime) -> Result<(), Fail> {
     make_at(&rt, alloc, "a/b/s", made)
 }
 
-// What a making answers whose kth call fails, and how many calls it makes.
-fn failed_making(alloc: Global, k: u64, fault: FileFault) -> (Option<FileFault>, u64) {
-    let system = FakeSystem::new(alloc, k, fault);
-    let made = FileDisk::make(&system.files(), "s", 64);
-    (made.err(), system.count.get())
+// Why there is no disk, and whether there is a file in its place.
+fn told<D: Drop, F: Drop>(answer: Result<D, NotADisk<F>>) -> Option<(FileFault, bool)> {
+    let none = answer.err()?;
+    Some((none.why, none.file.is_some()))
 }
 
-// Whichever call of a making fails, the fault comes back, and no other call follows.
+// What a making answers whose kth call fails, and how many calls it makes.
+fn failed_making(alloc: Global, k: u64, fault: FileFault) -> (Option<(FileFault, bool)>, u64) {
+    let system = FakeSystem::new(alloc, k, fault);
+    let made = FileDisk::make(&mut system.files(), "s", 64);
+    (told(made), system.count.get())
+}
+
+// Whichever call of a making fails, the fault comes back, with the file once it is made, and no other
+// call follows.
 #[test]
 fn each_failing_call_of_a_making_is_told(rt: HostRuntime) {
     for (k, fault, want) in [
-        (1, FileFault::Exists, FileFault::Exists),
-        (1, FileFault::Disk, FileFault::Disk),
-        (2, FileFault::Disk, FileFault::Disk),
-        (3, FileFault::Disk, FileFault::Disk),
-        (4, FileFault::Disk, FileFault::Disk),
-        (5, FileFault::Disk, FileFault::Disk),
+        (1, FileFault::Exists, (FileFault::Exists, false)),
+        (1, FileFault::Disk, (FileFault::Disk, false)),
+        (2, FileFault::Disk, (FileFault::Disk, true)),
+        (3, FileFault::Disk, (FileFault::Disk, true)),
+        (4, FileFault::Disk, (FileFault::Disk, true)),
+        (5, FileFault::Disk, (FileFault::Disk, true)),
     ] {
         assert_eq!(rt; failed_making(rt.alloc(), k, fault), (Some(want), k));
     }
@@ -255,28 +322,29 @@ fn failed_opening(
     k: u64,
     fault: FileFault,
     noted: &str,
-) -> (Option<FileFault>, bool) {
+) -> (Option<(FileFault, bool)>, bool) {
     let system = FakeSystem::new(alloc, k, fault);
-    let opened = FileDisk::on(&system.files(), "s");
-    (opened.err(), has_noted(&system, noted))
+    let opened = FileDisk::on(&mut system.files(), "s");
+    (told(opened), has_noted(&system, noted))
 }
 
-// Opening syncs the file and looks for its length, which here is 0.
+// Opening syncs the file and looks for its length, which here is 0. Once it is opened it is handed
+// back.
 #[test]
 fn each_failing_call_of_an_opening_is_told(rt: HostRuntime) {
     let locked = "open s, lock file";
     let synced = "open s, lock file, sync_all file";
     let measured = "open s, lock file, sync_all file, len file";
     for (k, fault, want, noted) in [
-        (1, FileFault::Missing, FileFault::Missing, "open s"),
-        (1, FileFault::Disk, FileFault::Disk, "open s"),
-        (2, FileFault::Disk, FileFault::Disk, locked),
-        (3, FileFault::Disk, FileFault::Disk, synced),
-        (4, FileFault::Disk, FileFault::Disk, measured),
-        (5, FileFault::Disk, FileFault::BadLength, measured),
+        (1, FileFault::Missing, (FileFault::Missing, false), "open s"),
+        (1, FileFault::Disk, (FileFault::Disk, false), "open s"),
+        (2, FileFault::Disk, (FileFault::Disk, true), locked),
+        (3, FileFault::Disk, (FileFault::Disk, true), synced),
+        (4, FileFault::Disk, (FileFault::Disk, true), measured),
+        (5, FileFault::Disk, (FileFault::BadLength, true), measured),
     ] {
-        let told = failed_opening(rt.alloc(), k, fault, noted);
-        assert!(rt; told == (Some(want), true), "call {k}");
+        let answer = failed_opening(rt.alloc(), k, fault, noted);
+        assert!(rt; answer == (Some(want), true), "call {k}");
     }
 }
 
@@ -314,7 +382,7 @@ fn reach_the_file(
     count: u64,
 ) -> Result<(), Fail> {
     let system = FakeSystem::new(alloc, 6, FileFault::Disk);
-    let mut disk = FileDisk::make(&system.files(), "s", 64)?;
+    let mut disk = made(&system, "s")?;
     assert!(rt; make_call(&mut disk, asked).is_err());
     assert!(rt; has_noted_next(&system, noted), "{noted}");
     assert!(rt; make_call(&mut disk, asked) == again);
@@ -385,7 +453,7 @@ fn add_slow_steps(steps: &mut Vec<Step>) -> Result<(), AllocError> {
 fn short_transfers_are_finished(rt: HostRuntime) -> Result<(), Fail> {
     let mut system = FakeSystem::new(rt.alloc(), 0, FileFault::Disk);
     add_slow_steps(&mut system.steps)?;
-    let mut disk = FileDisk::make(&system.files(), "s", 64)?;
+    let mut disk = made(&system, "s")?;
     finish(&rt, &mut disk);
     finish_none(&rt, &mut disk);
     Ok(())
@@ -418,23 +486,31 @@ fn read_first<D: Disk>(rt: &impl Abort, disk: &mut D) {
 
 // A file is made, is there, and is written and read. It is not opened while the first disk has it.
 fn make_and_write<F: RawFile + Drop>(
-    rt: &(impl Abort + FileSystem<File = F>),
+    rt: &mut (impl Abort + FileSystem<File = F>),
     path: &str,
 ) -> Result<(), Fail> {
-    let mut disk = FileDisk::make(rt, path, 64)?;
-    assert!(rt; FileDisk::make(rt, path, 64).err() == Some(FileFault::Exists));
+    let mut disk = match FileDisk::make(rt, path, 64) {
+        Ok(disk) => disk,
+        Err(none) => return Err(Fail::from(none.why)),
+    };
+    let again = told(FileDisk::make(rt, path, 64));
+    assert!(&*rt; again == Some((FileFault::Exists, false)));
     write_some(rt, &mut disk);
-    assert!(rt; FileDisk::on(rt, path).err() == Some(FileFault::Disk));
+    let other = told(FileDisk::on(rt, path));
+    assert!(&*rt; other == Some((FileFault::Disk, true)));
     Ok(())
 }
 
 // A file that was made is what it was when it is opened again.
 #[test]
-fn a_file_keeps_what_was_written(rt: HostRuntime) -> Result<(), Fail> {
+fn a_file_keeps_what_was_written(mut rt: HostRuntime) -> Result<(), Fail> {
     let path = "tests_file_kept";
     let _ = fs::remove_file(&rt, path);
-    make_and_write(&rt, path)?;
-    let mut again = FileDisk::on(&rt, path)?;
+    make_and_write(&mut rt, path)?;
+    let mut again = match FileDisk::on(&mut rt, path) {
+        Ok(disk) => disk,
+        Err(none) => return Err(Fail::from(none.why)),
+    };
     read_first(&rt, &mut again);
     assert!(rt; fs::read(&rt, path)?.len() == 64 * 512);
     fs::remove_file(&rt, path)?;
@@ -443,19 +519,20 @@ fn a_file_keeps_what_was_written(rt: HostRuntime) -> Result<(), Fail> {
 
 // Nothing at the path, and nothing is made there; no folder for it.
 #[test]
-fn a_missing_file_is_told(rt: HostRuntime) {
+fn a_missing_file_is_told(mut rt: HostRuntime) {
     let path = "tests_file_missing";
     let _ = fs::remove_file(&rt, path);
     for _ in 0..2u8 {
-        assert!(rt; FileDisk::on(&rt, path).err() == Some(FileFault::Missing));
+        let opened = FileDisk::on(&mut rt, path);
+        assert!(rt; told(opened) == Some((FileFault::Missing, false)));
     }
-    let made = FileDisk::make(&rt, "tests_file_no_folder/a", 64);
-    assert!(rt; made.err() == Some(FileFault::Disk));
+    let made = FileDisk::make(&mut rt, "tests_file_no_folder/a", 64);
+    assert!(rt; told(made) == Some((FileFault::Disk, false)));
 }
 
-// How long a disk is in a file of so many zeros.
+// How long a disk is in a file of so many zeros, or why it is none.
 fn length_in_file<F: RawFile + Drop>(
-    files: &(impl Files + FileSystem<File = F>),
+    files: &mut (impl Files + OpensFiles<File = F>),
     alloc: Global,
     path: &str,
     n: usize,
@@ -463,19 +540,73 @@ fn length_in_file<F: RawFile + Drop>(
     fs::write(files, path, vec![in alloc; 0u8; n]?.as_slice())?;
     match FileDisk::on(files, path) {
         Ok(disk) => Ok(Ok(disk.len())),
-        Err(fault) => Ok(Err(fault)),
+        Err(none) => Ok(Err(none.why)),
     }
 }
 
-// A file of 100 bytes, of 63 units and of 64 units and a byte is no disk; one of 64 units is.
+// A file of 100 bytes and one of 63 units and 511 bytes are no disks; one of 64 units is, also with a
+// byte behind them.
 #[test]
-fn a_bad_length_is_told(rt: HostRuntime) -> Result<(), Fail> {
+fn a_bad_length_is_told(mut rt: HostRuntime) -> Result<(), Fail> {
     let path = "tests_file_length";
-    for n in [0usize, 100, 63 * 512, 64 * 512 + 1] {
-        let told = length_in_file(&rt, rt.alloc(), path, n)?;
+    let alloc = rt.alloc();
+    for n in [0usize, 100, 63 * 512, 63 * 512 + 511] {
+        let told = length_in_file(&mut rt, alloc, path, n)?;
         assert!(rt; told == Err(FileFault::BadLength), "{n} bytes");
     }
-    assert!(rt; length_in_file(&rt, rt.alloc(), path, 64 * 512)? == Ok(LEN));
+    assert!(rt; length_in_file(&mut rt, alloc, path, 64 * 512)? == Ok(LEN));
+    assert!(rt; length_in_file(&mut rt, alloc, path, 64 * 512 + 1)? == Ok(LEN + 1));
     fs::remove_file(&rt, path)?;
+    Ok(())
+}
+
+// A disk is made longer by zeros, and keeps what it had.
+#[test]
+fn a_disk_is_lengthened(rt: HostRuntime) -> Result<(), Fail> {
+    let system = FakeSystem::new(rt.alloc(), 0, FileFault::Disk);
+    let mut disk = made(&system, "s")?;
+    assert!(rt; make_call(&mut disk, Call::Write) == Ok(()));
+    assert!(rt; disk.len() == LEN);
+    let Ok(mut disk) = disk.lengthen(LEN + 1_000) else {
+        return Err(Fail::from(FileFault::Disk));
+    };
+    assert!(rt; has_noted_next(&system, ", write_at file, set_len file, sync_all file"));
+    assert!(rt; disk.len() == LEN + 1_000);
+    let mut first = [0u8; 5];
+    let mut last = [7u8; 2];
+    assert!(rt; disk.len() > 5 && disk.read(0, &mut first) == Ok(()));
+    assert!(rt; disk.read(disk.len() - 2, &mut last) == Ok(()));
+    assert!(rt; (first, last) == ([7, 7, 7, 7, 0], [0, 0]));
+    Ok(())
+}
+
+// Whichever call of a growth fails, the file comes back, and no other call follows; the bytes are
+// there.
+#[test]
+fn each_failing_call_of_a_growth_is_told(rt: HostRuntime) -> Result<(), Fail> {
+    for (k, noted) in [(6, ", set_len file"), (7, ", set_len file, sync_all file")] {
+        let system = FakeSystem::new(rt.alloc(), k, FileFault::Disk);
+        let disk = made(&system, "s")?;
+        let Err(mut file) = disk.lengthen(2 * LEN) else {
+            return Err(Fail::from(FileFault::Exists));
+        };
+        assert!(rt; has_noted_next(&system, noted), "call {k}");
+        assert!(rt; file.try_lock() == Ok(()));
+        assert!(rt;
+            file.len() == Ok(if k == 6 { LEN } else { 2 * LEN }),
+            "call {k}"
+        );
+    }
+    Ok(())
+}
+
+// A disk whose sync failed is not made longer, and its file is not asked.
+#[test]
+fn no_growth_after_a_failed_sync(rt: HostRuntime) -> Result<(), Fail> {
+    let system = FakeSystem::new(rt.alloc(), 6, FileFault::Disk);
+    let mut disk = made(&system, "s")?;
+    assert!(rt; disk.sync() == Err(DiskFault));
+    assert!(rt; disk.lengthen(2 * LEN).is_err());
+    assert!(rt; has_noted_next(&system, ", sync_data file"));
     Ok(())
 }

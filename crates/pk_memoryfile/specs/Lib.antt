@@ -1,0 +1,2 @@
+-- The definitions of a file's images.
+pub mod Record
