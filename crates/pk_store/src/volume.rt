@@ -1,6 +1,6 @@
 //! What is committed, on its disk, and what of it is deleted: the body in force with its open
 //! segments, and the one way in which another body takes its place.
-ghost use Rattle.std.specs.Prelude.{◌≡◌, ◌≤◌, ◌<◌, ◌+◌, ◌^◌, List, IfOk, None, Ok, OnErr, false, length};
+ghost use Rattle.std.specs.Prelude.{◌≡◌, ◌≤◌, ◌<◌, ◌+◌, ◌^◌, List, IfOk, None, Ok, OnErr, OnOk, false, length};
 ghost use Rattle.std.specs.List.{list_any};
 ghost use Rattle.pk_check.specs.Holding.{ChecksBodyAs, IsOfBody};
 ghost use Rattle.pk_disk.specs.Frames.{KeepsDisk};
@@ -25,6 +25,7 @@ ghost use Rattle.pk_store.specs.Due.{DueAs};
 ghost use Rattle.pk_merge.specs.Choosing.{ChoosesAs};
 ghost use Rattle.pk_state.specs.Writing.{sizes_of};
 ghost use Rattle.pk_store.specs.Ways.{MergesAllAs};
+ghost use Rattle.pk_store.specs.Losing.{LosesNone};
 ghost use Rattle.pk_store.specs.Merging.{AreInputsOf, MergesRun, PlansRun};
 ghost use Rattle.pk_layout.specs.Plan.{AreNext, GoesOn, IsPlan, LeavesRoom, PlansAs};
 ghost use Rattle.pk_layout.specs.Plan.{PromisesTable};
@@ -34,6 +35,7 @@ ghost use Rattle.pk_store.specs.View.{IsCached, IsReady, KeepsVolume, StandFor, 
 ghost use Rattle.pk_store.specs.View.{volume_of};
 
 use crate::due::DueFault;
+use crate::losing::documents_left;
 use pk_cache::BlockCache;
 use pk_check::{Checked, check_body};
 use pk_disk::Disk;
@@ -67,7 +69,7 @@ struct RunPlan {
 #[derive(Drop)]
 pub(crate) struct Volume<D: Disk> {
     /// The disk.
-    disk: D,
+    pub(crate) disk: D,
     /// What the body in force says.
     manifest: Manifest,
     /// The segments that it names, each at the place of its entry.
@@ -352,7 +354,9 @@ impl<D: Disk> Volume<D> {
         requires some { 1 ≤ count }
         requires within { from + count ≤ length self.old.body.entries }
         requires run { AreInputsOf self.old.body.entries self.old.opened from count inputs.now }
-        ensures { PlansRun D.Disk self.old from count inputs.now result self.new }
+        ensures plan { PlansRun D.Disk self.old from count inputs.now result self.new }
+        // Whatever was read, no document is lost.
+        ensures kept { IfOk result (λ r. LosesNone self.old.opened r.merge.plan.opened.items) }
     {
         let prepared = match prepare(alloc, &mut self.disk, inputs) {
             Ok(prepared) => prepared,
@@ -361,6 +365,9 @@ impl<D: Disk> Volume<D> {
         let new = new_segment(&prepared)?;
         let run = Run { from, count };
         let merge = plan_merged(alloc, &self.manifest, &self.opened, run, new)?;
+        if documents_left(&merge.plan.opened) < documents_left(&self.opened) {
+            return Err(Refusal::Damaged);
+        }
         Ok(RunPlan { merge, prepared })
     }
 
@@ -377,7 +384,8 @@ impl<D: Disk> Volume<D> {
         requires some { 1 ≤ count }
         requires within { from + count ≤ length self.old.body.entries }
         requires run { AreInputsOf self.old.body.entries self.old.opened from count inputs.now }
-        ensures { MergesRun D.Disk self.old from count result self.new }
+        ensures run { MergesRun D.Disk self.old from count result self.new }
+        ensures kept { OnOk result (LosesNone self.old.opened self.new.opened) }
     {
         let RunPlan { merge, prepared } = self.plan_run(alloc, from, count, inputs)?;
         let MergePlan {
@@ -420,7 +428,8 @@ impl<D: Disk> Volume<D> {
         requires room { LeavesRoom self.old.body 0 }
         requires some { 1 ≤ count }
         requires within { from + count ≤ length self.old.body.entries }
-        ensures { MergesRun D.Disk self.old from count result self.new }
+        ensures run { MergesRun D.Disk self.old from count result self.new }
+        ensures kept { OnOk result (LosesNone self.old.opened self.new.opened) }
     {
         // The inputs borrow their deletion lists, and the volume's own are going to change.
         let run = copy_of(alloc, &self.opened[from..from + count])?;
