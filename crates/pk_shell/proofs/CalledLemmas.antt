@@ -64,35 +64,35 @@ module _ {D : Type 0} (d : Ghosts D) where
         (λ fault. stays calls old new (IsReply (CallStep d start) calls (queries text) reply) are e fault.3 (inr (fault.0, fault.1, fault.2, refl))) is
 
     rest_of : (b : Bool) (calls : List (Call D)) (mid new : StoreView D) (lines replies : List (List ℕ)) (how : Ended) → AreCalls d start calls → store_after start calls ≡ mid
-        → (Script (StoreStep d) mid lines replies new how → Leads new (λ more. Script (CallStep d start) calls lines replies more how))
-        → MatchBool b ((replies ≡ []) × (new ≡ mid) × (how ≡ Quit)) (Script (StoreStep d) mid lines replies new how)
-        → Leads new (λ more. MatchBool b ((replies ≡ []) × (more ≡ calls) × (how ≡ Quit)) (Script (CallStep d start) calls lines replies more how))
+        → (Script (IsReply (StoreStep d)) mid lines replies new how → Leads new (λ more. Script (IsReply (CallStep d start)) calls lines replies more how))
+        → MatchBool b ((replies ≡ []) × (new ≡ mid) × (how ≡ Quit)) (Script (IsReply (StoreStep d)) mid lines replies new how)
+        → Leads new (λ more. MatchBool b ((replies ≡ []) × (more ≡ calls) × (how ≡ Quit)) (Script (IsReply (CallStep d start)) calls lines replies more how))
     rest_of true calls mid new lines replies how are e later is = stays calls mid new (λ more. (replies ≡ []) × (more ≡ calls) × (how ≡ Quit)) are e is.1 (is.0, refl, is.2)
     rest_of false calls mid new lines replies how are e later is = later is
 
-    script_calls : (calls : List (Call D)) (old new : StoreView D) (lines replies : List (List ℕ)) (how : Ended) → AreCalls d start calls → store_after start calls ≡ old → Script (StoreStep d) old lines replies new how
-        → Leads new (λ more. Script (CallStep d start) calls lines replies more how)
+    script_calls : (calls : List (Call D)) (old new : StoreView D) (lines replies : List (List ℕ)) (how : Ended) → AreCalls d start calls → store_after start calls ≡ old → Script (IsReply (StoreStep d)) old lines replies new how
+        → Leads new (λ more. Script (IsReply (CallStep d start)) calls lines replies more how)
     script_calls calls old new [] [] how are e is = stays calls old new (λ more. (more ≡ calls) × (how ≡ _)) are e is.0 (refl, is.1)
     script_calls calls old new (line ∷ lines) (reply ∷ replies) how are e is =
         let one = one_line calls old is.0 (asked line) reply are e is.1 in
-        leads_more new (λ more. MatchBool (is_quit (asked line)) ((replies ≡ []) × (more ≡ one.calls) × (how ≡ Quit)) (Script (CallStep d start) one.calls lines replies more how))
-        (λ more. Script (CallStep d start) calls (line ∷ lines) (reply ∷ replies) more how) (λ more rest. (one.calls, one.holds, rest))
+        leads_more new (λ more. MatchBool (is_quit (asked line)) ((replies ≡ []) × (more ≡ one.calls) × (how ≡ Quit)) (Script (IsReply (CallStep d start)) one.calls lines replies more how))
+        (λ more. Script (IsReply (CallStep d start)) calls (line ∷ lines) (reply ∷ replies) more how) (λ more rest. (one.calls, one.holds, rest))
         (rest_of (is_quit (asked line)) one.calls is.0 new lines replies how one.are one.last (λ later. script_calls one.calls is.0 new lines replies how one.are one.last later) is.2)
     script_calls calls old new [] (reply ∷ replies) how are e is = absurd is
     script_calls calls old new (line ∷ lines) [] how are e is = absurd is
 
-    from_start : (new : StoreView D) (lines replies : List (List ℕ)) (how : Ended) → Script (StoreStep d) start lines replies new how → Leads new (λ more. Script (CallStep d start) [] lines replies more how)
+    from_start : (new : StoreView D) (lines replies : List (List ℕ)) (how : Ended) → Script (IsReply (StoreStep d)) start lines replies new how → Leads new (λ more. Script (IsReply (CallStep d start)) [] lines replies more how)
     from_start new lines replies how is = script_calls [] start new lines replies how tt refl is
 
-    broken_calls : (r r' w w' : Option (List ℕ)) (new : StoreView D) (b : Broken (StoreStep d) start r r' w w' new) → Leads new (λ more. (c : Broken (CallStep d start) [] r r' w w' more) × (c.lines ≡ b.lines) × (c.rest ≡ b.rest))
+    broken_calls : (r r' w w' : Option (List ℕ)) (new : StoreView D) (b : Broken (IsReply (StoreStep d)) start r r' w w' new) → Leads new (λ more. (c : Broken (IsReply (CallStep d start)) [] r r' w w' more) × (c.lines ≡ b.lines) × (c.rest ≡ b.rest))
     broken_calls r r' w w' new b =
-        leads_more new (λ more. Script (CallStep d start) [] b.lines b.replies more _) (λ more. (c : Broken (CallStep d start) [] r r' w w' more) × (c.lines ≡ b.lines) × (c.rest ≡ b.rest))
+        leads_more new (λ more. Script (IsReply (CallStep d start)) [] b.lines b.replies more _) (λ more. (c : Broken (IsReply (CallStep d start)) [] r r' w w' more) × (c.lines ≡ b.lines) × (c.rest ≡ b.rest))
         (λ more script. (record { lines = b.lines; rest = b.rest; no_feed = b.no_feed; consumed = b.consumed; replies = b.replies; script = script; written = b.written }, refl, refl))
         (from_start new b.lines b.replies _ b.script)
 
     ends_calls : (r r' w w' : Option (List ℕ)) (result : Result Ended ShellFault) (new : StoreView D) → Ends (StoreStep d) start r r' w w' result new → Leads new (Ends (CallStep d start) [] r r' w w' result)
     ends_calls r r' w w' (Ok how) new s =
-        leads_more new (λ more. Script (CallStep d start) [] _ s.replies more how) (Ends (CallStep d start) [] r r' w w' (Ok how))
+        leads_more new (λ more. Script (IsReply (CallStep d start)) [] _ s.replies more how) (Ends (CallStep d start) [] r r' w w' (Ok how))
         (λ more script. record { read = s.read; consumed = s.consumed; at_end = s.at_end; replies = s.replies; script = script; written = s.written })
         (from_start new _ s.replies how s.script)
     ends_calls r r' w w' (Err Input) new s =
@@ -100,7 +100,7 @@ module _ {D : Type 0} (d : Ghosts D) where
     ends_calls r r' w w' (Err TooManyReads) new s =
         leads_more new _ (Ends (CallStep d start) [] r r' w w' (Err TooManyReads)) (λ more b. record { answered = b.0; many = rw (b.1, b.2) s.many }) (broken_calls r r' w w' new s.answered)
     ends_calls r r' w w' (Err Output) new s =
-        leads_more new (λ more. Script (CallStep d start) [] s.lines (s.replies ++ s.last ∷ []) more s.how) (Ends (CallStep d start) [] r r' w w' (Err Output))
+        leads_more new (λ more. Script (IsReply (CallStep d start)) [] s.lines (s.replies ++ s.last ∷ []) more s.how) (Ends (CallStep d start) [] r r' w w' (Err Output))
         (λ more script. record { read = s.read; consumed = s.consumed; lines = s.lines; others = s.others; executed = s.executed; how = s.how; replies = s.replies; last = s.last; script = script; part = s.part; missing = s.missing; some_missing = s.some_missing; cut = s.cut; written = s.written })
         (from_start new s.lines (s.replies ++ s.last ∷ []) s.how s.script)
     ends_calls r r' w w' (Err Memory) new s =

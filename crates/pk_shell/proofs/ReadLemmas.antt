@@ -1,11 +1,9 @@
 -- What a read does to what was read and done so far.
-use Rattle.std.proofs.Common.{◌≡◌, ℕ, ◌+◌, ◌*◌, ◌<◌, ◌≤◌, ◌^◌, true, false, Option, Some, None, List, [], ◌++◌, length, take, refl, sym, ap, ◌∙◌, subst, append_assoc, length-append, arith, Result, Ok, Err}
+use Rattle.std.proofs.Common.{◌≡◌, ℕ, ◌+◌, ◌*◌, ◌<◌, ◌≤◌, ◌^◌, true, false, Option, Some, None, List, [], ◌++◌, length, take, refl, sym, ap, ◌∙◌, subst, append_assoc, length-append, arith, Ok, Err}
 use Rattle.std.proofs.lemmas.Grind.{common_steps}
 use Rattle.std.proofs.lemmas.List.{append-nil}
 use Rattle.std.specs.Io.KnownBytes.{Consumes, Keeps, IsAtEnd}
-use Rattle.pk_model.specs.Steps.{Request, Answer}
-use Rattle.pk_model.specs.declared.commands.Refusal.{Refusal}
-use Rattle.pk_shell.specs.Asked.{asked_held, is_blank}
+use Rattle.pk_shell.specs.Asked.{Asked, asked_held, is_blank}
 use Rattle.pk_shell.specs.Transcript.{AnswersLine, Continues, Quits, IsCutOff}
 use Rattle.pk_shell.specs.Script.{Served, CutShort, Broken, Overlong, TakesAtMost}
 use Rattle.pk_shell.specs.Progress.{Progress}
@@ -86,35 +84,35 @@ pub takes_none : (most : ℕ) (r : Option (List ℕ)) → TakesAtMost most r r
 takes_none most None = tt
 takes_none most (Some xs) = omega arith
 
-module _ {S : Type 0} (Step : S → Request → Result Answer Refusal → S → Type 0) where
-  pub started : (s : S) (r w h : Option (List ℕ)) → h ≡ Some [] → Progress Step s r r w 0 h s w
+module _ {S : Type 0} (Replies : S → Asked → List ℕ → S → Type 0) where
+  pub started : (s : S) (r w h : Option (List ℕ)) → h ≡ Some [] → Progress Replies s r r w 0 h s w
   started s r w h e = rw e (record {
     read = [];
     consumed = consumes_start r;
     many = omega arith;
     few = omega arith;
-    transcript = begun Step s w;
+    transcript = begun Replies s w;
   })
 
   -- no read more
-  pub all_taken : (s0 s : S) (r0 r w0 w h : Option (List ℕ)) (reads : ℕ) → Progress Step s0 r0 r w0 reads h s w
+  pub all_taken : (s0 s : S) (r0 r w0 w h : Option (List ℕ)) (reads : ℕ) → Progress Replies s0 r0 r w0 reads h s w
       → reads ≤ 2 ^ 40 → TakesAtMost (2 ^ 54) r0 r
   all_taken s0 s r0 r w0 w h reads p k =
       took (2 ^ 54) r0 r r p.read [] p.consumed (consumes_start r) (omega (arith, p.few, k))
 
-  pub too_many : (s0 s : S) (r0 r w0 w h : Option (List ℕ)) (reads : ℕ) → Progress Step s0 r0 r w0 reads h s w
-      → 2 ^ 40 ≤ reads → Overlong Step s0 r0 r w0 w s
+  pub too_many : (s0 s : S) (r0 r w0 w h : Option (List ℕ)) (reads : ℕ) → Progress Replies s0 r0 r w0 reads h s w
+      → 2 ^ 40 ≤ reads → Overlong Replies s0 r0 r w0 w s
   too_many s0 s r0 r w0 w h reads p k =
-      overlong Step s0 s w0 w h p.read p.transcript r0 r p.consumed (omega (arith, k, p.many))
+      overlong Replies s0 s w0 w h p.read p.transcript r0 r p.consumed (omega (arith, k, p.many))
 
-  module _ (s0 s : S) (r0 r r' w0 w h : Option (List ℕ)) (reads : ℕ) (p : Progress Step s0 r0 r w0 reads h s w) where
+  module _ (s0 s : S) (r0 r r' w0 w h : Option (List ℕ)) (reads : ℕ) (p : Progress Replies s0 r0 r w0 reads h s w) where
     -- a read that gave bytes
     module _ (chunk : List ℕ) (came : Consumes r r' chunk) (s' : S) (w' : Option (List ℕ)) where
       read_all : Consumes r0 r' (p.read ++ chunk)
       read_all = consumes_more r0 r r' p.read chunk p.consumed came
 
-      pub goes_on : (h' : Option (List ℕ)) → 0 < length chunk → length chunk ≤ 16384 → Continues Step h s w chunk h' s' w'
-          → Progress Step s0 r0 r' w0 (reads + 1) h' s' w'
+      pub goes_on : (h' : Option (List ℕ)) → 0 < length chunk → length chunk ≤ 16384 → Continues Replies h s w chunk h' s' w'
+          → Progress Replies s0 r0 r' w0 (reads + 1) h' s' w'
       goes_on h' some less k = record {
         read = p.read ++ chunk;
         consumed = read_all;
@@ -123,40 +121,40 @@ module _ {S : Type 0} (Step : S → Request → Result Answer Refusal → S → 
         transcript = k s0 w0 p.read p.transcript;
       }
 
-      pub quits : Quits Step h s w chunk s' w' → Served Step s0 r0 r' w0 w' Quit s'
-      quits k = served_quit Step s0 s' r0 r' w0 w' (p.read ++ chunk) read_all (k s0 w0 p.read p.transcript)
+      pub quits : Quits Replies h s w chunk s' w' → Served Replies s0 r0 r' w0 w' Quit s'
+      quits k = served_quit Replies s0 s' r0 r' w0 w' (p.read ++ chunk) read_all (k s0 w0 p.read p.transcript)
 
-      pub is_cut : IsCutOff Step h s w chunk s' w' → CutShort Step s0 r0 r' w0 w' s'
-      is_cut k = cut_short Step s0 s' r0 r' w0 w' (p.read ++ chunk) read_all (k s0 w0 p.read p.transcript)
+      pub is_cut : IsCutOff Replies h s w chunk s' w' → CutShort Replies s0 r0 r' w0 w' s'
+      is_cut k = cut_short Replies s0 s' r0 r' w0 w' (p.read ++ chunk) read_all (k s0 w0 p.read p.transcript)
 
     -- a read that was one of 2^40 at most
     pub takes : (chunk : List ℕ) → Consumes r r' chunk → length chunk ≤ 16384 → reads < 2 ^ 40 → TakesAtMost (2 ^ 54) r0 r'
     takes chunk came less more = took (2 ^ 54) r0 r r' p.read chunk p.consumed came (omega (arith, p.few, less, more))
 
     -- a read that failed
-    pub fails : Keeps r r' → Broken Step s0 r0 r' w0 w s
-    fails k = broken Step s0 s w0 w h p.read p.transcript r0 r' (consumes_kept r0 r r' p.read p.consumed k)
+    pub fails : Keeps r r' → Broken Replies s0 r0 r' w0 w s
+    fails k = broken Replies s0 s w0 w h p.read p.transcript r0 r' (consumes_kept r0 r r' p.read p.consumed k)
 
     -- a read that gave nothing
     module _ (none : Consumes r r' []) (at_end : IsAtEnd r') where
-      pub ends : is_blank h ≡ true → Served Step s0 r0 r' w0 w InputEnd s
-      ends k = served_end Step s0 s w0 w h p.read p.transcript r0 r' (consumes_none r0 r r' p.read p.consumed none) at_end k
+      pub ends : is_blank h ≡ true → Served Replies s0 r0 r' w0 w InputEnd s
+      ends k = served_end Replies s0 s w0 w h p.read p.transcript r0 r' (consumes_none r0 r r' p.read p.consumed none) at_end k
 
       module _ {E : Type 0} (s' : S) (w' : Option (List ℕ)) (begun : is_blank h ≡ false) where
-        pub last_quits : AnswersLine {S = S} {E = E} Step (asked_held h) s s' w w' (Ok true)
-            → Served Step s0 r0 r' w0 w' Quit s'
+        pub last_quits : AnswersLine {S = S} {E = E} Replies (asked_held h) s s' w w' (Ok true)
+            → Served Replies s0 r0 r' w0 w' Quit s'
         last_quits a =
-            served_last Step s0 s w0 w h p.read p.transcript s' w' a.reply a.is_reply r0 r' Quit
+            served_last Replies s0 s w0 w h p.read p.transcript s' w' a.reply a.is_reply r0 r' Quit
             (consumes_none r0 r r' p.read p.consumed none) at_end begun (rw (sym a.quits) refl) a.sent
 
-        pub last_ends : AnswersLine {S = S} {E = E} Step (asked_held h) s s' w w' (Ok false)
-            → Served Step s0 r0 r' w0 w' InputEnd s'
+        pub last_ends : AnswersLine {S = S} {E = E} Replies (asked_held h) s s' w w' (Ok false)
+            → Served Replies s0 r0 r' w0 w' InputEnd s'
         last_ends a =
-            served_last Step s0 s w0 w h p.read p.transcript s' w' a.reply a.is_reply r0 r' InputEnd
+            served_last Replies s0 s w0 w h p.read p.transcript s' w' a.reply a.is_reply r0 r' InputEnd
             (consumes_none r0 r r' p.read p.consumed none) at_end begun (rw (sym a.quits) refl) a.sent
 
-        pub last_cut : (x : E) → AnswersLine {S = S} {E = E} Step (asked_held h) s s' w w' (Err x)
-            → CutShort Step s0 r0 r' w0 w' s'
+        pub last_cut : (x : E) → AnswersLine {S = S} {E = E} Replies (asked_held h) s s' w w' (Err x)
+            → CutShort Replies s0 r0 r' w0 w' s'
         last_cut x a =
-            cut_last Step s0 s w0 w h p.read p.transcript s' w' a.reply a.is_reply r0 r'
+            cut_last Replies s0 s w0 w h p.read p.transcript s' w' a.reply a.is_reply r0 r'
             (consumes_none r0 r r' p.read p.consumed none) begun a.sent

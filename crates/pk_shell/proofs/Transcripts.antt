@@ -1,15 +1,13 @@
 -- How a transcript goes on: more bytes of a line, a line's end, and the ends of a session.
-use Rattle.std.proofs.Common.{◌≡◌, ◌≢◌, ℕ, ◌+◌, ◌<◌, ◌≤◌, ◌^◌, Bool, true, false, cond, nat_lt, Option, Some, None, List, [], ◌∷◌, ◌++◌, length, length-append, refl, sym, ap, ◌∙◌, subst, append_assoc, arith, Result}
+use Rattle.std.proofs.Common.{◌≡◌, ◌≢◌, ℕ, ◌+◌, ◌<◌, ◌≤◌, ◌^◌, Bool, true, false, cond, nat_lt, Option, Some, None, List, [], ◌∷◌, ◌++◌, length, length-append, refl, sym, ap, ◌∙◌, subst, append_assoc, arith}
 use Rattle.std.specs.Prelude.{◌==◌, MatchBool}
 use Rattle.std.specs.List.{flat_map, AllByRecursion}
 use Rattle.std.specs.Io.KnownBytes.{Appends, Consumes, IsAtEnd}
 use Rattle.std.proofs.lemmas.Bool.Decides.{nat_tests}
 use Rattle.std.proofs.lemmas.List.{append-nil}
-use Rattle.pk_model.specs.Steps.{Request, Answer}
-use Rattle.pk_model.specs.declared.commands.Refusal.{Refusal}
 use Rattle.pk_shell.specs.Asked.{Asked, asked, asked_held, held_of, longest_line, is_quit, is_blank}
 use Rattle.pk_shell.specs.Lines.{lines_of, with_feed, HasNoFeed, onto_first, last_line}
-use Rattle.pk_shell.specs.Script.{Script, IsReply, spelled, Served, Broken, Overlong, CutShort}
+use Rattle.pk_shell.specs.Script.{Script, spelled, Served, Broken, Overlong, CutShort}
 use Rattle.pk_shell.specs.Sending.{SentPart}
 use Rattle.pk_shell.specs.Transcript.{Transcript, HasQuit, IsCut, held_after}
 use Rattle.pk_shell.specs.declared.ending.Ended.{Ended}
@@ -113,14 +111,14 @@ last_step : {S : Type 0} (b : Bool) (s' : S) (how : Ended) → MatchBool b (how 
 last_step true s' how e = (refl, refl, e)
 last_step false s' how e = (refl, e)
 
-module _ {S : Type 0} (Step : S → Request → Result Answer Refusal → S → Type 0) where
+module _ {S : Type 0} (Replies : S → Asked → List ℕ → S → Type 0) where
   -- SCRIPTS. A line more.
   script_more : (s0 s s' : S) (lines replies : List (List ℕ)) (line reply : List ℕ) (how : Ended)
-      → Script Step s0 lines replies s InputEnd → IsReply Step s (asked line) reply s'
+      → Script Replies s0 lines replies s InputEnd → Replies s (asked line) reply s'
       → MatchBool (is_quit (asked line)) (how ≡ Quit) (how ≡ InputEnd)
-      → Script Step s0 (lines ++ line ∷ []) (replies ++ reply ∷ []) s' how
+      → Script Replies s0 (lines ++ line ∷ []) (replies ++ reply ∷ []) s' how
   script_more s0 s s' [] [] line reply how run said ends =
-      (s', subst (λ x. IsReply Step x (asked line) reply s') run.0 said, last_step (is_quit (asked line)) s' how ends)
+      (s', subst (λ x. Replies x (asked line) reply s') run.0 said, last_step (is_quit (asked line)) s' how ends)
   script_more s0 s s' (l ∷ ls) (r ∷ rs) line reply how run said ends = (
     run.0,
     run.1,
@@ -131,8 +129,8 @@ module _ {S : Type 0} (Step : S → Request → Result Answer Refusal → S → 
   script_more s0 s s' (l ∷ ls) [] line reply how run said ends = absurd run
 
   -- after a quit other lines change nothing
-  script_quit : (s0 s' : S) (lines others replies : List (List ℕ)) → Script Step s0 lines replies s' Quit
-      → Script Step s0 (lines ++ others) replies s' Quit
+  script_quit : (s0 s' : S) (lines others replies : List (List ℕ)) → Script Replies s0 lines replies s' Quit
+      → Script Replies s0 (lines ++ others) replies s' Quit
   script_quit s0 s' [] others [] run = absurd (quit_not_end run.1)
   script_quit s0 s' (l ∷ ls) others (r ∷ rs) run = (
     run.0,
@@ -143,7 +141,7 @@ module _ {S : Type 0} (Step : S → Request → Result Answer Refusal → S → 
   script_quit s0 s' (l ∷ ls) others [] run = absurd run
 
   -- TRANSCRIPTS. The start.
-  pub begun : (s : S) (w : Option (List ℕ)) → Transcript Step s w [] (Some []) s w
+  pub begun : (s : S) (w : Option (List ℕ)) → Transcript Replies s w [] (Some []) s w
   begun s w = record {
     lines = [];
     rest = [];
@@ -157,10 +155,10 @@ module _ {S : Type 0} (Step : S → Request → Result Answer Refusal → S → 
   }
 
   -- the steps from what was read, with what is held of the line that is being read
-  module _ (s0 s : S) (w0 w h : Option (List ℕ)) (read : List ℕ) (t : Transcript Step s0 w0 read h s w) where
+  module _ (s0 s : S) (w0 w h : Option (List ℕ)) (read : List ℕ) (t : Transcript Replies s0 w0 read h s w) where
     -- more bytes of the line
     pub line_goes_on : (bytes : List ℕ) → HasNoFeed bytes
-        → Transcript Step s0 w0 (read ++ bytes) (held_after h bytes) s w
+        → Transcript Replies s0 w0 (read ++ bytes) (held_after h bytes) s w
     line_goes_on bytes k = record {
       lines = t.lines;
       rest = t.rest ++ bytes;
@@ -186,18 +184,18 @@ module _ {S : Type 0} (Step : S → Request → Result Answer Refusal → S → 
         (lines_rest t.rest t.no_feed_rest ∙ last_of t.rest (subst (λ x. is_blank x ≡ false) t.held_is k))
 
     -- the line's reply
-    module _ (s' : S) (w' : Option (List ℕ)) (reply : List ℕ) (said : IsReply Step s (asked_held h) reply s') where
+    module _ (s' : S) (w' : Option (List ℕ)) (reply : List ℕ) (said : Replies s (asked_held h) reply s') where
       script_then : (how : Ended) → MatchBool (is_quit (asked_held h)) (how ≡ Quit) (how ≡ InputEnd)
-          → Script Step s0 (t.lines ++ t.rest ∷ []) (t.replies ++ reply ∷ []) s' how
+          → Script Replies s0 (t.lines ++ t.rest ∷ []) (t.replies ++ reply ∷ []) s' how
       script_then how ends = script_more s0 s s' t.lines t.replies t.rest reply how t.script
-          (subst (λ x. IsReply Step s (asked_held x) reply s') t.held_is said)
+          (subst (λ x. Replies s (asked_held x) reply s') t.held_is said)
           (subst (λ x. MatchBool (is_quit (asked_held x)) (how ≡ Quit) (how ≡ InputEnd)) t.held_is ends)
 
       written_then : Appends w w' (with_feed reply) → Appends w0 w' (spelled (t.replies ++ reply ∷ []))
       written_then sent = rw (flat_one t.replies reply) (appends_then w0 w w' _ _ t.written sent)
 
       pub line_answered : is_quit (asked_held h) ≡ false → Appends w w' (with_feed reply)
-          → Transcript Step s0 w0 (read ++ 10 ∷ []) (Some []) s' w'
+          → Transcript Replies s0 w0 (read ++ 10 ∷ []) (Some []) s' w'
       line_answered q sent = record {
         lines = t.lines ++ t.rest ∷ [];
         rest = [];
@@ -211,7 +209,7 @@ module _ {S : Type 0} (Step : S → Request → Result Answer Refusal → S → 
       }
 
       pub line_quits : is_quit (asked_held h) ≡ true → Appends w w' (with_feed reply)
-          → HasQuit Step s0 w0 (read ++ 10 ∷ []) s' w'
+          → HasQuit Replies s0 w0 (read ++ 10 ∷ []) s' w'
       line_quits q sent = record {
         lines = t.lines ++ t.rest ∷ [];
         more = [];
@@ -222,7 +220,7 @@ module _ {S : Type 0} (Step : S → Request → Result Answer Refusal → S → 
         written = written_then sent;
       }
 
-      pub line_cut : SentPart w w' (with_feed reply) → IsCut Step s0 w0 (read ++ 10 ∷ []) s' w'
+      pub line_cut : SentPart w w' (with_feed reply) → IsCut Replies s0 w0 (read ++ 10 ∷ []) s' w'
       line_cut sent = record {
         lines = t.lines ++ t.rest ∷ [];
         more = [];
@@ -242,7 +240,7 @@ module _ {S : Type 0} (Step : S → Request → Result Answer Refusal → S → 
       -- a last line, at the end of the input, which was answered
       pub served_last : (r r' : Option (List ℕ)) (how : Ended) → Consumes r r' read → IsAtEnd r' → is_blank h ≡ false
           → MatchBool (is_quit (asked_held h)) (how ≡ Quit) (how ≡ InputEnd) → Appends w w' (with_feed reply)
-          → Served Step s0 r r' w0 w' how s'
+          → Served Replies s0 r r' w0 w' how s'
       served_last r r' how c e k ends sent = record {
         read = read;
         consumed = c;
@@ -253,7 +251,7 @@ module _ {S : Type 0} (Step : S → Request → Result Answer Refusal → S → 
       }
 
       pub cut_last : (r r' : Option (List ℕ)) → Consumes r r' read → is_blank h ≡ false
-          → SentPart w w' (with_feed reply) → CutShort Step s0 r r' w0 w' s'
+          → SentPart w w' (with_feed reply) → CutShort Replies s0 r r' w0 w' s'
       cut_last r r' c k sent = record {
         read = read;
         consumed = c;
@@ -273,7 +271,7 @@ module _ {S : Type 0} (Step : S → Request → Result Answer Refusal → S → 
 
     -- the end of the input, with no line begun
     pub served_end : (r r' : Option (List ℕ)) → Consumes r r' read → IsAtEnd r' → is_blank h ≡ true
-        → Served Step s0 r r' w0 w InputEnd s
+        → Served Replies s0 r r' w0 w InputEnd s
     served_end r r' c e k =
         let none : t.rest ≡ [] = blank_rest t.rest (subst (λ x. is_blank x ≡ true) t.held_is k) in
         let whole : lines_of read ≡ t.lines =
@@ -288,7 +286,7 @@ module _ {S : Type 0} (Step : S → Request → Result Answer Refusal → S → 
           written = t.written;
         }
 
-    pub broken : (r r' : Option (List ℕ)) → Consumes r r' read → Broken Step s0 r r' w0 w s
+    pub broken : (r r' : Option (List ℕ)) → Consumes r r' read → Broken Replies s0 r r' w0 w s
     broken r r' c = record {
       lines = t.lines;
       rest = t.rest;
@@ -300,7 +298,7 @@ module _ {S : Type 0} (Step : S → Request → Result Answer Refusal → S → 
     }
 
     pub overlong : (r r' : Option (List ℕ)) → Consumes r r' read → 2 ^ 40 ≤ length read
-        → Overlong Step s0 r r' w0 w s
+        → Overlong Replies s0 r r' w0 w s
     unfolding broken
     overlong r r' c many = record {
       answered = broken r r' c;
@@ -308,8 +306,8 @@ module _ {S : Type 0} (Step : S → Request → Result Answer Refusal → S → 
     }
 
   -- bytes behind what decided
-  pub quit_more : (s0 s : S) (w0 w : Option (List ℕ)) (read more : List ℕ) → HasQuit Step s0 w0 read s w
-      → HasQuit Step s0 w0 (read ++ more) s w
+  pub quit_more : (s0 s : S) (w0 w : Option (List ℕ)) (read more : List ℕ) → HasQuit Replies s0 w0 read s w
+      → HasQuit Replies s0 w0 (read ++ more) s w
   quit_more s0 s w0 w read more t = record {
     lines = t.lines;
     more = t.more ++ more;
@@ -320,8 +318,8 @@ module _ {S : Type 0} (Step : S → Request → Result Answer Refusal → S → 
     written = t.written;
   }
 
-  pub cut_more : (s0 s : S) (w0 w : Option (List ℕ)) (read more : List ℕ) → IsCut Step s0 w0 read s w
-      → IsCut Step s0 w0 (read ++ more) s w
+  pub cut_more : (s0 s : S) (w0 w : Option (List ℕ)) (read more : List ℕ) → IsCut Replies s0 w0 read s w
+      → IsCut Replies s0 w0 (read ++ more) s w
   cut_more s0 s w0 w read more t = record {
     lines = t.lines;
     more = t.more ++ more;
@@ -340,7 +338,7 @@ module _ {S : Type 0} (Step : S → Request → Result Answer Refusal → S → 
 
   -- THE ENDS that a line made
   pub served_quit : (s0 s : S) (r r' w0 w : Option (List ℕ)) (read : List ℕ) → Consumes r r' read
-      → HasQuit Step s0 w0 read s w → Served Step s0 r r' w0 w Quit s
+      → HasQuit Replies s0 w0 read s w → Served Replies s0 r r' w0 w Quit s
   served_quit s0 s r r' w0 w read c t = record {
     read = read;
     consumed = c;
@@ -352,7 +350,7 @@ module _ {S : Type 0} (Step : S → Request → Result Answer Refusal → S → 
   }
 
   pub cut_short : (s0 s : S) (r r' w0 w : Option (List ℕ)) (read : List ℕ) → Consumes r r' read
-      → IsCut Step s0 w0 read s w → CutShort Step s0 r r' w0 w s
+      → IsCut Replies s0 w0 read s w → CutShort Replies s0 r r' w0 w s
   cut_short s0 s r r' w0 w read c t = record {
     read = read;
     consumed = c;

@@ -44,20 +44,28 @@
 //! | `ShellFault::TooManyReads` | 2^40 bytes or more were read | those to the whole lines read |
 //! | `ShellFault::Memory` | its two buffers were not to be had | nothing, and nothing was read |
 //!
+//! [`serve_engine`] serves any [`Engine`], which says itself which replies are right: to what a line
+//! asks, and what of it is then (`replies`). Of one that only reads, a line that asks to change
+//! something is `refused read only`. [`serve`] serves a store, which takes each command.
+//!
 //! In specs/, `Asked` says what a line asks, `ReplyText` how a reply is spelled, `Script` what a
-//! legal script is and what each ending means. `Script` is said of any engine, by its steps:
-//! those of [`serve`] are the store's `Steps`, over any disk. `Called` says the same by calls of the
-//! store, and what these leave on the disk.
+//! legal script is and what each ending means. `Script` is said of any engine, by its replies: those
+//! of [`serve`] are right by the store's `Steps`, over any disk (`IsReply`). `Called` says the same by
+//! calls of the store, and what these leave on the disk.
 #![tactic(auto)]
 
 mod ask;
 mod ending;
+mod engine;
 mod line;
 mod outbox;
 mod reply;
 mod sending;
 mod serving;
 
+pub use ask::Ask;
 pub use ending::{Ended, ShellFault};
+pub use engine::Engine;
+pub use reply::Response;
 pub use sending::{Unwritten, write_all};
-pub use serving::serve;
+pub use serving::{serve, serve_engine};

@@ -4,13 +4,14 @@ ghost use Rattle.std.specs.Prelude.{◌≡◌};
 ghost use Rattle.pk_model.specs.Steps.{add, commit, count, delete, find, merge, show, tidy};
 ghost use Rattle.pk_model.specs.Tree.{tree_of};
 ghost use Rattle.pk_model.specs.Views.{reply_of};
-ghost use Rattle.pk_shell.specs.Asked.{asked_short, queries, is_quit};
-ghost use Rattle.pk_shell.specs.AskView.{line_asks};
+ghost use Rattle.pk_shell.specs.Asked.{asked_held, asked_short, queries, is_quit};
 ghost use Rattle.pk_shell.specs.Script.{IsReply};
 ghost use Rattle.pk_shell.specs.Response.{response_text, is_bye};
 ghost use Rattle.pk_shell.specs.StoreStep.{StoreStep};
 
 use super::ask::{Ask, ask_of};
+use super::engine::Engine;
+use super::line::Line;
 use pk_disk::Disk;
 use pk_model::{DocNo, Query, Reply};
 use pk_query::{QueryFault, parse};
@@ -28,6 +29,8 @@ pub enum Response {
     NotText,
     /// The line asks nothing that is known.
     Unknown,
+    /// The line asks to change what is only read.
+    ReadOnly,
     /// The query text of a `find` is no query, or there was no memory for it.
     QueryRefused(QueryFault),
     /// What the store replied.
@@ -43,36 +46,50 @@ impl Response {
     }
 }
 
+/// Answers what is held of a line.
+pub fn answer_held<E: Engine>(alloc: Global, engine: &mut E, line: &Line) -> Response
+    ensures reply { E.replies engine.old (asked_held line.now) (response_text result) engine.new }
+    ensures bye { is_bye result ≡ is_quit (asked_held line.now) }
+{
+    match line.held() {
+        Some(bytes) => answer_to(alloc, engine, bytes),
+        None => Response::LineTooLong,
+    }
+}
+
 /// Answers a line that is not too long.
-pub fn answer_to<D: Disk>(alloc: Global, store: &mut Store<D>, line: &[u8]) -> Response
-    ensures reply { IsReply (StoreStep D.Disk) store.old (asked_short line.now)
-        (response_text result) store.new }
+fn answer_to<E: Engine>(alloc: Global, engine: &mut E, line: &[u8]) -> Response
+    ensures reply { E.replies engine.old (asked_short line.now) (response_text result) engine.new }
     ensures bye { is_bye result ≡ is_quit (asked_short line.now) }
 {
     match str::from_utf8(line) {
-        Ok(line) => answer_ask(alloc, store, ask_of(line)),
+        Ok(line) => engine.answer(alloc, ask_of(line)),
         Err(_) => Response::NotText,
     }
 }
 
-/// Answers what a line asks.
-fn answer_ask<D: Disk>(alloc: Global, store: &mut Store<D>, ask: Ask<'_>) -> Response
-    ensures reply { IsReply (StoreStep D.Disk) store.old (line_asks ask.entry)
-        (response_text result) store.new }
-    ensures bye { is_bye result ≡ is_quit (line_asks ask.entry) }
-{
-    match ask {
-        Ask::Add(text) => Response::Replied(reply_to_add(alloc, store, text)),
-        Ask::Delete(number) => Response::Replied(reply_to_delete(alloc, store, number)),
-        Ask::Find(text) => answer_find(alloc, store, text),
-        Ask::Show(number) => Response::Replied(reply_to_show(alloc, store, number)),
-        Ask::Commit => Response::Replied(reply_to_commit(alloc, store)),
-        Ask::Merge => Response::Replied(reply_to_merge(alloc, store)),
-        Ask::Tidy => Response::Replied(reply_to_tidy(alloc, store)),
-        Ask::Count => Response::Replied(reply_to_count(store)),
-        Ask::Quit => Response::Bye,
-        Ask::Unknown => Response::Unknown,
+/// A store takes each command.
+impl<D: Disk> Engine for Store<D> {
+    ghost use Rattle.std.specs.Prelude.{refl};
+
+    ghost replies = { IsReply (StoreStep D.Disk) };
+
+    fn answer(&mut self, alloc: Global, ask: Ask<'_>) -> Response {
+        match ask {
+            Ask::Add(text) => Response::Replied(reply_to_add(alloc, self, text)),
+            Ask::Delete(number) => Response::Replied(reply_to_delete(alloc, self, number)),
+            Ask::Find(text) => answer_find(alloc, self, text),
+            Ask::Show(number) => Response::Replied(reply_to_show(alloc, self, number)),
+            Ask::Commit => Response::Replied(reply_to_commit(alloc, self)),
+            Ask::Merge => Response::Replied(reply_to_merge(alloc, self)),
+            Ask::Tidy => Response::Replied(reply_to_tidy(alloc, self)),
+            Ask::Count => Response::Replied(reply_to_count(self)),
+            Ask::Quit => Response::Bye,
+            Ask::Unknown => Response::Unknown,
+        }
     }
+
+    ghost refuses_unasked = { λ store why. (refl, refl) };
 }
 
 /// The reply to `add`.

@@ -264,6 +264,7 @@ fn put_response<W: Write>(
         Response::LineTooLong => put(outbox, writer, b"refused line too long"),
         Response::NotText => put(outbox, writer, b"refused not text"),
         Response::Unknown => put(outbox, writer, b"refused unknown"),
+        Response::ReadOnly => put(outbox, writer, b"refused read only"),
         Response::QueryRefused(fault) => put_fault(outbox, writer, *fault),
         Response::Replied(reply) => put_reply(outbox, writer, reply),
     }

@@ -1,16 +1,17 @@
 //! Lines from a reader, replies to a writer.
 
-ghost use Rattle.std.specs.Prelude.{◌^◌};
+ghost use Rattle.std.specs.Prelude.{◌≡◌, ◌^◌};
 ghost use Rattle.pk_shell.specs.Asked.{asked_held};
 ghost use Rattle.pk_shell.specs.Called.{EndsByCalls};
-ghost use Rattle.pk_shell.specs.Script.{Ends, TakesAtMost};
+ghost use Rattle.pk_shell.specs.Script.{Ends, EndsAs, TakesAtMost};
 ghost use Rattle.pk_shell.specs.StoreStep.{StoreStep};
 ghost use Rattle.pk_shell.specs.Transcript.{AnswersLine, AnswersLines};
 
 use super::ending::{Ended, ShellFault};
+use super::engine::Engine;
 use super::line::Line;
 use super::outbox::Outbox;
-use super::reply::{Response, answer_to};
+use super::reply::answer_held;
 use super::sending::{Unwritten, send};
 use memchr::memchr;
 use pk_disk::Disk;
@@ -24,6 +25,13 @@ const MAX_READS: u64 = 1 << 40;
 /// The most bytes that one read asks for.
 const CHUNK_BYTES: usize = 16_384;
 
+/// How many reads a session makes at the most.
+fn most_reads() -> u64
+    ensures { result ≡ 2 ^ 40 }
+{
+    MAX_READS
+}
+
 /// What a session holds in memory, taken before the first read.
 #[derive(Drop)]
 struct Buffers {
@@ -34,20 +42,17 @@ struct Buffers {
 }
 
 /// Answers what is held of a line, and says whether it was a quit.
-fn answer_line<W: Write, D: Disk>(
+fn answer_line<W: Write, E: Engine>(
     alloc: Global,
     line: &Line,
     outbox: &mut Outbox,
-    store: &mut Store<D>,
+    engine: &mut E,
     writer: &mut W,
 ) -> Result<bool, Unwritten>
-    ensures { AnswersLine (StoreStep D.Disk) (asked_held line.now) store.old store.new
+    ensures { AnswersLine E.replies (asked_held line.now) engine.old engine.new
         (W.contents writer.old) (W.contents writer.new) result }
 {
-    let response = match line.held() {
-        Some(bytes) => answer_to(alloc, store, bytes),
-        None => Response::LineTooLong,
-    };
+    let response = answer_held(alloc, engine, line);
     let quits = response.is_bye();
     send(outbox, writer, &response)?;
     Ok(quits)
@@ -55,20 +60,20 @@ fn answer_line<W: Write, D: Disk>(
 
 /// Takes in more bytes, answers each line that ends in them, and keeps what follows the last line
 /// feed. It stops at a quit, and says whether there was one.
-fn answer_lines<W: Write, D: Disk>(
+fn answer_lines<W: Write, E: Engine>(
     alloc: Global,
     buffers: &mut Buffers,
-    store: &mut Store<D>,
+    engine: &mut E,
     writer: &mut W,
     chunk: &[u8],
 ) -> Result<bool, Unwritten>
-    ensures { AnswersLines (StoreStep D.Disk) buffers.old.line store.old (W.contents writer.old)
-        chunk.now result buffers.new.line store.new (W.contents writer.new) }
+    ensures { AnswersLines E.replies buffers.old.line engine.old (W.contents writer.old)
+        chunk.now result buffers.new.line engine.new (W.contents writer.new) }
 {
     let mut rest = chunk;
     'lines: while let Some(end) = memchr(b'\n', rest) {
         buffers.line.extend(&rest[..end]);
-        let quits = answer_line(alloc, &buffers.line, &mut buffers.outbox, store, writer)?;
+        let quits = answer_line(alloc, &buffers.line, &mut buffers.outbox, engine, writer)?;
         buffers.line.clear();
         if quits {
             return Ok(true);
@@ -79,12 +84,7 @@ fn answer_lines<W: Write, D: Disk>(
     Ok(false)
 }
 
-/// Answers the lines of the reader until a quit or the end of the input: each line gets its reply
-/// line, in their order, however the reader cuts them. It reads 16,384 bytes a call at the most,
-/// takes its memory before the first read, and ends after 2^40 reads at the latest.
-///
-/// What each ending means is `Ends`, in specs/: a fault names what was answered before it. How
-/// much behind a `quit` was taken from the reader is open, but all in all no more than 2^54 bytes are.
+/// Serves a store: as `serve_engine`, each line that asks the store being the next call of it.
 pub fn serve<R: Read, W: Write, D: Disk>(
     alloc: Global,
     reader: &mut R,
@@ -103,25 +103,47 @@ pub fn serve<R: Read, W: Write, D: Disk>(
     ensures calls { EndsByCalls D.Disk store.old (R.remaining reader.old) (R.remaining reader.new)
         (W.contents writer.old) (W.contents writer.new) result store.new }
 {
+    serve_engine(alloc, reader, writer, store)
+}
+
+/// Answers the lines of the reader until a quit or the end of the input: each line gets its reply
+/// line, in their order, however the reader cuts them. It reads 16,384 bytes a call at the most,
+/// takes its memory before the first read, and ends after 2^40 reads at the latest.
+///
+/// What each ending means is `EndsAs`, in specs/: a fault names what was answered before it. How
+/// much behind a `quit` was taken from the reader is open, but all in all no more than 2^54 bytes are.
+pub fn serve_engine<R: Read, W: Write, E: Engine>(
+    alloc: Global,
+    reader: &mut R,
+    writer: &mut W,
+    engine: &mut E,
+) -> Result<Ended, ShellFault>
+    ensures ends { EndsAs E.replies engine.old
+        (R.remaining reader.old) (R.remaining reader.new)
+        (W.contents writer.old) (W.contents writer.new) result engine.new }
+
+    // What 2^40 reads of 16,384 bytes give, at the most.
+    ensures taken { TakesAtMost (2 ^ 54) (R.remaining reader.old) (R.remaining reader.new) }
+{
     let line = Line::new(alloc)?;
     let outbox = Outbox::new(alloc)?;
     let mut buffers = Buffers { line, outbox };
     let mut chunk = [0u8; CHUNK_BYTES];
-    for _ in 0..MAX_READS {
+    for _ in 0..most_reads() {
         match reader.read(&mut chunk) {
             Err(_) => return Err(ShellFault::Input),
             Ok(0) => {
                 if buffers.line.is_blank() {
                     return Ok(Ended::InputEnd);
                 }
-                let quits = answer_line(alloc, &buffers.line, &mut buffers.outbox, store, writer)?;
+                let quits = answer_line(alloc, &buffers.line, &mut buffers.outbox, engine, writer)?;
                 if quits {
                     return Ok(Ended::Quit);
                 }
                 return Ok(Ended::InputEnd);
             }
             Ok(n) => {
-                if answer_lines(alloc, &mut buffers, store, writer, &chunk[..n])? {
+                if answer_lines(alloc, &mut buffers, engine, writer, &chunk[..n])? {
                     return Ok(Ended::Quit);
                 }
             }

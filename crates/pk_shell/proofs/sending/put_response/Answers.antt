@@ -9,3 +9,6 @@ returns-in-NotText g c = rw c.in-NotText.is c.put-in-NotText.ensures
 
 pub returns-in-Unknown : goal.returns-in-Unknown
 returns-in-Unknown g c = rw c.in-Unknown.is c.put-in-Unknown.ensures
+
+pub returns-in-ReadOnly : goal.returns-in-ReadOnly
+returns-in-ReadOnly g c = rw c.in-ReadOnly.is c.put-in-ReadOnly.ensures

@@ -1,8 +1,0 @@
--- What was read so far is answered, line by line, and each read gave a byte at least.
-use Rattle.pk_shell.specs.Progress.{Progress}
-use Rattle.pk_shell.specs.StoreStep.{StoreStep}
-use Rattle.pk_shell.proofs.serving.serve.Given as goal
-
-abbrev pub invariant-loop : goal.invariant-loop
-invariant-loop g l =
-    Progress (StoreStep g.D.Disk) l.fn.store (g.R.Read.remaining l.fn.reader) (g.R.Read.remaining l.reader) (g.W.Write.contents l.fn.writer) l.counter l.buffers.line l.store (g.W.Write.contents l.writer)
