@@ -1,0 +1,4 @@
+-- The lemma pages.
+pub mod OrderLemmas
+pub mod ShownLemmas
+pub mod ReadLemmas

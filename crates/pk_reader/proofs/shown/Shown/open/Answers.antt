@@ -1,0 +1,9 @@
+-- A store that was just opened means what its disk holds.
+use Rattle.pk_reader.proofs.ShownLemmas.{means_opened}
+use Rattle.pk_reader.proofs.shown.Shown.open.Goals as goal
+
+pub invariant_of-result : goal.invariant_of-result
+invariant_of-result g c = record {
+  clear = c.in-Ok.ensures.opens.fresh.clear;
+  means = means_opened g.D.Disk c.args.disk c.in-Ok.store c.in-Ok.ensures.opens;
+}

@@ -1,0 +1,13 @@
+-- The file is no older than what is shown of it.
+use Rattle.std.proofs.Common.{refl}
+use Rattle.pk_snapshot.proofs.LatestLemmas.{shown_low}
+use Rattle.pk_reader.proofs.OrderLemmas.{if_ok_then, still_fresh}
+use Rattle.pk_reader.proofs.view.OpenView.open.Goals as goal
+
+pub returns-clause-fresh : goal.returns-clause-fresh
+returns-clause-fresh g c = λ h.
+    let f = g.F.SharedFile in
+    if_ok_then _ _ c.open_file.result
+    (λ s low. let d = s.store.volume.disk.disk in
+    still_fresh _ _ _ _ low refl (shown_low (f.marked d.file) (f.content d.file) d.half d.generation d.len d.shown.extents.items (d.snapshot h) (g.met.F.SharedFile.marked_before d.file h)))
+    (c.open_file.ensures.fresh h)

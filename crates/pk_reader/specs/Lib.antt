@@ -1,0 +1,5 @@
+-- The definitions that contracts of readers cite.
+pub mod Asking
+pub mod Reading
+pub mod Held
+pub mod Replies

@@ -1,0 +1,47 @@
+//! A question, asked until there is a reply.
+
+ghost use Rattle.pk_model.specs.Views.{reply_of};
+ghost use Rattle.pk_reader.specs.Asking.{request_of};
+ghost use Rattle.pk_reader.specs.Held.{held_bytes};
+ghost use Rattle.pk_reader.specs.Reading.{ReadStep};
+
+use crate::holding::ask_held;
+use crate::opening::{Caches, close};
+use crate::question::Question;
+use crate::turning::{Held, turn};
+use pk_model::Reply;
+use pk_snapshot::{HeldFile, SnapshotFault};
+use std::alloc::Global;
+use std::time::Clock;
+
+/// How often a file is opened at most for a question, beside its writers.
+const MOST_OPENINGS: u32 = 8;
+
+/// Asks until there is a reply: eight times beside writers, and once without.
+pub fn ask<F: HeldFile + Drop, C: Clock>(
+    alloc: Global,
+    caches: Caches,
+    clock: &C,
+    first: Held<F>,
+    question: Question<'_>,
+) -> (Reply, Held<F>)
+    ensures { ReadStep F.SharedFile.honest
+        (held_bytes first F.SharedFile.content (λ s. F.SharedFile.content s.store.volume.disk.disk.file))
+        (request_of question.entry) (reply_of result.0)
+        (held_bytes result.1 F.SharedFile.content (λ s. F.SharedFile.content s.store.volume.disk.disk.file)) }
+{
+    let mut held = first;
+    for _ in 0..MOST_OPENINGS {
+        let (reply, now) = turn(alloc, caches, held, question);
+        held = now;
+        if let Some(reply) = reply {
+            return (reply, held);
+        }
+    }
+    let file = match held {
+        Ok(view) => close(view, SnapshotFault::Changed).file,
+        Err(file) => file,
+    };
+    let (reply, file) = ask_held(alloc, caches, clock, file, question);
+    (reply, Err(file))
+}

@@ -1,0 +1,55 @@
+//! A store in a file that is only read, while another program may write the file: no lock is taken,
+//! and nobody waits.
+//!
+//! # What a caller sees
+//!
+//! A `Reader` answers `find`, `show` and `count`, each for a body that was in force behind an open
+//! gate, and that is no older than what was in force when it was asked (`IsReadFrom`). So each commit
+//! that was acknowledged before is seen. What changes the store is refused as read only, and changes
+//! nothing.
+//!
+//! | it is asked | it does |
+//! |---|---|
+//! | a question | looks whether what it shows is the latest, opens anew if not, and asks its store |
+//! | a question, and what it reads is outdated meanwhile | opens anew, and begins again |
+//! | the same for the eighth time | keeps writers away, for which it waits a second at most, and begins again; if it can't, it answers `Refusal::Disk` |
+//!
+//! A reader that has to begin again doesn't wait, and takes no lock. One that would starve beside a
+//! writer that commits faster than it reads has the file to itself for one question. A session that
+//! begins to write meanwhile is told that another has the file.
+//!
+//! # What is refused
+//!
+//! | refusal | when |
+//! |---|---|
+//! | `NoSuchDocument` | no live document of that body has the number |
+//! | `Memory` | a growth of memory was refused |
+//! | `Damaged` | bytes of that body are no spelling of what should stand there |
+//! | `Disk` | a read failed, there is no store in the file any more, or writers could not be kept away |
+//!
+//! After `Damaged` and `Disk` the next question opens anew.
+//!
+//! # The file
+//!
+//! `OpensShared` opens a file at a path to be read alone. The system's own promises nothing.
+//!
+//! # Layers
+//!
+//! The store is that of pk_store, over a `PageCache` of a `SnapshotDisk` of the file. `Shown` is a
+//! store that is only read, on any disk: each collection that the disk holds is what it means.
+#![tactic(auto)]
+
+mod asking;
+mod holding;
+mod opening;
+mod question;
+mod reader;
+mod shown;
+mod system;
+mod turning;
+mod view;
+
+pub use opening::{Caches, Open};
+pub use reader::Reader;
+pub use system::{OpensShared, SharedFault};
+pub use view::View;

@@ -1,0 +1,100 @@
+//! A question, asked once of the newest that is in force.
+
+ghost use Rattle.std.specs.Prelude.{◌≡◌, ◌≤◌, IfErr, IfOk, IfSome};
+ghost use Rattle.pk_manifest.specs.Evolves.{in_force};
+ghost use Rattle.pk_model.specs.Views.{reply_of};
+ghost use Rattle.pk_reader.specs.Asking.{request_of};
+ghost use Rattle.pk_reader.specs.Held.{held_bytes};
+ghost use Rattle.pk_reader.specs.Reading.{IsFailure, ReadStep};
+
+use crate::opening::{Caches, Open, close, open_file};
+use crate::question::Question;
+use pk_disk::Disk;
+use pk_model::{Refusal, Reply};
+use pk_pages::PageCache;
+use pk_snapshot::{Refused, SharedFile, SnapshotDisk, SnapshotFault};
+use std::alloc::Global;
+
+/// What is held of a file: a store over what is shown of it, or the file alone.
+pub type Held<F> = Result<Open<F>, F>;
+
+// A store over the newest that is in force: the one that is held, if it shows that.
+fn newest<F: SharedFile + Drop>(
+    alloc: Global,
+    caches: Caches,
+    held: Held<F>,
+) -> Result<Open<F>, Refused<F>>
+    ensures fresh { F.honest → IfOk result
+        (λ s. in_force (held_bytes held F.content (λ s. F.content s.store.volume.disk.disk.file))
+        ≤ in_force (⟦<PageCache<SnapshotDisk<F>> as Disk>⟧.content s.store.volume.disk)) }
+    ensures later { F.honest → IfErr result
+        (λ r. in_force (held_bytes held F.content (λ s. F.content s.store.volume.disk.disk.file))
+        ≤ in_force (F.content r.file)) }
+{
+    match held {
+        Err(file) => open_file(alloc, caches, file),
+        Ok(view) => renewed(alloc, caches, view),
+    }
+}
+
+// A store that shows the newest: it, or another.
+fn renewed<F: SharedFile + Drop>(
+    alloc: Global,
+    caches: Caches,
+    mut view: Open<F>,
+) -> Result<Open<F>, Refused<F>>
+    ensures fresh { F.honest → IfOk result
+        (λ s. in_force (F.content view.store.volume.disk.disk.file)
+        ≤ in_force (⟦<PageCache<SnapshotDisk<F>> as Disk>⟧.content s.store.volume.disk)) }
+    ensures later { F.honest → IfErr result
+        (λ r. in_force (F.content view.store.volume.disk.disk.file) ≤ in_force (F.content r.file)) }
+{
+    if let Ok(true) = view.is_latest() {
+        return Ok(view);
+    }
+    let Refused { file, .. } = close(view, SnapshotFault::Changed);
+    open_file(alloc, caches, file)
+}
+
+// What is told where there is no store: nothing where another body took the place meanwhile, or
+// where both gates were seen shut one after the other.
+fn reply_without(why: SnapshotFault) -> Option<Reply>
+    ensures { IfSome result (λ reply. IsFailure (reply_of reply)) }
+{
+    match why {
+        SnapshotFault::Changed | SnapshotFault::NotAStore => None,
+        SnapshotFault::Memory => Some(Reply::Refused(Refusal::Memory)),
+        SnapshotFault::Damaged => Some(Reply::Refused(Refusal::Damaged)),
+        SnapshotFault::TooSmall | SnapshotFault::Disk => Some(Reply::Refused(Refusal::Disk)),
+    }
+}
+
+/// Asks once, and tells what is held then. There is no reply where what is read is outdated: the
+/// question is to be asked again.
+pub fn turn<F: SharedFile + Drop>(
+    alloc: Global,
+    caches: Caches,
+    held: Held<F>,
+    question: Question<'_>,
+) -> (Option<Reply>, Held<F>)
+    ensures step { IfSome result.0 (λ reply. ReadStep F.honest
+        (held_bytes held F.content (λ s. F.content s.store.volume.disk.disk.file))
+        (request_of question.entry) (reply_of reply)
+        (held_bytes result.1 F.content (λ s. F.content s.store.volume.disk.disk.file))) }
+    ensures later { F.honest
+        → in_force (held_bytes held F.content (λ s. F.content s.store.volume.disk.disk.file))
+        ≤ in_force (held_bytes result.1 F.content (λ s. F.content s.store.volume.disk.disk.file)) }
+{
+    let mut view = match newest(alloc, caches, held) {
+        Ok(view) => view,
+        Err(Refused { file, why }) => {
+            return (reply_without(why), Err(file));
+        }
+    };
+    let reply = view.ask(alloc, question);
+    if let Reply::Refused(Refusal::Disk) = reply {
+        let Refused { file, why } = close(view, SnapshotFault::Disk);
+        return (reply_without(why), Err(file));
+    }
+    (Some(reply), Ok(view))
+}

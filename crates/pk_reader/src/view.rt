@@ -1,0 +1,72 @@
+//! A store over what is shown of a file, and the file.
+
+ghost use Rattle.std.specs.Prelude.{◌≤◌, ℕ, List, IfErr, IfOk};
+ghost use Rattle.pk_manifest.specs.Evolves.{in_force};
+ghost use Rattle.pk_model.specs.Views.{reply_of};
+ghost use Rattle.pk_reader.specs.Asking.{request_of};
+ghost use Rattle.pk_reader.specs.Held.{held_bytes};
+ghost use Rattle.pk_reader.specs.Reading.{ReadStep};
+
+use crate::asking::ask;
+use crate::opening::{Caches, Open, open_file};
+use crate::question::Question;
+use pk_model::Reply;
+use pk_snapshot::{HeldFile, Refused};
+use std::alloc::Global;
+use std::time::Clock;
+
+/// A store over what is shown of a file: what a reader holds while it answers.
+pub trait View: Sized {
+    type File: HeldFile + Drop;
+
+    /// The bytes of the file.
+    ghost bytes: { Self → List ℕ };
+
+    /// Opens what is in force on a file. The file is handed back with a refusal.
+    fn open(alloc: Global, caches: Caches, file: Self::File) -> Result<Self, Refused<Self::File>>
+        ensures fresh { Self.File.SharedFile.honest → IfOk result
+            (λ s. in_force (Self.File.SharedFile.content file) ≤ in_force (bytes s)) }
+        ensures later { Self.File.SharedFile.honest → IfErr result
+            (λ r. in_force (Self.File.SharedFile.content file)
+            ≤ in_force (Self.File.SharedFile.content r.file)) };
+
+    /// Asks until there is a reply: eight times beside writers, and once without.
+    fn ask<C: Clock>(
+        alloc: Global,
+        caches: Caches,
+        clock: &C,
+        first: Result<Self, Self::File>,
+        question: Question<'_>,
+    ) -> (Reply, Result<Self, Self::File>)
+        ensures { ReadStep Self.File.SharedFile.honest
+            (held_bytes first Self.File.SharedFile.content bytes)
+            (request_of question.entry) (reply_of result.0)
+            (held_bytes result.1 Self.File.SharedFile.content bytes) };
+}
+
+impl<F: HeldFile + Drop> View for Open<F> {
+    type File = F;
+
+    ghost bytes = { λ s. F.SharedFile.content s.store.volume.disk.disk.file };
+
+    fn open(alloc: Global, caches: Caches, file: F) -> Result<Open<F>, Refused<F>> {
+        open_file(alloc, caches, file)
+    }
+
+    fn ask<C: Clock>(
+        alloc: Global,
+        caches: Caches,
+        clock: &C,
+        first: Result<Open<F>, F>,
+        question: Question<'_>,
+    ) -> (Reply, Result<Open<F>, F>)
+        ensures { ReadStep F.SharedFile.honest
+            (held_bytes first F.SharedFile.content
+            (λ s. F.SharedFile.content s.store.volume.disk.disk.file))
+            (request_of question.entry) (reply_of result.0)
+            (held_bytes result.1 F.SharedFile.content
+            (λ s. F.SharedFile.content s.store.volume.disk.disk.file)) }
+    {
+        ask(alloc, caches, clock, first, question)
+    }
+}

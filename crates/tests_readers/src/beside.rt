@@ -1,0 +1,363 @@
+//! A reader beside each step of a writer: what it answers is of one commit, and no older than what
+//! was acknowledged when it began.
+
+use crate::recorder::Recorder;
+use pk_changingfile::{Course, RecordedFile};
+use pk_disk::Disk;
+use pk_model::{Command, DocNo, Query, Refusal};
+use pk_snapshot::{Refused, SnapshotDisk, SnapshotFault};
+use pk_store::{OpenFault, Store};
+use std::alloc::{AllocError, Global};
+use std::ops::Range;
+use std::process::Abort;
+use std::test::Fail;
+
+/// What a session leaves: the replies to `count`, `find alpha` and `show 1`.
+struct Row {
+    documents: u64,
+    next: u32,
+    found: &'static [DocNo],
+    text: Option<&'static str>,
+}
+
+/// The first session adds two documents, the second adds a third and deletes the first, the third
+/// merges, and the last adds a fourth. Each but the third commits.
+static ROWS: [Row; 4] = [
+    Row {
+        documents: 2,
+        next: 3,
+        found: &[DocNo(1), DocNo(2)],
+        text: Some("alpha one"),
+    },
+    Row {
+        documents: 2,
+        next: 4,
+        found: &[DocNo(2), DocNo(3)],
+        text: None,
+    },
+    Row {
+        documents: 2,
+        next: 4,
+        found: &[DocNo(2), DocNo(3)],
+        text: None,
+    },
+    Row {
+        documents: 3,
+        next: 5,
+        found: &[DocNo(2), DocNo(3), DocNo(4)],
+        text: None,
+    },
+];
+
+fn add(alloc: Global, text: &str) -> Result<Command, AllocError> {
+    Ok(Command::Add(String::from_str(alloc, text)?))
+}
+
+/// A disk on which the sessions ran.
+pub fn recorded(alloc: Global) -> Result<Recorder, AllocError> {
+    let first = [
+        add(alloc, "alpha one")?,
+        add(alloc, "alpha two")?,
+        Command::Commit,
+    ];
+    let second = [
+        add(alloc, "alpha three")?,
+        Command::Delete(DocNo(1)),
+        Command::Commit,
+    ];
+    let third = [Command::Merge];
+    let last = [add(alloc, "alpha four")?, Command::Commit];
+    let disk = Recorder::new(alloc, 32_768)?;
+    let disk = Store::create_and_run(alloc, disk, &first).end()?;
+    let disk = Store::open_and_run(alloc, disk, &second).end()?;
+    let disk = Store::open_and_run(alloc, disk, &third).end()?;
+    Store::open_and_run(alloc, disk, &last).end()
+}
+
+/// How often a reader was told so.
+#[derive(Clone, Copy, Drop)]
+struct Tally {
+    /// All that it asked.
+    answered: u64,
+    /// A part, and then that what it reads is outdated.
+    outdated: u64,
+    /// That it is to open again, since another body takes the place of the one that it met.
+    not_opened: u64,
+    calls: u64,
+}
+
+/// Whether what a store says is what a row has. Where the disk is outdated nothing is said.
+fn says<D: Disk>(
+    alloc: Global,
+    store: &mut Store<D>,
+    row: &Row,
+) -> Result<(bool, bool), AllocError> {
+    let query = Query::Term(String::from_str(alloc, "alpha")?);
+    let (finds, is_found) = match store.find(alloc, &query) {
+        Ok(numbers) => (numbers.as_slice() == row.found, true),
+        Err(why) => (why == Refusal::Disk, false),
+    };
+    let (shows, is_shown) = match store.show(alloc, DocNo(1)) {
+        Ok(text) => (row.text == Some(text.as_str()), true),
+        Err(Refusal::NoSuchDocument) => (row.text.is_none(), true),
+        Err(why) => (why == Refusal::Disk, false),
+    };
+    Ok((finds && shows, is_found && is_shown))
+}
+
+/// The first row from a place on that counts as a store does.
+fn row_of<D: Disk>(store: &Store<D>, least: usize) -> Option<&'static Row> {
+    let counts = store.counts().ok()?;
+    ROWS.iter().skip(least).find(|row| row.documents == counts.documents && row.next == counts.next)
+}
+
+/// Asks a store over a snapshot.
+fn ask(
+    rt: &impl Abort,
+    alloc: Global,
+    mut store: Store<SnapshotDisk<RecordedFile<'_>>>,
+    least: usize,
+    tally: &mut Tally,
+) -> Result<(), AllocError> {
+    let Some(row) = row_of(&store, least) else {
+        assert!(rt; false, "older than row {least}, or of no row");
+        return Ok(());
+    };
+    let (is_right, is_whole) = says(alloc, &mut store, row)?;
+    assert!(rt; is_right, "not of row {least} or a later one");
+    let disk = store.close();
+    assert_eq!(rt; disk.is_outdated(), !is_whole);
+    if is_whole {
+        tally.answered = tally.answered.saturating_add(1);
+    } else {
+        tally.outdated = tally.outdated.saturating_add(1);
+    }
+    tally.calls = disk.into_file().into_calls();
+    Ok(())
+}
+
+/// Opens a snapshot of a file, and a store over it, and asks that.
+fn read(
+    rt: &impl Abort,
+    alloc: Global,
+    file: RecordedFile<'_>,
+    least: usize,
+    tally: &mut Tally,
+) -> Result<(), AllocError> {
+    let disk = match SnapshotDisk::open(alloc, file) {
+        Ok(disk) => disk,
+        Err(Refused { why, .. }) => {
+            assert!(rt; why == SnapshotFault::Changed || why == SnapshotFault::NotAStore);
+            tally.not_opened = tally.not_opened.saturating_add(1);
+            return Ok(());
+        }
+    };
+    match Store::open_on(alloc, disk, 0) {
+        Ok(store) => ask(rt, alloc, store, least, tally),
+        Err(refused) => {
+            assert!(rt; refused.why == OpenFault::Disk);
+            assert!(rt; refused.disk.is_outdated());
+            tally.outdated = tally.outdated.saturating_add(1);
+            Ok(())
+        }
+    }
+}
+
+/// The row that a session which ended before a place left.
+pub fn row_before(ends: &[usize], place: usize) -> usize {
+    ends.iter()
+        .filter(|end| **end <= place)
+        .count()
+        .saturating_sub(1)
+}
+
+/// The calls in whose course a file is changed: every third, since a reading takes milliseconds.
+const EVERY: usize = 3;
+
+/// Reads with a file that goes so from a content on, in the course of one call after another.
+fn read_after_calls(
+    rt: &impl Abort,
+    alloc: Global,
+    disk: &Recorder,
+    start: usize,
+    course: Course,
+    tally: &mut Tally,
+) -> Result<(), AllocError> {
+    let least = row_before(&disk.ends, start);
+    let calls = tally.calls;
+    for left in (0..calls).step_by(EVERY) {
+        let file = RecordedFile::new(&disk.contents, start, course, left);
+        read(rt, alloc, file, least, tally)?;
+    }
+    Ok(())
+}
+
+/// A tally of nothing.
+const NONE: Tally = Tally {
+    answered: 0,
+    outdated: 0,
+    not_opened: 0,
+    calls: 0,
+};
+
+/// The contents from the end of the first session on.
+fn places(disk: &Recorder) -> Range<usize> {
+    disk.ends.first().copied().unwrap_or(0)..disk.contents.len()
+}
+
+#[test]
+fn a_file_that_stands_still(rt: HostRuntime) -> Result<(), Fail> {
+    let alloc = rt.alloc();
+    let disk = recorded(alloc)?;
+    let mut tally = NONE;
+    let places = places(&disk);
+    let count = places.len() as u64;
+    for place in places {
+        let file = RecordedFile::new(&disk.contents, place, Course::To(place), 0);
+        read(&rt, alloc, file, row_before(&disk.ends, place), &mut tally)?;
+    }
+    assert_eq!(rt; tally.answered, count);
+    Ok(())
+}
+
+/// How many calls a reader makes of a file that has one content.
+fn calls_of(
+    rt: &impl Abort,
+    alloc: Global,
+    disk: &Recorder,
+    place: usize,
+) -> Result<u64, AllocError> {
+    let mut tally = NONE;
+    let file = RecordedFile::new(&disk.contents, place, Course::To(place), 0);
+    read(rt, alloc, file, row_before(&disk.ends, place), &mut tally)?;
+    Ok(tally.calls)
+}
+
+/// Reads beside a writer that leaps once, from each of some contents to each of others.
+fn leap(
+    rt: &impl Abort,
+    alloc: Global,
+    disk: &Recorder,
+    starts: Range<usize>,
+    ends: Range<usize>,
+) -> Result<Tally, AllocError> {
+    let mut tally = NONE;
+    for start in starts {
+        let calls = calls_of(rt, alloc, disk, start)?;
+        for end in ends.start..ends.end {
+            tally.calls = calls;
+            read_after_calls(rt, alloc, disk, start, Course::To(end), &mut tally)?;
+        }
+    }
+    Ok(tally)
+}
+
+/// The places from one to another, and that.
+fn up_to(first: usize, last: usize) -> Range<usize> {
+    first..last.saturating_add(1)
+}
+
+/// The places behind one, up to another, and that.
+fn behind(first: usize, last: usize) -> Range<usize> {
+    up_to(first.saturating_add(1), last)
+}
+
+/// The place of the content that a session left.
+pub fn end_of(disk: &Recorder, session: usize) -> usize {
+    disk.ends.get(session).copied().unwrap_or(0)
+}
+
+/// A content, and the same made longer by bytes that are no whole units.
+fn made_longer(alloc: Global, content: &[u8]) -> Result<Vec<Vec<u8>>, AllocError> {
+    let mut longer = content.to_vec(alloc)?;
+    longer.extend_from_slice(&[0xA7; 700])?;
+    let mut contents = Vec::new(alloc);
+    contents.push(content.to_vec(alloc)?)?;
+    contents.push(longer)?;
+    Ok(contents)
+}
+
+#[test]
+fn a_file_that_is_made_longer(rt: HostRuntime) -> Result<(), Fail> {
+    let alloc = rt.alloc();
+    let disk = recorded(alloc)?;
+    let mut tally = NONE;
+    let mut readings = 0u64;
+    for end in &disk.ends {
+        let Some(content) = disk.contents.get(*end) else {
+            continue;
+        };
+        let contents = made_longer(alloc, content)?;
+        let least = row_before(&disk.ends, *end);
+        for left in 0..calls_of(&rt, alloc, &disk, *end)? {
+            let file = RecordedFile::new(&contents, 0, Course::To(1), left);
+            read(&rt, alloc, file, least, &mut tally)?;
+            readings = readings.saturating_add(1);
+        }
+    }
+    assert!(rt; readings > 0);
+    assert_eq!(rt; tally.answered, readings);
+    Ok(())
+}
+
+// The gate that is shown stays open beside one replacement, so no snapshot is outdated. An opening whose
+// first look meets the spare half as that is written may be told to begin again.
+#[test]
+fn beside_one_commit(rt: HostRuntime) -> Result<(), Fail> {
+    let alloc = rt.alloc();
+    let disk = recorded(alloc)?;
+    let (start, end) = (end_of(&disk, 0), end_of(&disk, 1));
+    let tally = leap(&rt, alloc, &disk, up_to(start, start), behind(start, end))?;
+    assert!(rt; tally.answered > 0);
+    assert_eq!(rt; tally.outdated, 0);
+    Ok(())
+}
+
+#[test]
+fn beside_two_replacements(rt: HostRuntime) -> Result<(), Fail> {
+    let alloc = rt.alloc();
+    let disk = recorded(alloc)?;
+    let (start, second, third) = (end_of(&disk, 0), end_of(&disk, 1), end_of(&disk, 2));
+    let tally = leap(
+        &rt,
+        alloc,
+        &disk,
+        up_to(start, start),
+        behind(second, third),
+    )?;
+    assert!(rt; tally.answered > 0 && tally.outdated > 0);
+    Ok(())
+}
+
+#[test]
+fn opened_amid_a_commit(rt: HostRuntime) -> Result<(), Fail> {
+    let alloc = rt.alloc();
+    let disk = recorded(alloc)?;
+    let (start, second, third) = (end_of(&disk, 0), end_of(&disk, 1), end_of(&disk, 2));
+    let tally = leap(
+        &rt,
+        alloc,
+        &disk,
+        start.saturating_add(1)..second,
+        up_to(third, third),
+    )?;
+    assert!(rt; tally.answered > 0 && tally.outdated > 0);
+    Ok(())
+}
+
+#[test]
+fn beside_a_quick_writer(rt: HostRuntime) -> Result<(), Fail> {
+    let alloc = rt.alloc();
+    let disk = recorded(alloc)?;
+    let mut tally = NONE;
+    for count in [1, 3, 12] {
+        for start in &disk.ends {
+            tally.calls = calls_of(&rt, alloc, &disk, *start)?;
+            read_after_calls(&rt, alloc, &disk, *start, Course::By(count), &mut tally)?;
+        }
+    }
+    assert!(rt; tally.answered > 0);
+    assert!(rt; tally.outdated > 0);
+    assert!(rt; tally.not_opened > 0);
+    Ok(())
+}
