@@ -2,8 +2,9 @@
 # demo and try run a session of the program; taste proves one small crate; smoke tests in five
 # minutes what no proof says; test is the merge gate, and rows, memory and client are parts of it;
 # check proves what has changed; mutants tries wrong bodies where a contract has changed; soak kills
-# what an archive over machines runs; install puts the program, its client and their manuals in place;
-# deb and dist make packages.
+# what an archive over machines runs, soak-readers a writer beside readers; picture draws the crates;
+# install puts the program, its client and their manuals in place; deb, source-package, wheel and dist
+# make packages.
 
 SESSION = examples/mail.lines
 PROGRAM = crates/pk_find/out/pk_find
@@ -19,7 +20,9 @@ SHARDS = tools/shards_python.sh -W ignore
 
 PREFIX = /usr/local
 BIN = $(DESTDIR)$(PREFIX)/bin
-LIB = $(DESTDIR)$(PREFIX)/lib/rubewola
+# Where the Python packages are below PREFIX.
+PYTHON_LIB = lib/rubewola
+LIB = $(DESTDIR)$(PREFIX)/$(PYTHON_LIB)
 MAN = $(DESTDIR)$(PREFIX)/share/man/man1
 BASH_COMPLETIONS = $(DESTDIR)$(PREFIX)/share/bash-completion/completions
 ZSH_COMPLETIONS = $(DESTDIR)$(PREFIX)/share/zsh/site-functions
@@ -30,8 +33,8 @@ PYTHON = $(shell python3 -c 'import sys; print(sys.base_prefix + "/bin/python3")
 VERSION = $(shell sed -n 's/^VERSION = "\(.*\)"/\1/p' clients/python/rubewola/commands.py)
 PACKAGES = $(CURDIR)/dist
 
-.PHONY: demo try taste smoke test seals mutants client soak rows memory check fmt bench install \
-    uninstall deb dist
+.PHONY: demo try taste smoke test seals mutants client soak soak-readers rows memory check fmt \
+    picture bench install uninstall deb source-package wheel dist
 
 # Makes a store in a file, and answers a session over a small mail archive; the program is proved and
 # built first, where it isn't there or its sources have changed.
@@ -82,6 +85,10 @@ soak:
 	PYTHONPATH=$(CURDIR)/clients/python:$(CURDIR)/clients/python/tests \
 	    RUBEWOLA_PROGRAM=$(CURDIR)/$(PROGRAM) $(SHARDS) tools/shards_soak.py
 
+# Reads for an hour beside a writer that is killed and begun anew, and judges each answer.
+soak-readers:
+	python3 tools/reading_soak.py $(PROGRAM) 3600
+
 # The engine's rows, over the built player: scripts, sweeps of failing calls, damage.
 rows:
 	python3 tools/run_tests.py rows
@@ -100,7 +107,11 @@ check:
 fmt:
 	for crate in crates/*/; do (cd "$$crate" && rt fmt) || exit 1; done
 
-# Adding and finding 30 MB of English, beside SQLite FTS5; builds the program first.
+# Draws the crates and what each stands on: docs/crates.svg.
+picture:
+	python3 tools/draw_crates.py
+
+# Adding and finding 67 MB of English, beside SQLite FTS5; builds the program first.
 bench: $(PROGRAM)
 	bench/words/run.sh $(PROGRAM)
 
@@ -119,12 +130,13 @@ install: $(PROGRAM)
 	install -d $(BIN) $(LIB)/rubewola $(LIB)/rubewola_shards $(MAN) $(BASH_COMPLETIONS) \
 	    $(ZSH_COMPLETIONS) $(UNITS_OF_SYSTEMD)
 	install -m 755 $(PROGRAM) $(BIN)/pk_find
-	sed '1s|.*|#!$(PYTHON) -SI|' clients/python/entry.py > $(BIN)/rubewola
-	chmod 755 $(BIN)/rubewola
-	install -m 755 clients/python/rubewola-shards.sh $(BIN)/rubewola-shards
+	sed -e '1s|.*|#!$(PYTHON) -SI|' -e 's|lib/rubewola|$(PYTHON_LIB)|' clients/python/entry.py \
+	    > $(BIN)/rubewola
+	sed 's|lib/rubewola|$(PYTHON_LIB)|' clients/python/rubewola-shards.sh > $(BIN)/rubewola-shards
+	chmod 755 $(BIN)/rubewola $(BIN)/rubewola-shards
 	install -m 644 clients/python/rubewola/*.py $(LIB)/rubewola
 	install -m 644 clients/python/rubewola_shards/*.py $(LIB)/rubewola_shards
-	$(PYTHON) -m compileall -q -s "$(DESTDIR)" $(LIB)/rubewola
+	$(PYTHON) -m compileall -q -s "$(DESTDIR)" $(LIB)/rubewola $(LIB)/rubewola_shards
 	install -m 644 man/pk_find.1 man/rubewola.1 man/rubewola-shards.1 $(MAN)
 	install -m 644 clients/completions/rubewola.bash $(BASH_COMPLETIONS)/rubewola
 	install -m 644 clients/completions/_rubewola $(ZSH_COMPLETIONS)/_rubewola
@@ -138,15 +150,33 @@ uninstall:
 	rm -f $(MAN)/pk_find.1 $(MAN)/rubewola.1 $(MAN)/rubewola-shards.1
 	rm -f $(BASH_COMPLETIONS)/rubewola $(ZSH_COMPLETIONS)/_rubewola
 	rm -f $(UNITS_OF_SYSTEMD)/rubewola-load.service $(UNITS_OF_SYSTEMD)/rubewola-load.timer
-	rm -rf $(LIB)
+	rm -rf $(LIB)/rubewola $(LIB)/rubewola_shards
+	-rmdir --ignore-fail-on-non-empty $(LIB)
 
-# A package for Debian, in dist/, of what `make install` puts in place.
+# A package for Debian, in dist/, of what `make install` puts in place; the Python packages are where
+# Debian's Python looks for them.
 deb: $(PROGRAM)
 	stage=$$(mktemp -d) && trap 'rm -rf "$$stage"' EXIT && \
 	$(MAKE) --no-print-directory install DESTDIR="$$stage" PREFIX=/usr PYTHON=/usr/bin/python3 \
+	    PYTHON_LIB=lib/python3/dist-packages \
 	    ZSH_COMPLETIONS="$$stage/usr/share/zsh/vendor-completions" \
 	    UNITS_OF_SYSTEMD="$$stage/usr/lib/systemd/user" && \
-	packages/deb.sh "$$stage" $(VERSION) "$(PACKAGES)"
+	packages/deb.sh "$$stage" "$(PACKAGES)"
+
+# A source package for Debian, in dist/, of what is committed and the built program, from which
+# dpkg-buildpackage makes the other.
+source-package: $(PROGRAM)
+	mkdir -p "$(PACKAGES)"
+	stage=$$(mktemp -d) && trap 'rm -rf "$$stage"' EXIT && top="$$stage/rubewola-$(VERSION)" && \
+	git archive --prefix=rubewola-$(VERSION)/ HEAD | tar -x -C "$$stage" && \
+	mkdir -p "$$top/crates/pk_find/out" && strip -o "$$top/crates/pk_find/out/pk_find" $(PROGRAM) && \
+	(cd "$$stage" && dpkg-source --build rubewola-$(VERSION)) && \
+	mv "$$stage"/rubewola_$(VERSION).dsc "$$stage"/rubewola_$(VERSION).tar.* "$(PACKAGES)"
+
+# A wheel of the client, in dist/, without the program, which it finds by PATH.
+wheel:
+	mkdir -p "$(PACKAGES)"
+	python3 clients/python/wheels.py "$(PACKAGES)"
 
 # The sources of what is committed, in dist/, and the same with the built program, which can be
 # installed where there is no toolchain.

@@ -57,7 +57,7 @@ LEFT = ("!close", "!open", "!open", "count", "!check", "find NOT zzz")
 # lines make a call that is noted.
 REFUSALS = ("memory", "refused memory")
 FAULTS = ("disk", "refused disk")
-NOTED = ("!set", "!create", "!open", "commit", "merge", "tidy")
+NOTED = ("!set", "!create", "!open", "!grow", "commit", "merge", "tidy")
 
 # The lines from which calls are counted.
 OPENINGS = ("!create", "!open")

@@ -10,6 +10,10 @@ has to hold what it held after the last commit that was answered, or after the o
 check has to tell the same. One run more, without a kill, shows that the script is answered as it
 should be.
 
+Then 200 growths of one store are killed, each with its own pause behind its start. Each leaves the
+units that the store had or those that were asked for, a growth that was told the latter, and all
+that is committed; what is committed behind it stays, too.
+
 It prints one line, and ends with 1 where a run failed; why is told on standard error.
 """
 
@@ -23,6 +27,7 @@ import time
 KILLS = 50
 COMMANDS = 200
 UNITS = 1024
+GROWTHS, PAUSES, MORE = 200, 40, 64  # Of the store that grows; units that each growth adds.
 
 
 def play(commands):
@@ -147,6 +152,65 @@ def fault_of(program, path, commands, point, wanted):
     return None
 
 
+def growth(program, path, units):
+    """What a growth to so many units tells."""
+    ran = subprocess.run([program, "grow", path, "--units", str(units)], capture_output=True,
+                         text=True, timeout=30, check=False)
+    return ran.stdout
+
+
+def killed_growth(program, path, units, pause):
+    """What got out of a growth that is killed after a pause."""
+    with subprocess.Popen([program, "grow", path, "--units", str(units)],
+                          stdout=subprocess.PIPE) as ran:
+        time.sleep(pause)
+        ran.send_signal(signal.SIGKILL)
+        return ran.stdout.read().decode()
+
+
+def length_of_growth(program, path):
+    """The seconds that a growth takes: the median of five, each by a unit."""
+    seconds = []
+    for units in range(UNITS + 1, UNITS + 6):
+        start = time.monotonic()
+        growth(program, path, units)
+        seconds.append(time.monotonic() - start)
+    return sorted(seconds)[2]
+
+
+def fault_of_growth(program, path, units, pause, mark):
+    """Whether a killed growth from so many units was done, and what is wrong with it, if anything."""
+    printed = killed_growth(program, path, units + MORE, pause)
+    is_done = growth(program, path, units) != f"has {units} units\n"
+    if is_done and growth(program, path, units + MORE) != f"has {units + MORE} units\n":
+        return is_done, "the store has other units"
+    if printed == f"grown to {units + MORE} units\n" and not is_done:
+        return is_done, "a growth that was told is lost"
+    commands, replies = check(mark, range(1, mark[1] + 1))
+    if session(program, path, commands) != replies or not is_sound(program, path, mark):
+        return is_done, "the store holds something else"
+    return is_done, None
+
+
+def failed_growths(program, path):
+    """How many of the killed growths failed."""
+    words, units, failed = {}, UNITS + 5, 0
+    subprocess.run([program, "create", path, "--units", str(UNITS)], capture_output=True, check=True)
+    seconds = length_of_growth(program, path)
+    for kill in range(GROWTHS):
+        if kill % 10 == 0:
+            number = kill // 10 + 1
+            words[number] = f"w{number}"
+            session(program, path, [f"add w{number} red", "commit"])
+        pause = 1.25 * seconds * (kill % PAUSES) / PAUSES
+        is_done, fault = fault_of_growth(program, path, units, pause, (words, len(words) + 1))
+        units += MORE * is_done
+        if fault:
+            failed += 1
+            print(f"growth {kill}: {fault}", file=sys.stderr)
+    return failed
+
+
 def main():
     """Runs them all."""
     program, commands, failed = os.path.abspath(sys.argv[1]), script(), 0
@@ -162,7 +226,8 @@ def main():
             if fault:
                 failed += 1
                 print(f"kill {kill}: {fault}", file=sys.stderr)
-    print(f"kill test: {KILLS} kills, {failed} failed")
+        failed += failed_growths(program, os.path.join(folder, "grown"))
+    print(f"kill test: {KILLS} sessions and {GROWTHS} growths killed, {failed} failed")
     sys.exit(1 if failed else 0)
 
 

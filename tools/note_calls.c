@@ -3,7 +3,8 @@
 //
 // FAIL_CALL is the number of the call that fails, counted from 1, with the error number FAIL_WITH,
 // or else 5, EIO. Writes to the standard outputs are noted, and not counted. MOST is how many bytes
-// a read or a write of a file moves at most.
+// a read or a write of a file moves at most. TELL and LET are the numbers of open files: before each
+// call that is counted its name is written to TELL, a line, and a byte is awaited from LET.
 typedef unsigned long size_t;
 
 extern void *dlsym(void *, const char *);
@@ -34,8 +35,17 @@ static void note(const char *call, const char *path, long file, long at, long n)
     close(notes);
 }
 
-static int fails(void) {
+static void wait_for_leave(const char *call) {
+    long tell = number_of("TELL", -1);
+    char leave;
+    if (tell < 0) return;
+    dprintf(tell, "%s\n", call);
+    ((moves *)NEXT("read"))(number_of("LET", -1), &leave, 1, 0);
+}
+
+static int fails(const char *call) {
     static long calls;
+    wait_for_leave(call);
     if (++calls != number_of("FAIL_CALL", 0)) return 0;
     *__errno_location() = number_of("FAIL_WITH", 5);
     return 1;
@@ -48,42 +58,42 @@ static size_t most(size_t n) {
 
 int open(const char *path, int flags, int mode) {
     note(flags & CREATE && flags & EXCLUSIVE ? "make" : "open", path, 0, 0, 0);
-    return fails() ? -1 : ((opens *)NEXT("open"))(path, flags, mode);
+    return fails("open") ? -1 : ((opens *)NEXT("open"))(path, flags, mode);
 }
 
 int flock(int file, int how) {
     note("lock", 0, file, 0, how);
-    return fails() ? -1 : ((int (*)(int, int))NEXT("flock"))(file, how);
+    return fails("lock") ? -1 : ((int (*)(int, int))NEXT("flock"))(file, how);
 }
 
 int ftruncate(int file, long n) {
     note("set_length", 0, file, 0, n);
-    return fails() ? -1 : ((int (*)(int, long))NEXT("ftruncate"))(file, n);
+    return fails("set_length") ? -1 : ((int (*)(int, long))NEXT("ftruncate"))(file, n);
 }
 
 int statx(int file, const char *path, int flags, unsigned mask, void *told) {
     note("length", 0, file, 0, 0);
-    return fails() ? -1 : ((looks *)NEXT("statx"))(file, path, flags, mask, told);
+    return fails("length") ? -1 : ((looks *)NEXT("statx"))(file, path, flags, mask, told);
 }
 
 int fsync(int file) {
     note("sync", 0, file, 0, 0);
-    return fails() ? -1 : ((takes_one *)NEXT("fsync"))(file);
+    return fails("sync") ? -1 : ((takes_one *)NEXT("fsync"))(file);
 }
 
 int fdatasync(int file) {
     note("sync_data", 0, file, 0, 0);
-    return fails() ? -1 : ((takes_one *)NEXT("fdatasync"))(file);
+    return fails("sync_data") ? -1 : ((takes_one *)NEXT("fdatasync"))(file);
 }
 
 long pread(int file, void *to, size_t n, long at) {
     note("read", 0, file, at, n);
-    return fails() ? -1 : ((moves *)NEXT("pread"))(file, to, most(n), at);
+    return fails("read") ? -1 : ((moves *)NEXT("pread"))(file, to, most(n), at);
 }
 
 long pwrite(int file, const void *from, size_t n, long at) {
     note("write", 0, file, at, n);
-    return fails() ? -1 : ((moves *)NEXT("pwrite"))(file, (void *)from, most(n), at);
+    return fails("write") ? -1 : ((moves *)NEXT("pwrite"))(file, (void *)from, most(n), at);
 }
 
 long write(int file, const void *from, size_t n) {

@@ -10,35 +10,13 @@ goes by unittest, which tells what failed on standard error. It ends with 1 wher
 import errno
 import fcntl
 import os
+import re
 import struct
 import subprocess
-import sys
-import tempfile
-import unittest
 
 import laid_out
-import preload
-
-PROGRAM = ""
-
-
-class ProgramTest(unittest.TestCase):
-    """A test that runs the program."""
-
-    def setUp(self):
-        folder = tempfile.TemporaryDirectory()
-        self.addCleanup(folder.cleanup)
-        self.folder = folder.name
-
-    def run_program(self, *words, lines=b"", environment=None):
-        """The status of the program on these words, what it printed, and what it told as faults."""
-        ran = subprocess.run([PROGRAM, *words], cwd=self.folder, input=lines, capture_output=True,
-                             env=environment, timeout=30, check=False)
-        return ran.returncode, ran.stdout, ran.stderr
-
-    def files(self):
-        """The names in the folder of the test."""
-        return sorted(os.listdir(os.fsencode(self.folder)))
+import program_case
+from program_case import NotedTest, ProgramTest
 
 
 class WordsThatAreNotText(ProgramTest):
@@ -72,6 +50,22 @@ class WordsThatAreNotText(ProgramTest):
         self.assertEqual(self.files(), [path])
         counted = self.run_program(b"run", path, lines=b"count\n")
         self.assertEqual(counted, (0, b"count 0 next 1\n", b""))
+
+
+class Statuses(ProgramTest):
+    """The process ends with the status of its command."""
+
+    def test_each_status(self):
+        for status, words in [
+            (0, ["--help"]),
+            (1, ["run", "s"]),
+            (1, ["check", "s"]),
+            (2, ["frobnicate"]),
+            (2, ["create", "s"]),
+        ]:
+            with self.subTest(words=words):
+                self.assertEqual(self.run_program(*words)[0], status)
+        self.assertEqual(self.files(), [])
 
 
 class ManySegments(ProgramTest):
@@ -110,36 +104,112 @@ class ManySegments(ProgramTest):
         self.assertEqual(self.run_program("run", "s"), (1, b"", b"pk_find: damaged\n"))
 
 
-class CallsOfTheSystem(ProgramTest):
-    """Which calls of the system reach a file, in which order, and what is told where one fails.
-    They are noted by note_calls.c, which is loaded over the program; its head has the settings."""
+class Growing(ProgramTest):
+    """A store in a file grows. A file may be longer than its store, also by a part of a unit."""
+
+    def setUp(self):
+        super().setUp()
+        self.run_program("create", "s", "--units", "64")
+        self.run_program("run", "s", lines=b"add a b\ncommit\n")
+        self.checked = 0, b"ok 1 documents next 2 segments 1\n", b""
+
+    def grow(self, units):
+        """What a growth to so many units comes to."""
+        return self.run_program("grow", "s", "--units", str(units))
+
+    def size(self):
+        """The length of the file."""
+        return os.path.getsize(os.path.join(self.folder, "s"))
+
+    def test_what_did_not_fit_fits(self):
+        lines = b"add " + b"-" * 20_000 + b"\ncommit\n"
+        full = self.run_program("run", "s", lines=lines)
+        self.assertEqual(full, (0, b"added 2\nrefused full need 40 largest 28\n", b""))
+        self.assertEqual(self.grow(128), (0, b"grown to 128 units\n", b""))
+        self.assertEqual(self.size(), 65_536)
+        self.assertEqual(self.run_program("check", "s"), self.checked)
+        fits = self.run_program("run", "s", lines=lines + b"find b\n")
+        self.assertEqual(fits, (0, b"added 2\ncommitted\nfound 1: 1\n", b""))
+
+    def test_as_many_units_and_fewer(self):
+        with open(os.path.join(self.folder, "s"), "rb") as file:
+            before = file.read()
+        self.assertEqual(self.grow(64), (0, b"has 64 units\n", b""))
+        self.assertEqual(self.grow(65)[0], 0)
+        self.assertEqual(self.grow(64), (1, b"", b"pk_find: shorter\n"))
+        self.assertEqual(self.size(), 65 * 512)
+        with open(os.path.join(self.folder, "s"), "rb") as file:
+            self.assertEqual(file.read()[17_408:32_768], before[17_408:])
+
+    def test_what_the_command_line_refuses(self):
+        for words in (["grow"], ["grow", "s"], ["grow", "s", "--units", "63"],
+                      ["grow", "s", "--units", "2147483649"], ["grow", "--units", "64"]):
+            with self.subTest(words=words):
+                status, printed, _ = self.run_program(*words)
+                self.assertEqual((status, printed), (2, b""))
+        self.assertEqual(self.size(), 32_768)
+
+    def test_a_file_that_is_longer(self):
+        for more in (1, 511, 512, 100_000):
+            with self.subTest(more=more):
+                os.truncate(os.path.join(self.folder, "s"), 32_768 + more)
+                self.assertEqual(self.run_program("check", "s"), self.checked)
+                found = self.run_program("run", "s", lines=b"find a\n")
+                self.assertEqual(found, (0, b"found 1: 1\n", b""))
+                self.assertEqual(self.grow(64), (0, b"has 64 units\n", b""))
+        self.assertEqual(self.grow(100), (0, b"grown to 100 units\n", b""))
+        self.assertEqual(self.size(), 132_768)
+        self.assertEqual(self.run_program("check", "s"), self.checked)
+        self.assertEqual(self.grow(300), (0, b"grown to 300 units\n", b""))
+        self.assertEqual(self.size(), 300 * 512)
+        self.assertEqual(self.run_program("check", "s"), self.checked)
+
+    def test_no_store_is_made_longer(self):
+        with open(os.path.join(self.folder, "zeros"), "wb") as file:
+            file.truncate(32_768)
+        told = self.run_program("grow", "zeros", "--units", "128")
+        self.assertEqual(told, (1, b"", b"pk_find: not a store\n"))
+        self.assertEqual(os.path.getsize(os.path.join(self.folder, "zeros")), 32_768)
+        told = self.run_program("grow", "none", "--units", "128")
+        self.assertEqual(told, (1, b"", b"pk_find: missing\n"))
+        self.assertEqual(self.files(), [b"s", b"zeros"])
+
+
+class MemoryOfCommits(ProgramTest):
+    """What a commit has written is no longer kept in memory: a session has little more of that for
+    many commits than for a few. Each has words of its own, so that what is kept would grow."""
+
+    FEW, MANY, WORDS = 4, 40, 4_000
+
+    def most_memory(self, commits):
+        """The most memory, in kB, that a session of so many commits has had."""
+        store = f"store {commits}"
+        self.assertEqual(self.run_program("create", store, "--units", "65536")[0], 0)
+        with subprocess.Popen([self.program, "run", store], cwd=self.folder, stdin=subprocess.PIPE,
+                              stdout=subprocess.PIPE) as session:
+            for number in range(1, commits + 1):
+                text = " ".join(f"w{number:02}n{place:04}" for place in range(self.WORDS))
+                session.stdin.write(b"add %s\ncommit\n" % text.encode())
+                session.stdin.flush()
+                self.assertEqual(session.stdout.readline(), b"added %d\n" % number)
+                self.assertEqual(session.stdout.readline(), b"committed\n")
+            with open(f"/proc/{session.pid}/status", encoding="ascii") as status:
+                return int(re.search(r"VmHWM:\s+(\d+) kB", status.read())[1])
+
+    def test_the_buffer_is_emptied(self):
+        few, many = self.most_memory(self.FEW), self.most_memory(self.MANY)
+        self.assertLess(many, 1.25 * few)
+
+
+class CallsOfTheSystem(NotedTest):
+    """Which calls of the system reach a file, in which order, and what is told where one fails."""
 
     CREATE = "create", "s", "--units", "64"
+    GROW = "grow", "s", "--units", "128"
     LINES = b"add a\ncommit\nfind a\n"
     REPLIES = 0, b"added 1\ncommitted\nfound 1: 1\n", b""
     DISK = 1, b"", b"pk_find: disk\n"
     LOCKED = f"lock 3 0 {fcntl.LOCK_EX | fcntl.LOCK_NB}"
-
-    @classmethod
-    def setUpClass(cls):
-        place = tempfile.TemporaryDirectory()
-        cls.addClassCleanup(place.cleanup)
-        cls.library = preload.built("note_calls", place.name)
-        cls.notes = os.path.join(place.name, "notes")
-
-    def noted(self, *words, lines=b"", **settings):
-        """What a run came to, and the calls that were noted of it."""
-        environment = {"LD_PRELOAD": self.library, "NOTE_CALLS": self.notes}
-        environment.update({name: str(value) for name, value in settings.items()})
-        with open(self.notes, "w", encoding="utf-8"):
-            pass
-        came_to = self.run_program(*words, lines=lines, environment=environment)
-        with open(self.notes, encoding="utf-8") as notes:
-            return came_to, notes.read().splitlines()
-
-    def counted(self, notes):
-        """The calls that can be made to fail."""
-        return [note for note in notes if not note.startswith("print")]
 
     def remove(self):
         """Removes the store of a test, if there is one."""
@@ -163,8 +233,37 @@ class CallsOfTheSystem(ProgramTest):
     def test_a_store_is_opened_and_synced(self):
         self.make()
         _, notes = self.noted("run", "s")
-        self.assertEqual(notes[:5], ["open s", self.LOCKED, "sync 3 0 0", "length 3 0 0",
-                                     "sync_data 3 0 0"])
+        others = [note for note in notes if not note.startswith("read")]
+        self.assertEqual(others[:5], ["open s", self.LOCKED, "sync 3 0 0", "length 3 0 0",
+                                      "sync_data 3 0 0"])
+
+    def test_a_growth_syncs_the_length_before_the_body_and_that_before_its_gate(self):
+        self.make()
+        grown, notes = self.noted(*self.GROW)
+        self.assertEqual(grown, (0, b"grown to 128 units\n", b""))
+        others = [note for note in notes if not note.startswith(("read", "print"))]
+        self.assertEqual(others, ["open s", self.LOCKED, "sync 3 0 0", "length 3 0 0",
+                                  "set_length 3 0 65536", "sync 3 0 0", "write 3 9216 8192",
+                                  "sync_data 3 0 0", "write 3 512 1", "sync_data 3 0 0"])
+
+    def test_each_call_of_a_growth_fails(self):
+        self.make()
+        self.run_program("run", "s", lines=b"add a\ncommit\n")
+        with open(os.path.join(self.folder, "s"), "rb") as file:
+            before = file.read()
+        _, notes = self.noted(*self.GROW)
+        for number, call in enumerate(self.counted(notes), 1):
+            with open(os.path.join(self.folder, "s"), "wb") as file:
+                file.write(before)
+            failed, _ = self.noted(*self.GROW, FAIL_CALL=number)
+            self.assertEqual(failed, self.DISK, call)
+            checked = self.run_program("check", "s")
+            self.assertEqual(checked, (0, b"ok 1 documents next 2 segments 1\n", b""), call)
+            again, printed, _ = self.run_program(*self.GROW)
+            self.assertEqual(again, 0, call)
+            self.assertIn(printed, [b"grown to 128 units\n", b"has 128 units\n"], call)
+            found = self.run_program("run", "s", lines=b"find a\n")
+            self.assertEqual(found, (0, b"found 1: 1\n", b""), call)
 
     def test_what_is_committed_is_synced_before_it_is_told(self):
         self.make()
@@ -211,5 +310,4 @@ class CallsOfTheSystem(ProgramTest):
 
 
 if __name__ == "__main__":
-    PROGRAM = os.path.abspath(sys.argv[1])
-    unittest.main(argv=sys.argv[:1])
+    program_case.main("program_test")

@@ -7,8 +7,9 @@ until a run meets no refusal. The test programs are those that `rt ci` leaves in
 whose name has `short_of_memory` are to pass each time: they assert that what was refused is
 answered so, and that nothing is lost. Those of worked rows pass, or end as want of memory.
 
-So are a creation, a session and a check of the built program on a real file. What is refused memory
-in the midst of the session is asked again; then the file is opened again, and has all documents.
+So are a creation, a session, one that only reads and a check of the built program on a real file.
+What is refused memory in the midst of a session is asked again; then the file is opened again, and
+has all documents.
 The last line is `N passed, M failed`, in runs.
 """
 import glob
@@ -113,24 +114,25 @@ def ended(environment, *words, lines=""):
     return ran.returncode, ran.stdout, ran.stderr
 
 
-def session(environment, path):
-    """Whether a session told of want of memory, and what is wrong with it. A line that is refused
-    memory is asked again."""
-    with subprocess.Popen([PROGRAM, "run", path], env=environment, bufsize=0,
+def session(environment, path, command="run", lines=SESSION):
+    """Whether a session of these lines told of want of memory, and what is wrong with it. A line
+    that is refused memory is asked again."""
+    with subprocess.Popen([PROGRAM, command, path], env=environment, bufsize=0,
                           stdin=subprocess.PIPE, stdout=subprocess.PIPE,
                           stderr=subprocess.PIPE) as ran:
         refused = 0
-        for line, reply in SESSION:
+        for line, reply in lines:
             got = asked(ran, line)
             if got == "refused memory":
                 refused += 1
                 got = asked(ran, line)
-            if got is None and line == SESSION[0][0] and not refused:
+            if got is None and line == lines[0][0] and not refused:
                 told = ran.stderr.read().decode()
                 is_right = (ran.wait(), told) == (SHORT[0], SHORT[2])
                 return True, None if is_right else f"it told {told}"
             if got != reply:
                 return refused > 0, f"{line}: {got} for {reply}"
+        ran.stdin.close()
         is_right = ran.wait() == 0 and refused <= 1
         return refused > 0, None if is_right else f"it ended with {ran.returncode}"
 
@@ -181,6 +183,15 @@ def session_run(environment):
         return is_short, fault or (None if is_left(path) else "the file has something else")
 
 
+def reading_run(environment):
+    """A session that only reads what the session left."""
+    with tempfile.TemporaryDirectory() as place:
+        path = made(place)
+        _, fault = session(None, path)
+        is_short, wrong = session(environment, path, "read", LEFT)
+        return is_short, fault or wrong
+
+
 def check_run(environment):
     """A check of what the session left."""
     with tempfile.TemporaryDirectory() as place:
@@ -198,6 +209,7 @@ def runs():
             yield f"{os.path.basename(program)} {name}", test_run(program, name, is_worked)
     yield "pk_find create", creation_run
     yield "pk_find run", session_run
+    yield "pk_find read", reading_run
     yield "pk_find check", check_run
 
 

@@ -1,8 +1,8 @@
 """Measures finds of two programs over the same store, in turns: of one of before and one of today.
 
-    turns.py EARLIER PROGRAM LINES FOLDER
+    turns.py EARLIER PROGRAM LINES FOLDER [read]
 
-LINES has a text a line. EARLIER fills a store with the texts, each 4,096 made lasting, and each
+With `read` the second answers in sessions that only read. LINES has a text a line. EARLIER fills a store with the texts, each 4,096 made lasting, and each
 program answers over a copy of it, so neither reads what the other wrote since. Every query of
 measure.py is asked of both over a pipe, each when the last is answered and many in a row. They take
 turns, in rounds that go through all queries, and of each the best round counts: two programs that are
@@ -49,15 +49,15 @@ def ask_round(number, peers, answered, waited, in_a_row):
             in_a_row[at][side] = min(in_a_row[at][side], timed_row(peers[side], line, spent, reply))
 
 
-def show(title, programs, finds, store):
-    """Prints a table of finds in a store."""
+def show(title, sessions, finds, store):
+    """Prints a table of finds in a store, by sessions: each a program and its command."""
     heads = ["find", "found", *(f"{it}, µs" for it in NAMES), "ratio"]
     heads += [*(f"{it} in a row, µs" for it in NAMES), "ratio"]
     print(f"\n{title}:\n\n| {' | '.join(heads)} |\n|{len(heads) * '---|'}")
     copies = [f"{store}.{name}" for name in NAMES]
     for copy in copies:
         shutil.copyfile(store, copy)
-    peers = [Peer(program, "run", copy) for program, copy in zip(programs, copies)]
+    peers = [Peer(*session, copy) for session, copy in zip(sessions, copies)]
     answered = answers(peers, finds)
     waited, in_a_row = ([[float("inf")] * 2 for _ in finds] for _ in range(2))
     for number in range(ROUNDS):
@@ -72,14 +72,15 @@ def show(title, programs, finds, store):
 
 
 def main():
-    earlier, program, lines, folder = sys.argv[1:5]
+    earlier, program, lines, folder, command = [*sys.argv[1:], "run"][:5]
+    sessions = (earlier, "run"), (program, command)
     texts = pathlib.Path(lines).read_text(encoding="utf-8").splitlines()
     finds = classes(*pick_words(texts))
     store = f"{folder}/turns"
     fill(earlier, texts, store)
-    show("As it was filled", (earlier, program), finds, store)
+    show("As it was filled", sessions, finds, store)
     merged(earlier, "run", store)
-    show("Merged into one", (earlier, program), finds, store)
+    show("Merged into one", sessions, finds, store)
 
 
 if __name__ == "__main__":

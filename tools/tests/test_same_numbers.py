@@ -1,5 +1,5 @@
-"""Numbers and names of the documents and of the crates' headers are those of the code: limits,
-crates and their groups, trusted crates, named wrong bodies, laws, words of contracts, targets."""
+"""Numbers of documents, manuals and headers of crates are those of the code: limits and sizes."""
+import ast
 import pathlib
 import re
 import sys
@@ -9,12 +9,14 @@ from datetime import date
 TOP = pathlib.Path(__file__).resolve().parents[2]
 sys.path.insert(0, str(TOP / "clients/python"))
 
-from rubewola import ranges  # noqa: E402
+from rubewola import days  # noqa: E402
 from rubewola.commands import VERSION  # noqa: E402
 
 QUOTED = re.compile(r"`([^`]+)`")
 NUMBER = re.compile(r"\d[\d,]*")
-DOCUMENTS = sorted([*TOP.glob("*.md"), *TOP.glob("docs/*.md")])
+WORDS = {"two": 2, "three": 3, "four": 4, "five": 5, "six": 6, "eight": 8, "ten": 10, "sixteen": 16,
+         "twenty": 20}
+UNITS = {"": 1, "KiB": 1 << 10, "MiB": 1 << 20, "GiB": 1 << 30, "TiB": 1 << 40}
 
 # Where else a limit is told: the file, what stands around the number, the constant.
 TOLD = [
@@ -23,7 +25,7 @@ TOLD = [
      "pk_model", "MAX_TEXT_BYTES"),
     ("docs/SHELL.md", r"`buffer full` \| `add` \| (\S+) documents",
      "pk_model", "MAX_BUFFERED_DOCUMENTS"),
-    ("docs/SHELL.md", r"`buffer full` .* would pass (\S+) bytes", "pk_model", "MAX_BUFFERED_BYTES"),
+    ("docs/SHELL.md", r"or their texts would pass (\S+) bytes", "pk_model", "MAX_BUFFERED_BYTES"),
     ("docs/SHELL.md", r"`numbers used up` \| `add` \| the next number is (\S+)",
      "pk_model", "END_OF_NUMBERS"),
     ("docs/SHELL.md", r"the store has (\S+) segments, one for each commit",
@@ -34,9 +36,9 @@ TOLD = [
     ("docs/SHELL.md", r"makes a file of N units of (\S+) bytes", "pk_disk", "UNIT"),
     ("docs/FORMATS.md", r"are at most (1,\S+)\.", "pk_model", "MAX_SEGMENT_BYTES"),
     ("docs/FORMATS.md", r"n is at most (\S+)\.", "pk_posting", "LONGEST_LIST"),
-    ("crates/pk_shell/src/lib.rt", r"too long \(more than\n//! (\S+) bytes",
+    ("crates/pk_shell/src/lib.rt", r"too long \(more than (\S+) bytes",
      "pk_shell", "MAX_LINE_BYTES"),
-    ("crates/pk_shell/src/lib.rt", r"not longer\n//! than (\S+) bytes", "pk_shell", "OUTBOX_BYTES"),
+    ("crates/pk_shell/src/lib.rt", r"not longer than (\S+) bytes", "pk_shell", "OUTBOX_BYTES"),
     ("crates/pk_shell/src/lib.rt", r"the store has (\S+) segments", "pk_model", "MAX_SEGMENTS"),
     ("crates/pk_shell/src/lib.rt", r"would pass (\S+) bytes", "pk_model", "MAX_SEGMENT_BYTES"),
     ("crates/pk_merge/src/lib.rt", r"have at most (\S+) bytes", "pk_merge", "MOST_KEPT_LISTS"),
@@ -47,17 +49,215 @@ TOLD = [
     ("crates/pk_join/src/lib.rt", r"a `Walk` holds (\S+) bytes", "pk_join", "READ_AHEAD"),
     ("crates/pk_command/src/command_line.rt", r"A store takes (\S+) commits",
      "pk_model", "MAX_SEGMENTS"),
+    ("docs/SHELL.md", r"N units of 512 bytes, (\S+) to", "pk_disk", "LEAST_UNITS"),
+    ("docs/SHELL.md", r"N units of 512 bytes, 64 to (\S+),", "pk_disk", "MAX_UNITS"),
+    ("docs/SHELL.md", r"fewer than (\S+) whole units", "pk_disk", "LEAST_UNITS"),
+    ("docs/SHELL.md", r"whole units of (\S+) bytes", "pk_disk", "UNIT"),
+    ("docs/SHELL.md", r"whole units of 512 bytes, or, but to `read`, more than (\S+) \|", "pk_disk", "MAX_UNITS"),
+    ("docs/SHELL.md", r"the disk has fewer than (\S+) units", "pk_disk", "LEAST_UNITS"),
+    ("docs/SHELL.md", r"there were (\S+) reads", "pk_shell", "MAX_READS"),
+    ("docs/LIMITS.md", r"documents, (\S+) at most", None,
+     lambda of: (of("pk_model", "MAX_SEGMENT_BYTES") - 24) // 12),
+    ("docs/LIMITS.md", r"none reaches the (\S+) numbers", "pk_posting", "LONGEST_LIST"),
+    ("docs/LIMITS.md", r"one unit for up to (\S+) numbers", None,
+     lambda of: (of("pk_disk", "UNIT") - of("pk_open", "LIST_COUNT_BYTES"))
+     // of("pk_open", "LIST_NUMBER_BYTES")),
+    ("docs/LIMITS.md", r"40 bytes for each: one unit for up to (\S+) segments", None,
+     lambda of: of("pk_disk", "UNIT") // 40),
+    ("docs/LIMITS.md", r"12 segments, (\S+) for 4,096", None,
+     lambda of: of("pk_model", "MAX_SEGMENTS") * 40 // of("pk_disk", "UNIT")),
+    ("docs/LIMITS.md", r"of the table, (\S+) at most", None,
+     lambda of: of("pk_model", "MAX_SEGMENTS") * 40),
+    ("docs/LIMITS.md", r"of the body, (\S+);", "pk_manifest", "BODY_SIZE"),
+    ("docs/LIMITS.md", r"growth \| (\S+) bytes", "pk_manifest", "BODY_SIZE"),
+    ("docs/LIMITS.md", r"\((\S+) words in 4,096 segments", None,
+     lambda of: of("pk_query", "MAX_BYTES") // 2),
+    ("docs/LIMITS.md", r"words in 4,096 segments: (\S+) MB", None,
+     lambda of: of("pk_query", "MAX_BYTES") // 2 * of("pk_model", "MAX_SEGMENTS") * 16 // 10**6),
+    ("docs/LIMITS.md", r"one text of more than (\S+) bytes at a time", "pk_posting", "MOST_LENT"),
+    ("docs/LIMITS.md", r"in which one of (\S+) or more", "pk_search", "ENTRIES_PER_NUMBER"),
+    ("docs/LIMITS.md", r"where they have (\S+ MiB) or less", "pk_merge", "MOST_KEPT_LISTS"),
+    ("docs/LIMITS.md", r"longest of them; (\S+ KiB);", None,
+     lambda of: of("pk_merge", "SPAN_BYTES") + of("pk_merge", "WRITE")),
+    ("docs/LIMITS.md", r"; (\S+ KiB) for each segment of kind 2", "pk_join", "READ_AHEAD"),
+    ("docs/LIMITS.md", r"past (\S+) of them", None,
+     lambda of: of("pk_join", "ALL_AHEAD") // of("pk_join", "READ_AHEAD")),
+    ("docs/LIMITS.md", r"of them (\S+ MiB) of all", "pk_join", "ALL_AHEAD"),
+    ("docs/LIMITS.md", r"deleted of a segment, at most (\S+) for each", "pk_join", "SPARSE"),
+    ("docs/LIMITS.md", r"is kept: (\S+) blocks at most", "pk_command", "CACHE_BLOCKS"),
+    ("docs/LIMITS.md", r"blocks at most, (\S+ KiB)", None,
+     lambda of: of("pk_command", "CACHE_BLOCKS") * 544),
+    ("docs/LIMITS.md", r"the first (\S+) segments that", "pk_search", "MOST_TABLES"),
+    ("docs/LIMITS.md", r"(\S+ KiB) for each of the first", None,
+     lambda of: of("pk_search", "TABLE_KEYS") * of("pk_keys", "KEY_BYTES")),
+    ("docs/LIMITS.md", r"has (\S+ KiB) or more and was searched", "pk_search", "SMALLEST"),
+    ("docs/LIMITS.md", r"was searched: (\S+ MiB) at most", None,
+     lambda of: of("pk_search", "MOST_TABLES") * of("pk_search", "TABLE_KEYS")
+     * of("pk_keys", "KEY_BYTES")),
+    ("docs/LIMITS.md", r"page cache of a session \| (\S+ KiB)", None,
+     lambda of: of("pk_command", "PAGES") * 40),
+    ("docs/LIMITS.md", r"and (\S+) bytes for each page", "pk_pages", "PAGE"),
+    ("docs/LIMITS.md", r"that is kept: (\S+ MiB) at most", None,
+     lambda of: of("pk_command", "PAGES") * of("pk_pages", "PAGE")),
+    ("docs/LIMITS.md", r"A disk of fewer than (\S+) units", "pk_disk", "LEAST_UNITS"),
+    ("docs/FORMATS.md", r"cut into units of (\S+) bytes", "pk_disk", "UNIT"),
+    ("docs/FORMATS.md", r"bytes, at most (\S+) of them", "pk_disk", "MAX_UNITS"),
+    ("docs/FORMATS.md", r"body A, (\S+) bytes", "pk_manifest", "BODY_SIZE"),
+    ("docs/FORMATS.md", r"from (\S+) on \| extents", "pk_disk", "FIRST_UNIT"),
+    ("docs/FORMATS.md", r"its byte is `(\S+)`", "pk_manifest", "OPEN"),
+    ("docs/FORMATS.md", r"closed by writing `(\S+)`", "pk_manifest", "CLOSED"),
+    ("docs/FORMATS.md", r"in the body, at most (\S+) \|", "pk_manifest", "MOST_INSIDE"),
+    ("docs/FORMATS.md", r"extent of its own, at most (\S+) \|", "pk_manifest", "MOST_IN_TABLE"),
+    ("docs/FORMATS.md", r"u32, at most (\S+) in version 1", "pk_manifest", "MOST_INSIDE"),
+    ("docs/FORMATS.md", r"in version 1 and (\S+) in version 2", "pk_model", "MAX_SEGMENTS"),
+    ("docs/FORMATS.md", r"its units are (\S+) or more", "pk_disk", "LEAST_UNITS"),
+    ("docs/FORMATS.md", r"\(1 to (\S+), a deletion", "pk_manifest", "MAX_BYTES"),
+    ("docs/FORMATS.md", r"groups of (\S+); the last", "pk_dict", "GROUP"),
+    ("docs/FORMATS.md", r"kind, u32, 1 or (\S+)", "pk_segment", "INDEXED"),
+    ("docs/DECISIONS.md", r"A body of (\S+) bytes", "pk_manifest", "BODY_SIZE"),
+    ("docs/DECISIONS.md", r"The reply buffer has (\S+) bytes", "pk_shell", "OUTBOX_BYTES"),
+    ("docs/DECISIONS.md", r"fewer than (\S+) pages", "pk_command", "PAGES"),
+    ("docs/DECISIONS.md", r"more than (\S+) times as far apart", "pk_join", "SPARSE"),
+    ("docs/ARCHITECTURE.md", r"reads up to (\S+) bytes a call", "pk_shell", "CHUNK_BYTES"),
+    ("docs/ARCHITECTURE.md", r"so (\S+) bytes are read ahead", "pk_join", "READ_AHEAD"),
+    ("docs/ARCHITECTURE.md", r"all of them have at most (\S+ MiB)", "pk_merge", "MOST_KEPT_LISTS"),
+    ("docs/ARCHITECTURE.md", r"keeps pages of (\S+) bytes", "pk_pages", "PAGE"),
+    ("docs/ARCHITECTURE.md", r"body in force, (\S+) bytes", "pk_manifest", "BODY_SIZE"),
+    ("docs/ARCHITECTURE.md", r"more than (\S+) times as long", None, lambda of: gallops_from()),
+    ("crates/pk_sets/src/lib.rt", r"than (\S+) times as long", None, lambda of: gallops_from()),
+    ("crates/pk_search/src/lib.rt", r"more than (\S+) times as long", None,
+     lambda of: gallops_from()),
+    ("crates/pk_filedisk/src/lib.rt", r"The file has (\S+) to", "pk_disk", "LEAST_UNITS"),
+    ("crates/pk_filedisk/src/lib.rt", r"has 64 to (\S+) whole", "pk_disk", "MAX_UNITS"),
+    ("crates/pk_filedisk/src/lib.rt", r"whole units of (\S+) bytes", "pk_disk", "UNIT"),
+    ("crates/pk_space/src/lib.rt", r"from unit (\S+) on", "pk_disk", "FIRST_UNIT"),
+    ("docs/ADMINISTRATION.md", r"a store has at most (\S+)\.", "pk_model", "MAX_SEGMENTS"),
+    ("docs/ADMINISTRATION.md", r"a commit met (\S+) segments", "pk_model", "MAX_SEGMENTS"),
+    ("docs/ADMINISTRATION.md", r"numbers end at (\S+)", None,
+     lambda of: of("pk_model", "END_OF_NUMBERS") - 1),
+    ("man/pk_find.1", r"units of (\S+) bytes", "pk_disk", "UNIT"),
+    ("man/pk_find.1", r"bytes, from (\S+) to", "pk_disk", "LEAST_UNITS"),
+    ("man/pk_find.1", r"from 64 to (\S+),", "pk_disk", "MAX_UNITS"),
+    ("crates/pk_disk/src/lib.rt", r"rounded down, at most (\S+)", "pk_disk", "MAX_UNITS"),
+    ("crates/pk_dict/src/lib.rt", r"They read (\S+) bytes at once", "pk_dict", "WINDOW"),
+    ("crates/pk_keys/src/lib.rt", r"A table of (\S+) keys", "pk_search", "TABLE_KEYS"),
+    ("crates/pk_manifest/src/lib.rt", r"its (\S+) bytes \(`spelling`", "pk_manifest", "BODY_SIZE"),
+    ("crates/pk_manifest/src/lib.rt", r"if its (\S+) bytes and its table",
+     "pk_manifest", "BODY_SIZE"),
+    ("crates/pk_manifest/src/lib.rt", r"at most (\S+); in version 2 they",
+     "pk_manifest", "MOST_INSIDE"),
+    ("crates/pk_manifest/src/lib.rt", r"of its own, at most (\S+)", "pk_manifest", "MOST_IN_TABLE"),
+    ("crates/pk_manifest/src/lib.rt", r"u32, at most (\S+), in version 2",
+     "pk_manifest", "MOST_INSIDE"),
+    ("crates/pk_manifest/src/lib.rt", r"in version 2 at most (\S+) \|",
+     "pk_manifest", "MOST_IN_TABLE"),
+    ("crates/pk_manifest/src/lib.rt", r"lengths of 1 to (\S+) bytes", "pk_manifest", "MAX_BYTES"),
+    ("crates/pk_manifest/src/lib.rt", r"from unit (\S+) on \|", "pk_disk", "FIRST_UNIT"),
+    ("crates/pk_manifest/src/lib.rt", r"units from (\S+) to the disk's", "pk_disk", "FIRST_UNIT"),
+    ("crates/pk_manifest/src/lib.rt", r"writes at or past unit (\S+),", "pk_disk", "FIRST_UNIT"),
+    ("crates/pk_posting/src/lib.rt", r"A list has up to (\S+) numbers",
+     "pk_posting", "LONGEST_LIST"),
+    ("crates/pk_dead/src/lib.rt", r"there are (\S+) at most", "pk_posting", "LONGEST_LIST"),
+    ("crates/pk_pages/src/lib.rt", r"a page \| (\S+) bytes", "pk_pages", "PAGE"),
+    ("crates/pk_pages/src/lib.rt", r"a slot takes (\S+) bytes", "pk_pages", "PAGE"),
+    ("crates/pk_search/src/lib.rt", r"one of (\S+) bytes or less where", "pk_posting", "MOST_LENT"),
+    ("crates/pk_search/src/lib.rt", r"one document of (\S+) or more",
+     "pk_search", "ENTRIES_PER_NUMBER"),
+    ("crates/pk_segment/src/lib.rt", r"at most (1,\S+)\.", "pk_model", "MAX_SEGMENT_BYTES"),
+    ("crates/pk_segment/src/lib.rt", r"one text, at most (\S+) bytes", "pk_posting", "MOST_LENT"),
+    ("crates/pk_merge/src/lib.rt", r"posting lists, up to (\S+) bytes",
+     "pk_merge", "MOST_KEPT_LISTS"),
+    ("crates/pk_merge/src/lib.rt", r"read at once \| (\S+) bytes", "pk_merge", "SPAN_BYTES"),
+    ("crates/pk_merge/src/lib.rt", r"to be written \| (\S+) bytes", "pk_merge", "WRITE"),
+    ("crates/pk_merge/src/lib.rt", r"kind 2 \| (\S+) bytes to read", "pk_join", "READ_AHEAD"),
+    ("crates/pk_merge/src/lib.rt", r"up to the next one, at most (\S+) \|", "pk_join", "SPARSE"),
+    ("crates/pk_join/src/lib.rt", r"were read ahead, (\S+) at once", "pk_join", "READ_AHEAD"),
+    ("crates/pk_shell/src/lib.rt", r"`ShellFault::TooManyReads` \| (\S+) bytes",
+     "pk_shell", "MAX_READS"),
+    ("crates/pk_command/src/lib.rt", r"makes a file of N units of (\S+) bytes", "pk_disk", "UNIT"),
+    ("crates/pk_command/src/lib.rt", r"fewer than (\S+) whole units", "pk_disk", "LEAST_UNITS"),
+    ("crates/pk_command/src/lib.rt", r"whole units, or more than (\S+) \|", "pk_disk", "MAX_UNITS"),
+    ("crates/pk_command/src/lib.rt", r"there were (\S+) reads", "pk_shell", "MAX_READS"),
+    ("crates/pk_terms/src/lib.rt", r"a word beyond (\S+) of them", "pk_model", "END_OF_NUMBERS"),
+]
+
+# The same of the limits of the client and of tools, by their modules.
+R, S, T = "clients/python/rubewola/", "clients/python/rubewola_shards/", "tools/"
+OF_PYTHON = [
+    ("docs/LIMITS.md", r"document's text with its words \| (\S+) bytes",
+     R + "documents", "MOST_BYTES"),
+    ("docs/LIMITS.md", r"but for parts \| (\S+) bytes", R + "documents", "MOST_TAIL_BYTES"),
+    ("docs/LIMITS.md", r"a mail's head \| (\S+) characters", R + "mime", "LONGEST_FIELD"),
+    ("docs/LIMITS.md", r"in a query \| (\S+) characters", R + "words", "LONGEST_NAME"),
+    ("docs/LIMITS.md", r"range of days \| (\S+) to",
+     R + "days", lambda of: of(R + "days", "RANGED")[0]),
+    ("docs/LIMITS.md", r"days \| 1970 to (\S+)",
+     R + "days", lambda of: of(R + "days", "RANGED")[1]),
+    ("docs/LIMITS.md", r"flags in a query \| (\S+)", R + "fields", "MOST_FLAGS"),
+    ("docs/LIMITS.md", r"a batch(?: of a load)? \| (\S+) documents",
+     R + "loading", "BATCH_DOCUMENTS"),
+    ("docs/LIMITS.md", r"4,096 documents, (\S+) bytes", R + "loading", "BATCH_BYTES"),
+    ("docs/LIMITS.md", r"decodes at once \| (\S+) items", R + "sources", "CHUNK_ITEMS"),
+    ("docs/LIMITS.md", r"2,048 items, (\S+) bytes", R + "sources", "CHUNK_BYTES"),
+    ("docs/LIMITS.md", r"or one item \| (\S+) such", R + "decoding", "AHEAD"),
+    ("docs/LIMITS.md", r"in one another \| (\S+)", R + "jsonlines", "_DEEPEST"),
+    ("docs/LIMITS.md", r"found, above (\S+ MiB)", R + "results", "IN_MEMORY"),
+    ("docs/LIMITS.md", r"batches on their way \| (\S+) of", S + "loading", "ON_THEIR_WAY"),
+    ("docs/LIMITS.md", r"an answer of a shard \| (\S+) s", S + "fleet", "ASKED"),
+    ("docs/LIMITS.md", r"to a batch of a load (\S+) s", S + "fleet", "LOADED"),
+    ("docs/LIMITS.md", r"asked for at once \| (\S+) \|", S + "answers", "SHOWN_AT_ONCE"),
+    ("docs/MACHINES.md", r"takes in a row; (\S+) where", S + "archive", "BLOCK"),
+    ("docs/LOADERS.md", r"document has (\S+) seconds", R + "decoding", "SECONDS"),
+    ("docs/LOADERS.md", r"its process (\S+ GiB) of memory", R + "decoding", "MEMORY"),
+    ("docs/LOADERS.md", r"Of a mail (\S+ MiB)", R + "mails", "LONGEST_MAIL"),
+    ("docs/LOADERS.md", r"an object of JSON (\S+ MiB)", R + "jsonlines", "LONGEST_OBJECT"),
+    ("docs/LOADERS.md", r"of its values (\S+) are", R + "jsonlines", "MOST_VALUES"),
+    ("docs/LOADERS.md", r"mail's parts (\S+) are", R + "mime", "MOST_PARTS"),
+    ("docs/LOADERS.md", r"marks on a letter (\S+) stay", R + "letters", "MOST_MARKS"),
+    ("docs/LOADERS.md", r"more than (\S+) bytes, each", R + "mails", "MOST_HEAD_BYTES"),
+    ("docs/LOADERS.md", r"names the first (\S+),", R + "loading", "NAMED"),
+    ("docs/LOADERS.md", r"or up to (\S+) after a long", R + "following", "LONGEST"),
+    ("docs/MAILS.md", r"more than (\S+) times its words", R + "mails", "_RICHER"),
+    ("docs/MAILS.md", r"it gets (\S+) seconds", R + "filters", "SECONDS"),
+    ("docs/MAILS.md", r"20 seconds, (\S+) of a processor", R + "filters", "CPU_SECONDS"),
+    ("docs/MAILS.md", r"processor, (\S+ GiB) of memory", R + "filters",
+     lambda of: of(R + "filters", "MEMORY_KB") * 1024),
+    ("docs/MAILS.md", r"memory and (\S+ KiB) of output", R + "filters", "MOST_BYTES"),
+    ("docs/MAILS.md", r"Of a mail (\S+) files", R + "filters", "MOST_FILES"),
+    ("docs/MAILS.md", r"are read, in (\S+) seconds", R + "filters", "MAIL_SECONDS"),
+    ("docs/MAILS.md", r"after (\S+) times in a row", R + "filters", "MOST_LATE"),
+    ("docs/ADMINISTRATION.md", r"a packed one (\S+) times", R + "files", "UNPACKED"),
+    ("docs/ADMINISTRATION.md", r"from (\S+ MiB) to", R + "loading",
+     lambda of: of(R + "loading", "FIRST_UNITS") * of(R + "store", "UNIT")),
+    ("docs/ADMINISTRATION.md", r"MiB to (\S+ TiB)", R + "store",
+     lambda of: of(R + "store", "MOST_UNITS") * of(R + "store", "UNIT")),
+    ("docs/ADMINISTRATION.md", r"its units, up to (\S+ TiB)", R + "store",
+     lambda of: of(R + "store", "MOST_UNITS") * of(R + "store", "UNIT")),
+    ("docs/ADMINISTRATION.md", r"segment of the (\S+) neighbours", R + "commits", "MERGED"),
+    ("docs/GUIDE.md", r"first and (\S+) a page", R + "views", "AT_ONCE"),
+    ("docs/GUIDE.md", r"up to its (\S+)th character", R + "views", "LONGEST"),
+    ("docs/GUIDE.md", r"says nothing for (\S+) seconds", R + "serving", "IDLE"),
+    ("docs/GUIDE.md", r"or takes (\S+) for a request", R + "serving", "LONGEST"),
+    ("docs/GUIDE.md", r"more than (\S+) at once", R + "serving", "CLIENTS"),
+    ("docs/QUERIES.md", r"at most (\S+) different ones", R + "fields", "MOST_FLAGS"),
+    ("man/rubewola.1", r"commit each (\S+) documents", R + "loading", "BATCH_DOCUMENTS"),
+    ("man/rubewola.1", r"4096 documents or (\S+ MiB)", R + "loading", "BATCH_BYTES"),
+    ("man/rubewola.1", r"and at least (\S+ MiB)", R + "loading",
+     lambda of: of(R + "loading", "FIRST_UNITS") * of(R + "store", "UNIT")),
+    ("docs/TESTING.md", r"plays (\S+) sessions", T + "kill_test", "KILLS"),
+    ("docs/TESTING.md", r"SIGKILL at (\S+) points", T + "kill_test", "KILLS"),
+    ("docs/TESTING.md", r"(\S+) commands, the program killed", T + "kill_test", "COMMANDS"),
+    ("docs/TESTING.md", r"(\d+) growths", T + "kill_test", "GROWTHS"),
+    ("docs/TESTING.md", r"Behind (\S+) minutes", T + "smoke",
+     lambda of: of(T + "smoke", "BEGUN_FOR") // 60),
+    ("CONTRIBUTING.md", r"is to take (\S+) minutes", T + "gate_time", "BUDGET_MINUTES"),
+    ("man/rubewola-shards.1", r"A shard has (\S+) seconds", S + "fleet", "ASKED"),
+    ("man/rubewola-shards.1", r"for an answer, (\S+) for a batch", S + "fleet", "LOADED"),
 ]
 
 
 def text_of(path):
     return (TOP / path).read_text("utf-8")
-
-
-def section(text, head):
-    """What stands below a head, up to the next head as high."""
-    text = f"\n{text}\n## "
-    return text.partition(f"\n## {head}\n")[2].partition("\n## ")[0]
 
 
 def rows(text):
@@ -67,7 +267,20 @@ def rows(text):
 
 
 def number(text):
-    return int(text.strip(".").replace(",", "").replace("_", ""))
+    """A number as documents write it: `1,024`, `2^10`, `1 KiB`, a byte as `A7`, or a word."""
+    text = text.strip(".,;")
+    if text.lower() in WORDS:
+        return WORDS[text.lower()]
+    if re.fullmatch("00|[0-9A-F][A-F]|[A-F][0-9A-F]", text):
+        return int(text, 16)
+    amount, _, unit = text.replace(",", "").replace("_", "").partition(" ")
+    base, _, power = amount.partition("^")
+    return int(base) ** int(power or 1) * UNITS[unit]
+
+
+def flat(path):
+    """A text in one line, a header without the signs of its lines."""
+    return " ".join(re.sub(r"\n//!", "\n", text_of(path)).split())
 
 
 def constants(crate):
@@ -79,22 +292,33 @@ def constants(crate):
             shift = re.fullmatch(r"(\d+) << (\d+)", value)
             if shift:
                 found[name] = int(shift[1]) << int(shift[2])
-            elif re.fullmatch(r"[\d_]+", value):
-                found[name] = number(value)
+            elif re.fullmatch(r"[\d_]+|0x[\dA-F]+", value):
+                found[name] = int(value, 0 if "x" in value else 10)
     return found
 
 
-def groups():
-    """The crates of crates.txt by their groups, and the libraries that each names."""
-    found, libraries, group = {}, {}, None
-    for line in text_of("crates.txt").splitlines():
-        if line.startswith("# "):
-            group = found.setdefault(line[2:], [])
-        elif line:
-            name, _, named = line.partition(":")
-            group.append(name)
-            libraries[name] = named.split()
-    return found, libraries
+def gallops_from():
+    """How many times as long as the other a list is at least that is galloped over."""
+    told = re.search(r"IsTrue result ↔ \((\d+) \* shorter < longer\)",
+                     text_of("crates/pk_sets/src/intersecting.rt"))
+    return int(told[1])
+
+
+def constant(crate, name):
+    return constants(crate)[name]
+
+
+def of_python(module, name):
+    """A number, or numbers, that have a name in a module in Python."""
+    for node in ast.parse(text_of(f"{module}.py")).body:
+        if isinstance(node, ast.Assign):
+            target, = node.targets
+            names, values = ((target.elts, node.value.elts) if isinstance(target, ast.Tuple)
+                             and isinstance(node.value, ast.Tuple) else ([target], [node.value]))
+            for each, value in zip(names, values, strict=False):
+                if getattr(each, "id", None) == name:
+                    return ast.literal_eval(value)
+    raise KeyError(name)
 
 
 class Limits(unittest.TestCase):
@@ -131,126 +355,30 @@ class Limits(unittest.TestCase):
                      for name, value in re.findall(r"const (\w+): \w+ = ([\d_]+);", text)}
             self.assertEqual(named, told)
 
+    def assert_told(self, path, around, wanted):
+        """A document has the number wherever it says so."""
+        with self.subTest(path=path, around=around):
+            found = re.findall(around, flat(path))
+            self.assertTrue(found)
+            self.assertEqual({number(each) for each in found}, {wanted})
+
     def test_wherever_it_is_told(self):
         for path, around, crate, name in TOLD:
-            with self.subTest(path=path, name=name):
-                found = re.search(around, text_of(path))
-                self.assertIsNotNone(found, around)
-                self.assertEqual(number(found[1]), constants(crate)[name])
+            self.assert_told(path, around, constant(crate, name) if crate else name(constant))
 
-    def test_the_longest_range_of_days(self):
+    def test_those_of_modules(self):
+        for path, around, module, name in OF_PYTHON:
+            value = of_python(module, name) if isinstance(name, str) else name(of_python)
+            self.assert_told(path, around, value)
+
+    def test_the_longest_range(self):
         told, = re.findall(r"the query of a range \| (\S+) bytes", text_of("docs/LIMITS.md"))
-        query = ranges.query("1970-01-02..2099-12-30", date(2026, 11, 27))
+        query = days.query("1970-01-01T01..2099-12-31T22", date(2026, 11, 27))
         self.assertEqual(len(query.encode()), number(told))
 
     def test_the_client_has_the_program_s_version(self):
         code = text_of("crates/pk_command/src/command_line.rt")
         self.assertEqual(re.search(r'const VERSION: &str = "(.*)"', code)[1], VERSION)
-
-
-class Crates(unittest.TestCase):
-    """crates.txt, the crates and what documents say of them."""
-
-    GROUPS, LIBRARIES = groups()
-    OWN = {name for names in GROUPS.values() for name in names}
-
-    def test_each_crate_is_listed(self):
-        folders = {file.parents[1].name for file in TOP.glob("crates/*/src/*.rt")}
-        self.assertEqual(folders, self.OWN)
-
-    def test_architecture_has_the_groups(self):
-        text = text_of("docs/ARCHITECTURE.md")
-        for group, names in self.GROUPS.items():
-            with self.subTest(group=group):
-                told = re.findall(r"\*\*(\w+)\*\*", section(text, group.capitalize()))
-                self.assertEqual(sorted(told), sorted(names))
-
-    def test_the_picture_has_each_crate(self):
-        picture = text_of("docs/ARCHITECTURE.md").partition("```text\n")[2].partition("```")[0]
-        below, left = {"pk_find"}, ["pk_find"]
-        while left:
-            new = set(self.LIBRARIES[left.pop()]) & self.OWN - below
-            below |= new
-            left += new
-        # They stand below nearly all the others.
-        self.assertEqual(set(re.findall(r"\w+", picture)), below - {"pk_model", "pk_state"})
-
-    def test_the_picture_has_true_lines(self):
-        picture = text_of("docs/ARCHITECTURE.md").partition("```text\n")[2].partition("```")[0]
-        for upper, lower in re.findall(r"(\w+) ─+[┬─]*─* (?=(\w+(?:, \w+)*))", picture):
-            for name in lower.split(", "):
-                with self.subTest(upper=upper, lower=name):
-                    self.assertIn(name, self.LIBRARIES[upper])
-
-    def test_the_trusted_crates(self):
-        named = {name for names in self.LIBRARIES.values() for name in names} - self.OWN
-        row, = [cells for cells in rows(text_of("README.md")) if cells[0] == "trusted"]
-        self.assertEqual(set(QUOTED.findall(row[1])), named)
-        item = section(text_of("docs/PROVED.md"), "Trusted").partition("- The statements of")[2]
-        told = set(QUOTED.findall(item.partition("\n- ")[0]))
-        self.assertEqual(told - self.OWN, named)
-
-
-class Names(unittest.TestCase):
-    """What documents name is there."""
-
-    def test_the_named_wrong_bodies(self):
-        edits = TOP.glob("crates/*/must-fail/*.edit")
-        there = {(edit.parents[1].name, edit.stem) for edit in edits}
-        text = section(text_of("docs/TESTING.md"), "Wrong bodies")
-        told = []
-        for cells in rows(text.partition("The named wrong bodies are:")[2])[1:]:
-            crates, names = QUOTED.findall(cells[0]), QUOTED.findall(cells[1])
-            told += zip(crates * len(names) if len(crates) == 1 else crates, names, strict=True)
-        self.assertEqual(sorted(told), sorted(there))
-
-    def test_laws(self):
-        there = {name for file in TOP.glob("crates/*/src/**/laws.rt")
-                 for name in re.findall(r"\bfn (\w+)", file.read_text("utf-8"))}
-        for document in DOCUMENTS:
-            text = " ".join(document.read_text("utf-8").split())
-            told = set(re.findall(r"laws::(\w+)", text))
-            for names in re.findall(r"laws::\{([^}]*)\}", text):
-                told |= set(names.split(", "))
-            with self.subTest(document=document.name):
-                self.assertEqual(told - there, set())
-
-    def test_the_words_of_contracts(self):
-        count, crate, pages = 0, None, []
-        for line in re.sub(r"\n +", " ", text_of("docs/MEANING.md")).splitlines():
-            head = re.fullmatch(r"\*\*`(\w+)`\*\*", line)
-            crate = head[1] if head else None if line.startswith("## ") else crate
-            item = re.match(r"- (?:\*([\w, ]+)\*: )?(`\w+`(?:, `\w+`)*)", line)
-            if crate and item:
-                pages = item[1].split(", ") if item[1] else pages
-                there = " ".join(text_of(f"crates/{crate}/specs/{page}.antt") for page in pages)
-                for word in QUOTED.findall(item[2]):
-                    count += 1
-                    self.assertRegex(there, rf"\b{word}\b", f"{crate}, {pages}")
-        self.assertGreater(count, 150)
-
-    def test_targets_of_make(self):
-        there = set(re.findall(r"^(\w+):", text_of("Makefile"), re.M))
-        for document in DOCUMENTS:
-            told = set(re.findall(r"\bmake (\w+)`", document.read_text("utf-8")))
-            with self.subTest(document=document.name):
-                self.assertEqual(told - there, set())
-
-    def test_files_of_the_repository(self):
-        for document in DOCUMENTS:
-            text = document.read_text("utf-8")
-            for path in re.findall(r"\]\(([^)#:]+)(?:#[^)]*)?\)", text):
-                with self.subTest(document=document.name, path=path):
-                    self.assertTrue((document.parent / path).exists())
-
-    def test_heads_that_links_name(self):
-        def heads(path):
-            told = re.findall(r"^#+ (.*)", path.read_text("utf-8"), re.M)
-            return {re.sub(r"[^\w\- ]", "", head.lower()).replace(" ", "-") for head in told}
-        for document in DOCUMENTS:
-            for path, head in re.findall(r"\]\(([^)#:]*)#([^)]+)\)", document.read_text("utf-8")):
-                with self.subTest(document=document.name, path=path, head=head):
-                    self.assertIn(head, heads(document.parent / path if path else document))
 
 
 if __name__ == "__main__":

@@ -53,7 +53,11 @@ SHELL_REASONS = first_quoted(row[0] for row in rows(section(SHELL, "## Refusals"
 PROGRAM = SHELL.partition("## The program")[2]
 PROGRAM_REASONS = first_quoted(row[0] for row in rows(section(PROGRAM, "| reason |",
                                                               "An argument is text")))
-HELP = section(text_of("crates/pk_command/src/command_line.rt"), "const RUN_HELP", '";')
+HELPS = text_of("crates/pk_command/src/command_line.rt")
+HELP = section(HELPS, "const RUN_HELP", '";')
+READ_HELP = section(HELPS, "const READ_HELP", '";')
+# What a session that only reads refuses, beside the reasons of each session.
+READ_ONLY = {"read only"}
 MANUAL = text_of("man/pk_find.1")
 MANUAL_LINES = section(MANUAL, "The lines are:", ".El")
 HEADER = text_of("crates/pk_shell/src/lib.rt").partition("#![")[0]
@@ -82,6 +86,12 @@ class Lines(unittest.TestCase):
         self.assertEqual(set(re.findall(r"^  (\w+)", lines, re.M)), self.COMMANDS)
         self.assertLessEqual(self.REPLIES, quoted(lines))
 
+    def test_help_of_a_reader(self):
+        asked = set(re.findall(r"^  (\w+)", READ_HELP, re.M))
+        changing = READ_HELP.partition("are refused as `read only`")[0].rpartition("\n\n")[2]
+        self.assertEqual(asked | quoted(changing), self.COMMANDS)
+        self.assertLessEqual({"found", "text", "count", "bye"}, quoted(READ_HELP))
+
     def test_manual(self):
         self.assertEqual(set(re.findall(r"^\.It Cm (\w+)", MANUAL_LINES, re.M)), self.COMMANDS)
         self.assertLessEqual(self.REPLIES, quoted(manual(MANUAL_LINES)))
@@ -95,14 +105,16 @@ class Reasons(unittest.TestCase):
     """Why a line is refused."""
 
     def test_the_tables_are_read(self):
-        self.assertEqual(len(SHELL_REASONS), 19)
+        self.assertEqual(len(SHELL_REASONS), 20)
 
     def test_code(self):
         written = {words.strip() for words in re.findall(r'b"refused ([^"]+)"', SENDING)}
         self.assertEqual(written, SHELL_REASONS)
 
     def test_help(self):
-        self.assertEqual(quoted(section(HELP, "and why:", "After `refused")), SHELL_REASONS)
+        reasons = quoted(section(HELP, "and why:", "After `refused"))
+        self.assertEqual(reasons, SHELL_REASONS - READ_ONLY)
+        self.assertLessEqual(READ_ONLY, quoted(READ_HELP))
 
     def test_manual(self):
         reasons = section(MANUAL, "and why:", ".El")
@@ -111,7 +123,7 @@ class Reasons(unittest.TestCase):
     def test_header(self):
         store = {word for row in rows(section(HEADER, "| reason |", "What is uncommitted"))
                  for word in quoted(row[0])}
-        of_line = {"line too long", "not text", "unknown"}
+        of_line = {"line too long", "not text", "unknown"} | READ_ONLY
         of_query = {words for words in SHELL_REASONS if words.startswith("query ")}
         self.assertEqual(store, SHELL_REASONS - of_line - of_query)
 
@@ -120,7 +132,7 @@ class ProgramReasons(unittest.TestCase):
     """Why a command of the program failed."""
 
     def test_the_table_is_read(self):
-        self.assertEqual(len(PROGRAM_REASONS), 12)
+        self.assertEqual(len(PROGRAM_REASONS), 14)
 
     def test_code(self):
         written = set(re.findall(r'"pk_find: ([^"]+)\\n"',

@@ -35,6 +35,17 @@ session_has_its_path :
 unfolding clap_on_literals
 session_has_its_path = refl
 
+reading_has_its_path :
+    path_in (subcommand_of pk_find_app (codes "pk_find" ∷ codes "read" ∷ codes "s" ∷ []))
+    ≡ Some (codes "read", Some (codes "s"))
+unfolding clap_on_literals
+reading_has_its_path = refl
+
+growth_has_its_units :
+    option_map (λ p. one_of (codes "units") p.1) (subcommand_of pk_find_app (codes "pk_find" ∷ codes "grow" ∷ codes "s" ∷ codes "--units" ∷ codes "65" ∷ [])) ≡ Some (Some (codes "65"))
+unfolding clap_on_literals
+growth_has_its_units = refl
+
 check_has_its_path :
     path_in (subcommand_of pk_find_app (codes "pk_find" ∷ codes "check" ∷ codes "s" ∷ []))
     ≡ Some (codes "check", Some (codes "s"))

@@ -10,7 +10,7 @@ use Rattle.clap.specs.declared.error.kind.ErrorKind.{ErrorKind}
 use Rattle.clap.specs.declared.error.kind.ErrorKind.TheVariants.{DisplayHelp, DisplayVersion}
 use Rattle.pk_disk.specs.Sizes.{least_units, most_units}
 use Rattle.pk_command.specs.declared.command_line.Asked.{Asked}
-use Rattle.pk_command.specs.declared.command_line.Asked.TheVariants.{Check, Create, Run}
+use Rattle.pk_command.specs.declared.command_line.Asked.TheVariants.{Check, Create, Grow, Read, Run}
 
 -- the path, which each command takes
 abbrev pub path_rule : Rule
@@ -28,8 +28,14 @@ units_rule = record (new_rule (codes "units")) {
 abbrev pub create_app : App
 create_app = with_rule (with_rule (new_app (codes "create")) path_rule) units_rule
 
+abbrev pub grow_app : App
+grow_app = with_rule (with_rule (new_app (codes "grow")) path_rule) units_rule
+
 abbrev pub run_app : App
 run_app = with_rule (new_app (codes "run")) path_rule
+
+abbrev pub read_app : App
+read_app = with_rule (new_app (codes "read")) path_rule
 
 abbrev pub check_app : App
 check_app = with_rule (new_app (codes "check")) path_rule
@@ -49,8 +55,9 @@ bare_app =
 -- WHAT THE PROGRAM'S COMMAND LINE MAY SAY
 abbrev pub pk_find_app : App
 pk_find_app =
-    with_subcommand (with_subcommand (with_subcommand bare_app create_app.top) run_app.top)
-    check_app.top
+    with_subcommand (with_subcommand
+    (with_subcommand (with_subcommand (with_subcommand bare_app create_app.top) grow_app.top)
+    run_app.top) read_app.top) check_app.top
 
 -- an argument that reads so, of one command alone
 abbrev pub IsArg : Rule → Arg → Type 0
@@ -70,7 +77,12 @@ Asks None asked = ⊥
 Asks (Some (name, rows)) (Create path units) = (name ≡ codes "create")
     × (first_of (codes "PATH") rows ≡ Some path.now)
     × ((text : Text) × (one_of (codes "units") rows ≡ Some text) × IsCount text units)
+Asks (Some (name, rows)) (Grow path units) = (name ≡ codes "grow")
+    × (first_of (codes "PATH") rows ≡ Some path.now)
+    × ((text : Text) × (one_of (codes "units") rows ≡ Some text) × IsCount text units)
 Asks (Some (name, rows)) (Run path) = (name ≡ codes "run")
+    × (first_of (codes "PATH") rows ≡ Some path.now)
+Asks (Some (name, rows)) (Read path) = (name ≡ codes "read")
     × (first_of (codes "PATH") rows ≡ Some path.now)
 Asks (Some (name, rows)) (Check path) = (name ≡ codes "check")
     × (first_of (codes "PATH") rows ≡ Some path.now)

@@ -1,21 +1,34 @@
 -- What a command came to, by its status, over any disk.
 use Rattle.std.specs.Prelude.{◌≡◌, ◌≢◌, ◌≤◌, ◌*◌, ◌⊎◌, ℕ, List, [], ◌++◌, length, codes, decimal}
-use Rattle.std.specs.Prelude.{Option, Result, Ok, Err}
+use Rattle.std.specs.Prelude.{IsTrue, Option, Result, Ok, Err, replicate}
 use Rattle.std.specs.Io.KnownBytes.{Appends}
 use Rattle.clap.specs.Words.{Text}
 use Rattle.clap.specs.declared.error.kind.ErrorKind.{ErrorKind}
 use Rattle.clap.specs.declared.error.kind.ErrorKind.TheVariants.{OutOfMemory}
+use Rattle.pk_disk.specs.Disk.{Rose, nowhere}
+use Rattle.pk_disk.specs.Frames.{KeepsDisk}
 use Rattle.pk_disk.specs.Sizes.{least_units, most_units}
 use Rattle.pk_disk.specs.declared.disk.Disk.{Ghosts}
 use Rattle.pk_filedisk.specs.File.{IsDiskLength, IsOfMake, IsOfOpening}
+use Rattle.pk_filedisk.specs.Found.{IsFound, IsLeftByMaking, IsLeftByOpening, IsNewAt}
 use Rattle.pk_filedisk.specs.declared.fault.FileFault.{FileFault}
-use Rattle.pk_command.specs.CommandLine.{AreRefused, IsHelp, WordsAsk, WordsAskHelp}
+use Rattle.pk_filedisk.specs.declared.raw.RawFile as raw
+use Rattle.pk_command.specs.CommandLine.{AreRefused, IsHelp, WordsAskHelp}
+use Rattle.pk_command.specs.Growing.{growing_words, growth_line}
+use Rattle.pk_command.specs.Left.{left_of}
 use Rattle.pk_command.specs.Reasons.{checking_words, creating_words, file_words, memory_words}
-use Rattle.pk_command.specs.Reasons.{opening_words, output_words, session_words}
+use Rattle.pk_command.specs.Reasons.{disk_words, opening_words, output_words, session_words}
 use Rattle.pk_command.specs.declared.command_line.Asked.{Asked}
-use Rattle.pk_command.specs.declared.command_line.Asked.TheVariants.{Check, Create, Run}
+use Rattle.pk_command.specs.declared.command_line.Asked.TheVariants.{Check, Create, Grow, Read, Run}
+use Rattle.pk_command.specs.declared.left.Left.{Left}
+use Rattle.pk_command.specs.declared.left.Left.TheVariants as in_hand
 use Rattle.pk_check.specs.Holding.{HoldsNone}
 use Rattle.pk_check.specs.declared.body.Checked.{Checked}
+use Rattle.pk_grow.specs.GrownFile.{GrowsFile}
+use Rattle.pk_grow.specs.Growth.{session_units, store_bytes}
+use Rattle.pk_grow.specs.declared.fault.GrowFault.{GrowFault}
+use Rattle.pk_grow.specs.declared.fault.Growth.{Growth}
+use Rattle.pk_model.specs.Collection.{Collection}
 use Rattle.pk_model.specs.declared.commands.Refusal.{Refusal}
 use Rattle.pk_shell.specs.Called.{EndsByCalls}
 use Rattle.pk_shell.specs.Script.{Ends}
@@ -23,6 +36,7 @@ use Rattle.pk_shell.specs.Sending.{SentPart}
 use Rattle.pk_shell.specs.StoreStep.{StoreStep}
 use Rattle.pk_shell.specs.declared.ending.Ended.{Ended}
 use Rattle.pk_shell.specs.declared.ending.ShellFault.{ShellFault}
+use Rattle.pk_state.specs.Holds.{Holds}
 use Rattle.pk_store.specs.Calls.{Call}
 use Rattle.pk_store.specs.Checking.{Checks, ChecksBytes}
 use Rattle.pk_store.specs.Eras.{Era, Extends, Work}
@@ -51,7 +65,9 @@ IsOfSize units = (least_units ≤ units) × (units ≤ most_units)
 -- a store to be made has such a size
 abbrev pub HasSize : Asked → Type 0
 HasSize (Create path units) = IsOfSize units
+HasSize (Grow path units) = IsOfSize units
 HasSize (Run path) = Unit {0}
+HasSize (Read path) = Unit {0}
 HasSize (Check path) = Unit {0}
 
 -- the era of a store that was opened on the disk, or made on it, and closed after these calls
@@ -127,6 +143,23 @@ CreationOutcome d disk disk' units w w' e e' status =
     ⊎ ((none : IsNotMade d disk disk') × (status ≡ failed)
     × IsTold e e' (creating_words none.refused.why) × (w' ≡ w)))
 
+-- a growth in a file of these bytes answered so, and left the file so
+abbrev pub IsGrowth : {F : Type 0} → raw.Ghosts F → List ℕ → F → F → ℕ → Result Growth GrowFault
+    → Type 0
+IsGrowth f bytes file file' units answer = f.honest → GrowsFile f bytes file file' units answer
+
+-- WHAT A GROWTH CAME TO, and to which file: how many units the store has is told, or a part of that
+-- line where the output failed, and nothing else; else why it has them not.
+abbrev pub GrowthOutcome : {F : Type 0} → raw.Ghosts F → List ℕ → F → F → ℕ → Option (List ℕ)
+    → Option (List ℕ) → Option (List ℕ) → Option (List ℕ) → ℕ → Type 0
+GrowthOutcome f bytes file file' units w w' e e' status =
+    ((growth : Growth) × (status ≡ done) × IsGrowth f bytes file file' units (Ok growth)
+    × Appends w w' (growth_line growth units) × (e' ≡ e))
+    ⊎ (((growth : Growth) × (status ≡ failed) × IsGrowth f bytes file file' units (Ok growth)
+    × IsTold e e' output_words × SentPart w w' (growth_line growth units))
+    ⊎ ((fault : GrowFault) × (status ≡ failed) × IsGrowth f bytes file file' units (Err fault)
+    × IsTold e e' (growing_words fault) × (w' ≡ w)))
+
 -- A STORE THAT WAS CHECKED: the disk opened as one, and on an honest disk what was answered is what
 -- the bytes are. Each history goes on, to the disk as it is now, as if the store had been opened and
 -- closed.
@@ -179,68 +212,160 @@ pub record IsFresh {D : Type 0} (d : Ghosts D) (disk : D) : Type 0 where
   pub reads : d.failed_reads disk ≡ 0
   pub writes : d.failed_writes disk ≡ 0
 
--- a session with the store in a file, and what it left of that
-pub record IsFileSession {D : Type 0} (d : Ghosts D) (r r' w w' e e' : Option (List ℕ))
-    (status : ℕ) : Type 0 where
-  pub file : D
-  pub fresh : IsFresh d file
-  pub long : IsDiskLength (length (d.content file))
-  pub left : D
-  pub session : SessionOutcome d file left r r' w w' e e' status
+-- NO DISK IN A FILE that was to be opened: the fault is told, and what is left in hand is the file,
+-- as it was found, or none was opened.
+pub record IsUnopened {F : Type 0} (f : raw.Ghosts F) (may_hold : List ℕ → Type 0) (path : List ℕ)
+    (e e' : Option (List ℕ)) (status : ℕ) (left : Option F) : Type 0 where
+  pub fault : FileFault
+  pub opening : IsOfOpening fault
+  pub found : f.honest
+      → IsLeftByOpening f.content (IsFound f.content f.path may_hold path) fault left
+  pub ended : status ≡ failed
+  pub told : IsTold e e' (file_words fault)
 
--- WHAT A SESSION CAME TO WITH A FILE: where the file is no disk, for a fault of opening one, nothing
--- was read or written.
-abbrev pub FileSessionOutcome : {D : Type 0} → Ghosts D → Option (List ℕ) → Option (List ℕ)
-    → Option (List ℕ) → Option (List ℕ) → Option (List ℕ) → Option (List ℕ) → ℕ → Type 0
-FileSessionOutcome d r r' w w' e e' status =
-    IsFileSession d r r' w w' e e' status
-    ⊎ ((fault : FileFault) × IsOfOpening fault × (status ≡ failed) × IsTold e e' (file_words fault)
-    × (r' ≡ r) × (w' ≡ w))
+-- THE DISK IN A FILE that was opened at a path, as it was found: its bytes are some that the file
+-- there may have, no call has failed, and nothing is open.
+pub record IsFoundDisk {C F : Type 0} (c : Ghosts C) (f : raw.Ghosts F) (file_of : C → F)
+    (may_hold : List ℕ → Type 0) (path : List ℕ) (disk : C) : Type 0 where
+  pub fresh : IsFresh c disk
+  pub long : IsDiskLength (length (c.content disk))
+  pub found : f.honest → IsFound c.content (λ p. f.path (file_of p)) may_hold path disk
+  pub closed : f.honest → c.is_open disk ≡ nowhere
 
--- a creation in a file of so many units, and what it left of that
-pub record IsFileCreation {D : Type 0} (d : Ghosts D) (units : ℕ) (w w' e e' : Option (List ℕ))
-    (status : ℕ) : Type 0 where
-  pub file : D
-  pub fresh : IsFresh d file
-  pub long : length (d.content file) ≡ units * 512
-  pub left : D
-  pub creation : CreationOutcome d file left units w w' e e' status
+-- THE STORE IN SUCH A DISK, shown as a disk over it: its units are what the body in force says, it
+-- holds what first units of the disk below hold, and that one was only read.
+pub record IsShown {C D : Type 0} (c : Ghosts C) (d : Ghosts D) (honest : Type 0) (below : D → C)
+    (file : C) (disk : D) : Type 0 where
+  pub fresh : IsFresh d disk
+  pub long : IsDiskLength (length (d.content disk))
+  pub shown : honest
+      → d.content disk ≡ store_bytes (session_units (c.content file)) (c.content file)
+  pub holds : honest → (units : ℕ) (all : Collection) → least_units ≤ units → units ≤ most_units
+      → 512 * units ≤ length (c.content file) → Holds (store_bytes units (c.content file)) all
+      → Holds (d.content disk) all
+  pub closed : honest → d.is_open disk ≡ nowhere
+  pub read : KeepsDisk c file (below disk)
 
--- WHAT A CREATION CAME TO WITH A FILE: where there is none, it is for a fault of making one.
-abbrev pub FileCreationOutcome : {D : Type 0} → Ghosts D → ℕ → Option (List ℕ) → Option (List ℕ)
-    → Option (List ℕ) → Option (List ℕ) → ℕ → Type 0
-FileCreationOutcome d units w w' e e' status =
-    IsFileCreation d units w w' e e' status
-    ⊎ ((fault : FileFault) × IsOfMake fault × (status ≡ failed) × IsTold e e' (file_words fault)
-    × (w' ≡ w))
-
--- a check of the store in a file, and what it left of that
-pub record IsFileCheck {D : Type 0} (d : Ghosts D) (w w' e e' : Option (List ℕ)) (status : ℕ)
+-- THE STORE IN A FILE: that disk was found in the file, and the store is shown by this one.
+pub record IsStoreAt {C D F : Type 0} (c : Ghosts C) (d : Ghosts D) (f : raw.Ghosts F)
+    (below : D → C) (file_of : C → F) (may_hold : List ℕ → Type 0) (path : List ℕ) (disk : D)
     : Type 0 where
-  pub file : D
-  pub fresh : IsFresh d file
-  pub long : IsDiskLength (length (d.content file))
-  pub left : D
-  pub check : CheckOutcome d file left w w' e e' status
+  pub file : C
+  pub found : IsFoundDisk c f file_of may_hold path file
+  pub shown : IsShown c d f.honest below file disk
 
--- WHAT A CHECK CAME TO WITH A FILE: where the file is no disk, it is for a fault of opening one.
-abbrev pub FileCheckOutcome : {D : Type 0} → Ghosts D → Option (List ℕ) → Option (List ℕ)
-    → Option (List ℕ) → Option (List ℕ) → ℕ → Type 0
-FileCheckOutcome d w w' e e' status =
-    IsFileCheck d w w' e e' status
-    ⊎ ((fault : FileFault) × IsOfOpening fault × (status ≡ failed) × IsTold e e' (file_words fault)
-    × (w' ≡ w))
+-- NO STORE SHOWN of the disk in a file: a read of it failed, and that is told. The disk is handed
+-- back, and was only read.
+pub record IsUnshown {C F : Type 0} (c : Ghosts C) (f : raw.Ghosts F) (file_of : C → F)
+    (may_hold : List ℕ → Type 0) (path : List ℕ) (e e' : Option (List ℕ)) (status : ℕ) (left : C)
+    : Type 0 where
+  pub file : C
+  pub found : IsFoundDisk c f file_of may_hold path file
+  pub read : KeepsDisk c file left
+  pub failing : Rose (c.failed_reads file) (c.failed_reads left)
+  pub ended : status ≡ failed
+  pub told : IsTold e e' disk_words
 
--- a command that was asked for came to this, by the disk that a creation writes and a check reads,
--- and the disk that a session is on
-abbrev pub CarriedOut : {C D : Type 0} → Ghosts C → Ghosts D → Asked → Option (List ℕ)
-    → Option (List ℕ) → Option (List ℕ) → Option (List ℕ) → Option (List ℕ) → Option (List ℕ) → ℕ
-    → Type 0
-CarriedOut c d (Create path units) r r' w w' e e' status =
-    (r' ≡ r) × FileCreationOutcome c units w w' e e' status
-CarriedOut c d (Run path) r r' w w' e e' status = FileSessionOutcome d r r' w w' e e' status
-CarriedOut c d (Check path) r r' w w' e e' status =
-    (r' ≡ r) × FileCheckOutcome c w w' e e' status
+-- NO STORE AT A PATH: the file is no disk, or a read of the disk failed.
+abbrev pub NoStoreAt : {C F : Type 0} → Ghosts C → raw.Ghosts F → (C → F) → (List ℕ → Type 0)
+    → List ℕ → Option (List ℕ) → Option (List ℕ) → ℕ → Left F C → Type 0
+NoStoreAt {C} {F} c f file_of may_hold path e e' status left =
+    ((file : Option F) × (left ≡ left_of file) × IsUnopened f may_hold path e e' status file)
+    ⊎ ((disk : C) × (left ≡ in_hand.Disk disk)
+    × IsUnshown c f file_of may_hold path e e' status disk)
+
+-- A SESSION WITH THE STORE IN A FILE, over the disk that shows the store. What is left is the disk in
+-- the file, as the session left it.
+pub record IsFileSession {C D F : Type 0} (c : Ghosts C) (d : Ghosts D) (f : raw.Ghosts F)
+    (below : D → C) (file_of : C → F) (may_hold : List ℕ → Type 0) (path : List ℕ)
+    (r r' w w' e e' : Option (List ℕ)) (status : ℕ) (left : C) : Type 0 where
+  pub disk : D
+  pub at : IsStoreAt c d f below file_of may_hold path disk
+  pub ended : D
+  pub session : SessionOutcome d disk ended r r' w w' e e' status
+  pub handed : left ≡ below ended
+
+-- WHAT A SESSION CAME TO WITH A FILE: where there is no store to be opened, nothing was read or
+-- written.
+abbrev pub FileSessionOutcome : {C D F : Type 0} → Ghosts C → Ghosts D → raw.Ghosts F → (D → C)
+    → (C → F) → (List ℕ → Type 0) → List ℕ → Option (List ℕ) → Option (List ℕ) → Option (List ℕ)
+    → Option (List ℕ) → Option (List ℕ) → Option (List ℕ) → ℕ → Left F C → Type 0
+FileSessionOutcome {C} {D} {F} c d f below file_of may_hold path r r' w w' e e' status left =
+    ((disk : C) × (left ≡ in_hand.Disk disk)
+    × IsFileSession c d f below file_of may_hold path r r' w w' e e' status disk)
+    ⊎ (NoStoreAt c f file_of may_hold path e e' status left × (r' ≡ r) × (w' ≡ w))
+
+-- A CREATION IN A FILE of so many units: a file that was made at this path, where nothing was, of
+-- zeros. What is left is the disk, as the creation left it.
+pub record IsFileCreation {D F : Type 0} (d : Ghosts D) (f : raw.Ghosts F) (file_of : D → F)
+    (path : List ℕ) (units : ℕ) (w w' e e' : Option (List ℕ)) (status : ℕ) (left : D)
+    : Type 0 where
+  pub disk : D
+  pub fresh : IsFresh d disk
+  pub long : length (d.content disk) ≡ units * 512
+  pub zeros : f.honest → d.content disk ≡ replicate (units * 512) 0
+  pub closed : f.honest → d.is_open disk ≡ nowhere
+  pub made : f.honest → IsNewAt f.is_new f.path path (file_of disk)
+  pub named : IsTrue (f.is_named (file_of disk))
+  pub creation : CreationOutcome d disk left units w w' e e' status
+
+-- No disk in a file that was to be made: the fault is told, and what is left in hand is the file
+-- that was made, or none was.
+pub record IsUnmade {F : Type 0} (f : raw.Ghosts F) (path : List ℕ) (e e' : Option (List ℕ))
+    (status : ℕ) (left : Option F) : Type 0 where
+  pub fault : FileFault
+  pub making : IsOfMake fault
+  pub made : f.honest → IsLeftByMaking (IsNewAt f.is_new f.path path) fault left
+  pub ended : status ≡ failed
+  pub told : IsTold e e' (file_words fault)
+
+-- WHAT A CREATION CAME TO WITH A FILE: where there is no disk, nothing was written to the output.
+abbrev pub FileCreationOutcome : {D F : Type 0} → Ghosts D → raw.Ghosts F → (D → F) → List ℕ → ℕ
+    → Option (List ℕ) → Option (List ℕ) → Option (List ℕ) → Option (List ℕ) → ℕ → Left F D → Type 0
+FileCreationOutcome {D} {F} d f file_of path units w w' e e' status left =
+    ((disk : D) × (left ≡ in_hand.Disk disk)
+    × IsFileCreation d f file_of path units w w' e e' status disk)
+    ⊎ ((file : Option F) × (left ≡ left_of file) × IsUnmade f path e e' status file × (w' ≡ w))
+
+-- A CHECK OF THE STORE IN A FILE, over the disk that shows the store. What is left is the disk in the
+-- file, as the check left it.
+pub record IsFileCheck {C D F : Type 0} (c : Ghosts C) (d : Ghosts D) (f : raw.Ghosts F)
+    (below : D → C) (file_of : C → F) (may_hold : List ℕ → Type 0) (path : List ℕ)
+    (w w' e e' : Option (List ℕ)) (status : ℕ) (left : C) : Type 0 where
+  pub disk : D
+  pub at : IsStoreAt c d f below file_of may_hold path disk
+  pub ended : D
+  pub check : CheckOutcome d disk ended w w' e e' status
+  pub handed : left ≡ below ended
+
+-- WHAT A CHECK CAME TO WITH A FILE: where there is no store to be opened, nothing was written to the
+-- output.
+abbrev pub FileCheckOutcome : {C D F : Type 0} → Ghosts C → Ghosts D → raw.Ghosts F → (D → C)
+    → (C → F) → (List ℕ → Type 0) → List ℕ → Option (List ℕ) → Option (List ℕ) → Option (List ℕ)
+    → Option (List ℕ) → ℕ → Left F C → Type 0
+FileCheckOutcome {C} {D} {F} c d f below file_of may_hold path w w' e e' status left =
+    ((disk : C) × (left ≡ in_hand.Disk disk)
+    × IsFileCheck c d f below file_of may_hold path w w' e e' status disk)
+    ⊎ (NoStoreAt c f file_of may_hold path e e' status left × (w' ≡ w))
+
+-- A GROWTH OF THE STORE IN A FILE, over a disk that was opened at this path, as it was found. What is
+-- left is the file.
+pub record IsFileGrowth {D F : Type 0} (d : Ghosts D) (f : raw.Ghosts F) (file_of : D → F)
+    (may_hold : List ℕ → Type 0) (path : List ℕ) (units : ℕ) (w w' e e' : Option (List ℕ))
+    (status : ℕ) (left : F) : Type 0 where
+  pub disk : D
+  pub found : IsFoundDisk d f file_of may_hold path disk
+  pub growth : GrowthOutcome f (d.content disk) (file_of disk) left units w w' e e' status
+
+-- WHAT A GROWTH CAME TO WITH A FILE: where the file is no disk, nothing was written to the output.
+abbrev pub FileGrowthOutcome : {D F : Type 0} → Ghosts D → raw.Ghosts F → (D → F) → (List ℕ → Type 0)
+    → List ℕ → ℕ → Option (List ℕ) → Option (List ℕ) → Option (List ℕ) → Option (List ℕ) → ℕ
+    → Left F D → Type 0
+FileGrowthOutcome {D} {F} d f file_of may_hold path units w w' e e' status left =
+    ((file : F) × (left ≡ in_hand.File file)
+    × IsFileGrowth d f file_of may_hold path units w w' e e' status file)
+    ⊎ ((file : Option F) × (left ≡ left_of file)
+    × IsUnopened f may_hold path e e' status file × (w' ≡ w))
 
 -- help was told, or could not be
 abbrev pub HelpOutcome : Option (List ℕ) → Option (List ℕ) → ℕ → Type 0
@@ -256,14 +381,11 @@ RefusalOutcome kind w w' e e' status =
     ⊎ ((kind ≢ OutOfMemory) × ((IsHelp kind × HelpOutcome e e' status)
     ⊎ ((IsHelp kind → ⊥) × (status ≡ refused) × (w' ≡ w))))
 
--- WHAT A COMMAND LINE CAME TO: what its words ask for was carried out, help was told or could not
--- be, it was refused, or memory was. But for a session nothing was read.
-abbrev pub CommandOutcome : {C D : Type 0} → Ghosts C → Ghosts D → List Text → Option (List ℕ)
-    → Option (List ℕ) → Option (List ℕ) → Option (List ℕ) → Option (List ℕ) → Option (List ℕ) → ℕ
-    → Type 0
-CommandOutcome c d words r r' w w' e e' status =
-    ((asked : Asked) × WordsAsk words asked × HasSize asked
-    × CarriedOut c d asked r r' w w' e e' status)
-    ⊎ ((WordsAskHelp words × (r' ≡ r) × HelpOutcome e e' status)
+-- A command line of which no command was carried out: help was told or could not be, it was refused,
+-- or memory was. Nothing was read.
+abbrev pub NoCommandOutcome : List Text → Option (List ℕ) → Option (List ℕ) → Option (List ℕ)
+    → Option (List ℕ) → Option (List ℕ) → Option (List ℕ) → ℕ → Type 0
+NoCommandOutcome words r r' w w' e e' status =
+    (WordsAskHelp words × (r' ≡ r) × HelpOutcome e e' status)
     ⊎ ((AreRefused words × (r' ≡ r) × (w' ≡ w) × (status ≡ refused))
-    ⊎ ((r' ≡ r) × (w' ≡ w) × (status ≡ failed) × IsTold e e' memory_words)))
+    ⊎ ((r' ≡ r) × (w' ≡ w) × (status ≡ failed) × IsTold e e' memory_words))

@@ -51,6 +51,10 @@ session_words session.Memory = codes "pk_find: memory\n"
 abbrev pub not_text_words : List ℕ
 not_text_words = codes "error: an argument is not text\n"
 
+-- of a disk of which no store could be shown, since a read failed
+abbrev pub disk_words : List ℕ
+disk_words = codes "pk_find: disk\n"
+
 -- of want of memory, and of an output that could not be written
 abbrev pub memory_words : List ℕ
 memory_words = codes "pk_find: memory\n"

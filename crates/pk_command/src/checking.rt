@@ -1,12 +1,17 @@
 //! A store, checked.
 
+ghost use Rattle.std.specs.Prelude.{◌≡◌, ◌+◌};
 ghost use Rattle.pk_command.specs.Endings.{CheckOutcome, FileCheckOutcome};
+ghost use Rattle.pk_command.specs.Left.{files_in_hand};
 
-use super::reporting::{DONE, OUTPUT, checking_reason, fail, file_reason, opening_reason};
+use super::left::Left;
+use super::opening::store_at;
+use super::reporting::{DONE, FAILED, OUTPUT, checking_reason, fail, opening_reason};
 use super::telling::tell_checked;
 use pk_disk::Disk;
-use pk_filedisk::{FileDisk, FileSystem, RawFile};
+use pk_filedisk::{FileDisk, OpensFiles, RawFile};
 use pk_store::Store;
+use pk_within::Shortened;
 use std::alloc::Global;
 use std::io::Write;
 
@@ -39,23 +44,24 @@ fn check_on<D: Disk + Drop, W: Write, E: Write>(
 
 /// Checks the store in a file, tells what there is, and answers the status: 0, or 1 where the store
 /// is none, is damaged, or could not be read or told. Each byte is read once, so that no page of the
-/// file is kept.
-pub fn check<F: RawFile + Drop, S: FileSystem<File = F>, W: Write, E: Write>(
-    rt: &S,
+/// file is kept. It hands back the disk in the file, or the file where it is no disk.
+pub fn check<F: RawFile + Drop, S: OpensFiles<File = F>, W: Write, E: Write>(
+    rt: &mut S,
     alloc: Global,
     path: &str,
     output: &mut W,
     faults: &mut E,
-) -> u8
-    ensures { FileCheckOutcome ⟦<FileDisk<F> as Disk>⟧
+) -> (u8, Left<F, FileDisk<F>>)
+    ensures ended { FileCheckOutcome ⟦<FileDisk<F> as Disk>⟧
+        ⟦<Shortened<FileDisk<F>> as Disk>⟧ F.RawFile (λ s. s.disk) (λ d. d.file) (S.may_hold rt.old path.now) path.now
         (W.contents output.old) (W.contents output.new)
-        (E.contents faults.old) (E.contents faults.new) result }
+        (E.contents faults.old) (E.contents faults.new) result.0 result.1 }
+    ensures opened { F.honest → S.opened rt.new ≡ S.opened rt.old + files_in_hand result.1 }
 {
-    match FileDisk::on(rt, path) {
-        Ok(disk) => {
-            let (status, _) = check_on(alloc, disk, output, faults);
-            status
-        }
-        Err(fault) => fail(faults, file_reason(fault)),
-    }
+    let store = match store_at(rt, path, faults) {
+        Ok(store) => store,
+        Err(left) => return (FAILED, left),
+    };
+    let (status, disk) = check_on(alloc, store, output, faults);
+    (status, Left::Disk(disk.into_inner()))
 }

@@ -27,11 +27,11 @@ const CREATE_ABOUT: &str = "Makes a file with an empty store in it";
 
 const CREATE_HELP: &str = "\
 The store has N units of 512 bytes, from 64 to 2147483648, and its file gets that length at once.
-It never grows: 34 units are the store's own, and the others are for documents. A commit takes the
-bytes of its texts, 12 more for each and 24 more, and an index of their words, about half as much
-again for lines of English, in whole units side by side. It is refused where that room is not left.
-A store takes 4096 commits of new documents, and more after a merge, which needs room for all its
-documents once again while it works, or after a tidy, which needs less.
+34 units are the store's own, and the others are for documents. A commit takes the bytes of its
+texts, 12 more for each and 24 more, and an index of their words, about half as much again for lines
+of English, in whole units side by side. It is refused where that room is not left; `grow` makes
+more. A store takes 4096 commits of new documents, and more after a merge, which needs room for all
+its documents once again while it works, or after a tidy, which needs less.
 
 The file is sparse: what was never written takes no room on the disk. So choose N generously. The
 bytes of all texts to come, divided by 64, give eight times their room. For texts of 4 MiB
@@ -39,6 +39,17 @@ bytes of all texts to come, divided by 64, give eight times their room. For text
   pk_find create notes --units 65536
 
 makes a store of 32 MiB in the file `notes`, which must not be there yet.";
+
+const GROW_ABOUT: &str = "Gives the store in a file more units";
+
+const GROW_HELP: &str = "\
+The store has N units of 512 bytes then, and its file is made longer where it has fewer. It prints
+`grown to N units`, or `has N units` where the store had as many. One that has more is refused as
+`shorter`: no store gets smaller.
+
+No document is written again, so it takes no longer for a large store. A kill, or a machine that
+stops, leaves the store with the units that it had or with N, and with all that is committed. Nobody
+else can have the store meanwhile.";
 
 const RUN_ABOUT: &str = "Answers commands from standard input, with the store in a file";
 
@@ -75,7 +86,29 @@ A line that is not done is answered `refused` and why:
                `too many segments`, `segment too large`, `full need A largest B` (in units),
                `memory`, `damaged`, `disk`
 After `refused reopen` end the session and run the program again: what was committed before is
-there, and of what was not, all or nothing.";
+there, and of what was not, all or nothing. Where the system failed to sync the file, that is so
+only once the machine was restarted: until then it may show bytes that it could not write.";
+
+const READ_ABOUT: &str = "Answers questions from standard input, beside whoever writes the file";
+
+const READ_HELP: &str = "\
+Questions, one on each line, each answered by one line, as `run` answers them:
+  find QUERY   finds the documents that satisfy the query: `found K:` and the K numbers
+  show N       tells the text of document N: `text T`, a line feed as `\\n`, a backslash as `\\\\`
+  count        tells how many documents live, and the next number: `count D next N`
+  quit         ends the session: `bye`
+
+Any number of readers may have a store, also while another program writes it. Each answer is that of
+one commit, with all that was committed before the question was read; of what is not committed
+nothing is seen. Of the file only reading is asked, so it may be one that others alone may write.
+
+`add`, `delete`, `commit`, `merge` and `tidy` are refused as `read only`. A line that is not done is
+answered `refused` and why, in the words of `run`; after `memory`, `damaged` and `disk` the line may
+be given again.
+
+Beside a program that commits faster than a question is answered, a reader keeps writers away for
+that question. Where it cannot for a second, it answers `refused disk`. Who begins `run`, `check` or
+`grow` just then is told `disk`.";
 
 const CHECK_ABOUT: &str = "Reads all that is committed in the store of a file, and compares it";
 
@@ -97,8 +130,12 @@ const PATH_HELP: &str = "The file of the store";
 pub enum Asked<'a> {
     /// A file of so many units with an empty store.
     Create { path: &'a str, units: u64 },
+    /// So many units for the store in a file.
+    Grow { path: &'a str, units: u64 },
     /// A session with the store in a file.
     Run { path: &'a str },
+    /// A session that only reads the store in a file.
+    Read { path: &'a str },
     /// A check of the store in a file.
     Check { path: &'a str },
 }
@@ -119,7 +156,7 @@ fn units<'a>(alloc: Global) -> Arg<'a>
         .value_name("N")
         .required(true)
         .value_parser(ValueParser::unsigned(u64::from(LEAST_UNITS), MAX_UNITS))
-        .help("Its size in units of 512 bytes")
+        .help("The store's size in units of 512 bytes")
 }
 
 /// What the command line may say.
@@ -139,17 +176,28 @@ pub fn program<'a>(alloc: Global) -> Result<Command<'a>, AllocError>
         .about(CHECK_ABOUT)
         .after_help(CHECK_HELP)
         .arg(path(alloc))?;
+    let grow = Command::new(alloc, "grow")
+        .about(GROW_ABOUT)
+        .after_help(GROW_HELP)
+        .arg(path(alloc))?
+        .arg(units(alloc))?;
+    let read = Command::new(alloc, "read")
+        .about(READ_ABOUT)
+        .after_help(READ_HELP)
+        .arg(path(alloc))?;
     Command::new(alloc, "pk_find")
         .about(ABOUT)
         .version(VERSION)
         .subcommand_required(true)
         .arg_required_else_help(true)
         .subcommand(create)?
+        .subcommand(grow)?
         .subcommand(run)?
+        .subcommand(read)?
         .subcommand(check)
 }
 
-/// How many units `create` is to make. The range is the command line's own.
+/// How many units a store is to have. The range is the command line's own.
 fn units_of(matches: &ArgMatches<'_>) -> Option<u64>
     ensures size { IfSome result IsOfSize }
     ensures read { IfSome result (λ units. (text : Text)
@@ -177,7 +225,14 @@ pub fn asked_by<'a>(matches: &ArgMatches<'a>) -> Option<Asked<'a>>
             path: given.get_str("PATH")?,
             units: units_of(given)?,
         }),
+        Some(("grow", given)) => Some(Asked::Grow {
+            path: given.get_str("PATH")?,
+            units: units_of(given)?,
+        }),
         Some(("run", given)) => Some(Asked::Run {
+            path: given.get_str("PATH")?,
+        }),
+        Some(("read", given)) => Some(Asked::Read {
             path: given.get_str("PATH")?,
         }),
         Some(("check", given)) => Some(Asked::Check {

@@ -1,7 +1,10 @@
 //! A new store.
 
+ghost use Rattle.std.specs.Prelude.{◌≡◌, ◌+◌};
 ghost use Rattle.pk_command.specs.Endings.{CreationOutcome, FileCreationOutcome, IsOfSize};
+ghost use Rattle.pk_command.specs.Left.{files_in_hand};
 
+use super::left::{Left, left_of};
 use super::reporting::{DONE, OUTPUT, creating_reason, fail, file_reason};
 use super::telling::tell_made;
 use pk_disk::Disk;
@@ -34,25 +37,28 @@ fn create_on<D: Disk, W: Write, E: Write>(
 }
 
 /// Makes a file of so many units with an empty store, tells that, and answers the status: 0, or 1
-/// where there is none or it could not be told.
+/// where there is none or it could not be told. It hands back the disk in the file, or the file where
+/// it was made and is no disk.
 pub fn create<F: RawFile + Drop, S: FileSystem<File = F>, W: Write, E: Write>(
-    rt: &S,
+    rt: &mut S,
     alloc: Global,
     path: &str,
     units: u64,
     output: &mut W,
     faults: &mut E,
-) -> u8
+) -> (u8, Left<F, FileDisk<F>>)
     requires { IsOfSize units }
-    ensures { FileCreationOutcome ⟦<FileDisk<F> as Disk>⟧ units
+    ensures ended { FileCreationOutcome ⟦<FileDisk<F> as Disk>⟧ F.RawFile
+        (λ d. d.file) path.now units
         (W.contents output.old) (W.contents output.new)
-        (E.contents faults.old) (E.contents faults.new) result }
+        (E.contents faults.old) (E.contents faults.new) result.0 result.1 }
+    ensures opened { F.honest → S.opened rt.new ≡ S.opened rt.old + files_in_hand result.1 }
 {
     match FileDisk::make(rt, path, units) {
         Ok(disk) => {
-            let (status, _) = create_on(alloc, disk, units, output, faults);
-            status
+            let (status, disk) = create_on(alloc, disk, units, output, faults);
+            (status, Left::Disk(disk))
         }
-        Err(fault) => fail(faults, file_reason(fault)),
+        Err(none) => (fail(faults, file_reason(none.why)), left_of(none.file)),
     }
 }

@@ -4,12 +4,15 @@ ghost use Rattle.std.specs.Prelude.{◌≡◌};
 ghost use Rattle.clap.specs.Words.{kind_of};
 ghost use Rattle.pk_command.specs.Endings.{IsTold, RefusalOutcome};
 ghost use Rattle.pk_command.specs.Reasons.{checking_words, creating_words, file_words};
+ghost use Rattle.pk_command.specs.Growing.{growing_words};
 ghost use Rattle.pk_command.specs.Reasons.{opening_words, session_words};
 ghost use Rattle.pk_command.specs.Unread.{UnreadOutcome};
 
 use clap::Error;
 use clap::error::ErrorKind;
 use pk_filedisk::FileFault;
+use pk_grow::GrowFault;
+use pk_manifest::ManifestFault;
 use pk_model::Refusal;
 use pk_shell::{ShellFault, write_all};
 use pk_store::{CreateFault, OpenFault};
@@ -27,6 +30,9 @@ pub const REFUSED: u8 = 2;
 
 /// What is told where a growth of memory was refused.
 pub const MEMORY: &str = "pk_find: memory\n";
+
+/// What is told where the system refused a call of the file.
+pub const DISK: &str = "pk_find: disk\n";
 
 /// What is told where the output could not be written.
 pub const OUTPUT: &str = "pk_find: output\n";
@@ -88,7 +94,7 @@ pub fn file_reason(fault: FileFault) -> &'static str
         FileFault::Exists => "pk_find: exists\n",
         FileFault::Missing => "pk_find: missing\n",
         FileFault::BadLength => "pk_find: bad length\n",
-        FileFault::Disk => "pk_find: disk\n",
+        FileFault::Disk => DISK,
     }
 }
 
@@ -99,8 +105,22 @@ pub fn creating_reason(fault: CreateFault) -> &'static str
     match fault {
         CreateFault::TooSmall => "pk_find: too small\n",
         CreateFault::AlreadyAStore => "pk_find: already a store\n",
-        CreateFault::Disk => "pk_find: disk\n",
+        CreateFault::Disk => DISK,
         CreateFault::Memory => MEMORY,
+    }
+}
+
+/// Why a store was not grown, as a line.
+pub fn growing_reason(fault: GrowFault) -> &'static str
+    ensures { result.now ≡ growing_words fault }
+{
+    match fault {
+        GrowFault::Shorter => "pk_find: shorter\n",
+        GrowFault::Store(ManifestFault::NotAStore) => "pk_find: not a store\n",
+        GrowFault::Store(ManifestFault::Damaged) => "pk_find: damaged\n",
+        GrowFault::Store(ManifestFault::UsedUp) => "pk_find: numbers used up\n",
+        GrowFault::Store(ManifestFault::Disk) => DISK,
+        GrowFault::Store(ManifestFault::Memory) => MEMORY,
     }
 }
 
@@ -112,7 +132,7 @@ pub fn opening_reason(fault: OpenFault) -> &'static str
         OpenFault::TooSmall => "pk_find: too small\n",
         OpenFault::NotAStore => "pk_find: not a store\n",
         OpenFault::Damaged => "pk_find: damaged\n",
-        OpenFault::Disk => "pk_find: disk\n",
+        OpenFault::Disk => DISK,
         OpenFault::Memory => MEMORY,
     }
 }
@@ -125,7 +145,7 @@ pub fn checking_reason(why: Refusal) -> &'static str
     match why {
         Refusal::Damaged => "pk_find: damaged\n",
         Refusal::Memory => MEMORY,
-        _ => "pk_find: disk\n",
+        _ => DISK,
     }
 }
 

@@ -7,20 +7,17 @@ use std::alloc::Global;
 use std::io;
 use std::process::ExitCode;
 
-fn main(rt: HostRuntime) -> ExitCode {
+fn main(mut rt: HostRuntime) -> ExitCode {
     let alloc = rt.alloc();
     let mut input = rt.stdin();
     let mut output = rt.stdout();
     let mut faults = rt.stderr();
     let status = match words_of(&rt, alloc) {
-        Ok(words) => command(
-            &rt,
-            alloc,
-            words.as_slice(),
-            &mut input,
-            &mut output,
-            &mut faults,
-        ),
+        Ok(words) => {
+            let words = words.as_slice();
+            let (status, _) = command(&mut rt, alloc, words, &mut input, &mut output, &mut faults);
+            status
+        }
         Err(error) => refuse_words(error.kind(), &mut faults),
     };
     ExitCode::from(status)

@@ -29,6 +29,8 @@
 //! | `!check` | a check of the store | the program's line, or why not |
 //! | `!blocks N` | stores keep `N` decoded blocks at most, from the next opening on; 0 at first | |
 //! | `!pages N` | stores are on a page cache of `N` pages, from the next opening on; on none for 0 | |
+//! | `!within` | stores are on as many units as their bodies say, from the next opening on, and on no page cache | |
+//! | `!grow N` | makes the disk `N` units long where it is shorter, and grows its store to as many | `grown`, `as it was`, or why not |
 //! | `!fail K` | of the calls from the next opening on the `K`th fails, alone | |
 //! | `!fail K read` | of its reads the `K`th; so with `write` and `sync` | |
 //! | `!stop K`, `!stop K read` | that call fails, and all later ones of any kind | |

@@ -1,22 +1,26 @@
 //! What scripts are played on: a disk in memory, and the store that was opened on it.
 
 use crate::device::{Call, Device, Failing, Notes};
-use pk_disk::{Disk, MemoryDisk};
+use pk_disk::{Disk, LEAST_UNITS, MemoryDisk, UNIT, units_in};
+use pk_grow::{GrowFault, Growth, grow};
+use pk_manifest::ManifestFault;
 use pk_model::Refusal;
 use pk_pages::PageCache;
 use pk_shell::{ShellFault, serve};
 use pk_store::{Checked, CreateFault, OpenFault, Refused, Store};
+use pk_within::Shortened;
 use std::alloc::{AllocError, Global};
 use std::str;
 
 /// The most bytes of a disk that scripts speak of.
 const MOST_BYTES: u64 = 8_388_608;
 
-/// A store on a device, or on a page cache over one.
+/// A store on a device, on a page cache over one, or on as many units of one as its body says.
 #[derive(Drop)]
 enum OpenStore {
     Bare(Store<Device>),
     Paged(Store<PageCache<Device>>),
+    Within(Store<Shortened<Device>>),
 }
 
 /// A disk, or the store that is open on it.
@@ -34,6 +38,8 @@ pub struct Player {
     /// How many pages the page cache keeps at most that the next store is on; 0 where it is on
     /// none.
     pages: usize,
+    /// Whether the next store is on as many units as its body says, and on no page cache.
+    is_within: bool,
     /// The calls of a device between the last opening and the closing behind it, or until it was
     /// handed back.
     notes: Option<Notes>,
@@ -81,6 +87,17 @@ fn part(alloc: Global, disk: &mut MemoryDisk, at: u64, n: usize) -> Result<Vec<u
     Ok(bytes)
 }
 
+/// The disk, with zeros behind its bytes where it has fewer than that.
+fn longer(alloc: Global, mut disk: MemoryDisk, size: usize) -> Result<MemoryDisk, AllocError> {
+    let had = disk.len().min(MOST_BYTES) as usize;
+    if size <= had {
+        return Ok(disk);
+    }
+    let mut bytes = vec![in alloc; 0u8; size]?;
+    let _ = disk.read(0, &mut bytes[..had]);
+    Ok(MemoryDisk::of_bytes(alloc, bytes))
+}
+
 /// Changes bytes of a disk, and syncs it.
 fn change(disk: &mut MemoryDisk, at: u64, bytes: &[u8]) -> &'static str {
     if at > MOST_BYTES || at + bytes.len() as u64 > disk.len() {
@@ -111,6 +128,29 @@ fn opening_word(why: OpenFault) -> &'static str {
         OpenFault::Disk => "disk",
         OpenFault::Memory => "memory",
     }
+}
+
+/// What a growth came to, or why there was none.
+fn growing_word(answer: Result<Growth, GrowFault>) -> &'static str {
+    match answer {
+        Ok(Growth::Grown) => "grown",
+        Ok(Growth::AsItWas) => "as it was",
+        Err(GrowFault::Shorter) => "shorter",
+        Err(GrowFault::Store(ManifestFault::NotAStore)) => "not a store",
+        Err(GrowFault::Store(ManifestFault::Damaged)) => "damaged",
+        Err(GrowFault::Store(ManifestFault::UsedUp)) => "numbers used up",
+        Err(GrowFault::Store(ManifestFault::Disk)) => "disk",
+        Err(GrowFault::Store(ManifestFault::Memory)) => "memory",
+    }
+}
+
+/// Grows the store on a device to so many units, which the device has, or tells why not.
+fn grown_on(alloc: Global, device: &mut Device, units: u32) -> &'static str {
+    let all = units_in(device.len());
+    if all < LEAST_UNITS || all < units {
+        return "too small";
+    }
+    growing_word(grow(alloc, device, units))
 }
 
 /// What a check told, in the words of the program.
@@ -183,6 +223,7 @@ impl Player {
             failing: None,
             blocks: 0,
             pages: 0,
+            is_within: false,
             notes: None,
             bytes_read: 0,
         }
@@ -213,6 +254,8 @@ impl Player {
             "!close" => Ok(self.close()),
             "!blocks" => Ok(self.set_blocks(number(rest))),
             "!pages" => Ok(self.set_pages(number(rest))),
+            "!within" => Ok(self.set_within()),
+            "!grow" => self.grow(number(rest)),
             "!fail" => Ok(self.plan(rest, true)),
             "!stop" => Ok(self.plan(rest, false)),
             "!crash" => self.crash(rest),
@@ -229,6 +272,7 @@ impl Player {
         match &mut **store {
             OpenStore::Bare(store) => told(self.alloc, store, line),
             OpenStore::Paged(store) => told(self.alloc, store, line),
+            OpenStore::Within(store) => told(self.alloc, store, line),
         }
     }
 
@@ -240,6 +284,7 @@ impl Player {
         let answer = match &mut **store {
             OpenStore::Bare(store) => store.check(self.alloc),
             OpenStore::Paged(store) => store.check(self.alloc),
+            OpenStore::Within(store) => store.check(self.alloc),
         };
         checking_words(self.alloc, answer)
     }
@@ -264,6 +309,12 @@ impl Player {
         ""
     }
 
+    /// Stores are on as many units as their bodies say, from now on.
+    fn set_within(&mut self) -> &'static str {
+        self.is_within = true;
+        ""
+    }
+
     /// Which call fails of those that begin with the next opening, alone or with all later ones:
     /// its number, and behind it the kind of calls that is counted, where it isn't all.
     fn plan(&mut self, rest: &str, is_once: bool) -> &'static str {
@@ -283,6 +334,9 @@ impl Player {
             return Ok("no disk");
         };
         let device = Device::on(disk, self.failing.take(), notes);
+        if self.is_within {
+            return self.put_within(device, is_new);
+        }
         if self.pages == 0 {
             return self.put_bare(device, is_new);
         }
@@ -304,6 +358,34 @@ impl Player {
             Ok(store) => self.keep(OpenStore::Paged(store), is_new),
             Err((cache, why)) => Ok(self.take_device(cache.into_inner(), why)),
         }
+    }
+
+    /// A store on as many units of a device as its body says.
+    fn put_within(&mut self, device: Device, is_new: bool) -> Result<&'static str, AllocError> {
+        if units_in(device.len()) < LEAST_UNITS {
+            return Ok(self.take_device(device, "too small"));
+        }
+        let shortened = match pk_grow::store_on(device) {
+            Ok(shortened) => shortened,
+            Err(device) => return Ok(self.take_device(device, "disk")),
+        };
+        match store_on(self.alloc, shortened, self.blocks, is_new) {
+            Ok(store) => self.keep(OpenStore::Within(store), is_new),
+            Err((shortened, why)) => Ok(self.take_device(shortened.into_inner(), why)),
+        }
+    }
+
+    /// Makes the disk so many units long where it is shorter, and grows its store to as many.
+    fn grow(&mut self, units: u64) -> Result<&'static str, AllocError> {
+        let notes = Notes::new(self.alloc)?;
+        let Some(disk) = self.disk.take() else {
+            return Ok("no disk");
+        };
+        let units = units.min(MOST_BYTES / UNIT) as u32;
+        let disk = longer(self.alloc, disk, units as usize * 512)?;
+        let mut device = Device::on(disk, self.failing.take(), notes);
+        let word = grown_on(self.alloc, &mut device, units);
+        Ok(self.take_device(device, word))
     }
 
     /// Keeps a store that was made or opened.
@@ -329,6 +411,7 @@ impl Player {
         match Box::into_inner(store) {
             OpenStore::Bare(store) => self.take_device(store.close(), ""),
             OpenStore::Paged(store) => self.take_device(store.close().into_inner(), ""),
+            OpenStore::Within(store) => self.take_device(store.close().into_inner(), ""),
         }
     }
 

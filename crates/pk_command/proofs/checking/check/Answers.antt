@@ -1,15 +1,19 @@
--- The file is the disk that the store was opened on.
+-- The disk that was checked is the one that shows the store.
 use Rattle.std.proofs.Common.{inl, inr, refl}
 use Rattle.pk_command.proofs.checking.check.Goals as goal
 
-pub returns-in-Ok : goal.returns-in-Ok
-returns-in-Ok g c = inl (record {
-  file = c.in-Ok.disk;
-  fresh = record { reads = c.in-Ok.ensures.reads; writes = c.in-Ok.ensures.writes };
-  long = c.in-Ok.ensures.size;
-  left = c.check_on-status.result.1;
-  check = c.check_on-status.ensures;
-})
+pub returns-clause-ended : goal.returns-clause-ended
+returns-clause-ended g c = inl (
+  c.into_inner.result,
+  refl,
+  record {
+    disk = c.in-Ok.store;
+    at = c.in-Ok.ensures.at;
+    ended = c.check_on-status.result.1;
+    check = rw c.in-Ok.ensures.told at c.check_on-status.ensures;
+    handed = c.into_inner.ensures;
+  },
+)
 
-pub returns-in-Err : goal.returns-in-Err
-returns-in-Err g c = inr (c.in-Err.fault, c.in-Err.ensures.fault, c.fail.ensures.status, rw c.file_reason.ensures at c.fail.ensures.told, refl)
+pub returns-in-Err-clause-ended : goal.returns-in-Err-clause-ended
+returns-in-Err-clause-ended g c = inr (c.in-Err.ensures.none, refl)
