@@ -1,9 +1,10 @@
 """Measures a first load of a maildir, its disk, finds, a kill in its midst and a second writer.
 
-    measure.py DATA MAILS [shards | log | growth | starts | line | once]
+    measure.py DATA MAILS [shards | log | growth | starts | line | beside | once]
 
-With `shards`, `log`, `starts` or `line` it measures these alone, with `growth` how fast each fifth of a load
-of the log is, with `once` one load of each, its disk and finds.
+With `shards`, `log`, `starts` or `line` it measures these alone, with `growth` how fast each fifth
+of a load of the log is, with `beside` whole searches while a log is loaded, with `once` one load of
+each, its disk and finds.
 DATA/mails/maildir has the mails, DATA/log a syslog.
 Each system is a command line that loads all of them, one that counts those with a word, and a
 folder that it keeps; absent ones are skipped. Systems take turns in loading. Times are of whole
@@ -22,18 +23,24 @@ import statistics
 import subprocess
 import sys
 import time
+from concurrent.futures import ThreadPoolExecutor
 
-from rubewola import Store
+from rubewola import Reader, Store, commits
 from rubewola.documents import document
+from rubewola.logs import Mark, _Digests
 from rubewola.maildirs import Maildirs
 from rubewola.mails import mail
+from rubewola.words import SIGN
 
 LOADS = int(os.environ.get("LOADS", "3"))
 ASKED = 9
 SHARDS = 4
 WORDS = ["zymotic", "water"]
 STARTS = 21
-LINES, LINE_LOADS = (1_000, 1_000_000), 5  # Documents of a store into which one line is loaded.
+SEARCHING = (1, 4)  # Processes that search at once beside a load.
+MARKED = 2_048  # Lines of which the last has marks.
+# Documents of a store into which one line is loaded, so many times.
+LINES, LINE_LOADS = [int(count) for count in os.environ.get("LINES", "1000 1000000").split()], 5
 FTS = [sys.executable, os.path.abspath(__file__), "fts"]
 # The installed client; RUBEWOLA names it.
 RUBEWOLA = [os.environ.get("RUBEWOLA", "rubewola")]
@@ -207,30 +214,92 @@ def growth(data):
             f"{rates[-1] / rates[0]:.2f}")
 
 
+def filled(path, log, count):
+    """Writes a log of so many lines, and a store that has them, as a loader of short documents leaves
+    it: with the marks of the log, and with the loader's commits and tidies."""
+    digests, first = _Digests(), ""
+    with open(log, "wb") as out, Store.create(path, max(524_288, 2 * count)) as store:
+        for begin in range(0, count, MARKED):
+            lines = [b"line %d\n" % at for at in range(begin, min(begin + MARKED, count))]
+            if not first:
+                digests.take(lines[0])
+                first = digests.digest
+            digests.take(b"".join(lines[0 if begin else 1:]))
+            out.writelines(lines)
+            texts = [b"%b\v\x1d%b" % (line[:-1], f"{SIGN}log".encode()) for line in lines]
+            mark = " ".join(Mark(first, digests.size, digests.digest, str(log)).words())
+            texts[-1] += f" {mark}".encode()
+            commits.add(store, texts)
+
+
 def one_line(data):
-    """What a load of one line takes in a small store and in a large one."""
-    rows = ["| documents in the store | a load of one line | most memory |", "|---|---|---|"]
+    """What a load of one line takes in a small store and in a large one, and of that of processors:
+    of a log of its own, and of the log that the store has."""
+    rows = ["| documents in the store | a line of another log | a line more of this one | most memory |",
+            "|---|---|---|---|"]
     for count in LINES:
         folder = data / "line"
         shutil.rmtree(folder, ignore_errors=True)
-        folder.mkdir()
+        folder.mkdir(parents=True)
         large, small, store = folder / "large.log", folder / "small.log", folder / "store"
-        with open(large, "w", encoding="ascii") as log:
-            log.writelines(f"Nov 26 11:15:56 host unit{at % 99}: line {at}\n" for at in range(count))
-        subprocess.run([*RUBEWOLA, "load-log", store, large], check=True, capture_output=True)
-        took, most = [], 0
-        for at in range(LINE_LOADS):
-            with open(small, "a", encoding="ascii") as log:
-                log.write(f"Nov 26 12:00:00 host other: one more {at}\n")
-            begin = time.monotonic()
-            with subprocess.Popen([*RUBEWOLA, "load-log", store, small],
-                                  stderr=subprocess.DEVNULL) as load:
-                _, _, used = os.wait4(load.pid, 0)
-                load.returncode = 0
-            took.append(time.monotonic() - begin)
-            most = max(most, used.ru_maxrss)
-        rows.append(f"| {count:,} | {statistics.median(took):.2f} s | {most / 1024:.0f} MB |")
+        filled(store, large, count)
+        told, most = [], 0
+        for log in (small, large):
+            took, spent = [], []
+            for at in range(LINE_LOADS):
+                with open(log, "a", encoding="ascii") as out:
+                    out.write(f"one more {at}\n")
+                begin = time.monotonic()
+                with subprocess.Popen([*RUBEWOLA, "load-log", store, log], stderr=subprocess.PIPE,
+                                      text=True) as load:
+                    assert "loaded 1 documents" in (said := load.stderr.read()), said
+                    _, _, used = os.wait4(load.pid, 0)
+                    load.returncode = 0
+                took.append(time.monotonic() - begin)
+                spent.append(used.ru_utime + used.ru_stime)
+                most = max(most, used.ru_maxrss)
+            told.append(f"{statistics.median(took):.2f} s, {statistics.median(spent):.2f} s")
+        rows.append(f"| {count:,} | {' | '.join(told)} | {most / 1024:.0f} MB "
+                    f"| load {os.getloadavg()[0]:.1f}")
+        print(rows[-1], file=sys.stderr)
     return "\n".join(rows)
+
+
+def searched(line, clients, goes_on):
+    """The milliseconds of whole searches, one behind the other by each client while it goes on."""
+    def ask(_):
+        times = []
+        while goes_on():
+            start = time.perf_counter()
+            subprocess.run(line, check=True, stdout=subprocess.DEVNULL)
+            times.append((time.perf_counter() - start) * 1e3)
+        return times
+    with ThreadPoolExecutor(clients) as pool:
+        return sorted(itertools.chain.from_iterable(pool.map(ask, range(clients))))
+
+
+def beside(data, word):
+    """A table of whole searches in a store of mails, with nothing beside them and while a log is
+    loaded into it."""
+    system, rows = systems(data)[0], []
+    line = [part.replace("WORD", word) for part in system.count]
+    for clients in SEARCHING:
+        load(system)
+        ends = time.perf_counter() + 3
+        alone = searched(line, clients, lambda ends=ends: time.perf_counter() < ends)
+        start = time.perf_counter()
+        running = subprocess.Popen([*RUBEWOLA, "load-log", system.folder / "s", data / "log"],
+                                   stderr=subprocess.DEVNULL)
+        times = searched(line, clients, lambda running=running: running.poll() is None)
+        seconds = time.perf_counter() - start
+        if running.returncode:
+            sys.exit("measure: the load failed")
+        told = " | ".join(f"{statistics.median(some):.0f} | {max(some):.0f}"
+                          for some in (alone, times))
+        rows.append(f"| {clients} | {told} | {len(times)} | {seconds:.1f} s "
+                    f"| load {os.getloadavg()[0]:.1f}")
+    return "\n".join(["| searching | alone: median, ms | worst | beside a load: median, ms | worst "
+                      "| searches | the load |", "|---|---|---|---|---|---|---|", *rows])
 
 
 def best_loads(measured):
@@ -277,7 +346,7 @@ def second(system, seconds, word, wanted):
 def in_session(data, words):
     """Milliseconds of finds in an open store, and of opening it."""
     start = time.perf_counter()
-    with Store(data / "stores" / "rubewola" / "s") as store:
+    with Reader(data / "stores" / "rubewola" / "s") as store:
         opening, told = time.perf_counter() - start, []
         for word in words:
             start = time.perf_counter()
@@ -364,6 +433,8 @@ if __name__ == "__main__":
         print(starts(pathlib.Path(sys.argv[1]).absolute(), WORDS[0]))
     elif sys.argv[3:] == ["line"]:
         print(one_line(pathlib.Path(sys.argv[1]).absolute()))
+    elif sys.argv[3:] == ["beside"]:
+        print(beside(pathlib.Path(sys.argv[1]).absolute(), WORDS[1]))
     elif sys.argv[3:] == ["once"]:
         once(pathlib.Path(sys.argv[1]).absolute(), WORDS)
     elif sys.argv[3:]:

@@ -16,7 +16,7 @@ import time
 from concurrent.futures import ThreadPoolExecutor
 from urllib.request import urlopen
 
-from rubewola import Store
+from rubewola import Reader
 
 ASKED, CLIENTS, SECONDS = 21, 4, 5
 KINDS = {"the empty page": "", "a document": "doc/0/1", "a rare word": "?q=zymotic",
@@ -63,7 +63,7 @@ def main():
     try:
         print(f"load {os.getloadavg()[0]:.1f}\n\n| request | found | ms | of a processor |\n"
               f"|---|---|---|---|\n"
-              f"| opening and closing the store | | {median(lambda: Store(path).close()):.1f} | |")
+              f"| opening and closing the store | | {median(lambda: Reader(path).close()):.1f} | |")
         for name, rest in KINDS.items():
             found = re.search("<h2>([\\d,]+) found", urlopen(address + rest).read().decode())
             before = spent(server.pid)

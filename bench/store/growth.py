@@ -3,7 +3,7 @@
     growth.py PROGRAM LOG FOLDER DOCUMENTS..
 
 For each number of documents, the first lines of LOG go over a pipe into a new store, with a commit
-behind each 4,096 and the tidies of the loaders (docs/GUIDE.md), and into a base of FTS5, without
+behind each 4,096 and the tidies of the loaders (docs/ADMINISTRATION.md), and into a base of FTS5, without
 positions of words, a transaction for each 4,096. Both have a process of their own, whose memory is
 told. A new process is then asked for a rare word and for a frequent one, whose numbers must agree.
 FOLDER has the peer fts5, and gets the tables `growth.rates`, of the most documents, and

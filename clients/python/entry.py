@@ -1,5 +1,5 @@
 #!/usr/bin/python3 -SI
-"""Runs the Python package that stands beside this program, in lib/rubewola."""
+"""Runs the Python package that stands beside this program."""
 
 import _signal  # Python's own, there at once: the module `signal` takes a while.
 
@@ -12,7 +12,7 @@ import sys
 
 TOP = os.path.dirname(os.path.dirname(os.path.realpath(__file__)))
 os.environ["RUBEWOLA_PROGRAM"] = os.environ.get("RUBEWOLA_PROGRAM") or f"{TOP}/bin/pk_find"
-sys.path.insert(0, f"{TOP}/lib/rubewola")
+sys.path.append(f"{TOP}/lib/rubewola")
 
 from rubewola.__main__ import run  # The path is known only now.
 

@@ -1,4 +1,5 @@
 """Rubewola from Python: sessions with a store, loaders of mails and logs, and search."""
 
-from .store import (BufferFull, Checked, Counts, Failed, Full, InUse, NoSuchDocument, QueryRefused,
-                    Refused, Store, StoreError, TooManySegments)
+from .errors import (BufferFull, Failed, Full, InUse, NoSuchDocument, QueryRefused, Refused,
+                     StoreError, TooManySegments)
+from .store import Checked, Counts, Reader, Store

@@ -7,9 +7,8 @@ import os
 import sys
 
 from . import actions, commands
-from .arguments import Given, help_of
-from .store import StoreError
-from .told import InputRefused, Misused, tell
+from .commands import Given, help_of
+from .errors import InputRefused, Misused, StoreError, tell
 
 HELP, VERSION = ("--help", "-h", "help"), ("--version", "-V")
 COMPLETE = "--complete"  # For the shells' completions: what the last word may become.
@@ -32,8 +31,7 @@ def done(words: list[str]) -> int:
         actions.put([f"rubewola {commands.VERSION}" if name in VERSION else help_text().rstrip()])
         return 0 if words else 2
     if name == COMPLETE:
-        from . import completing
-        actions.put(completing.candidates(rest))
+        actions.put(commands.candidates(rest))
         return 0
     if name not in commands.COMMANDS:
         raise Misused(f"{name} is no command; `rubewola --help` names them")

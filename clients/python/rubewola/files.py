@@ -18,7 +18,7 @@ from datetime import date
 from functools import lru_cache
 from typing import Any, BinaryIO
 
-from .told import InputRefused
+from .errors import InputRefused
 
 STANDARD_INPUT = "-"
 UNPACKED = 10  # Times the bytes of a packed file that come out of it, or fewer.

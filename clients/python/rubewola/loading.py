@@ -1,50 +1,52 @@
-"""Filling a store from mails, logs and journals.
+"""Filling a store from mails, logs and journals, and the commands that do.
 
-Items are decoded side by side, in their order. A batch of them is made first; then the store is
-opened, the batch added and committed, and the store closed, so that others have it in between.
+A batch of items is decoded first; then the store is opened, the batch added and committed, and the
+store closed, so that others have it in between.
 """
 
 from __future__ import annotations
 
-import multiprocessing
 import os
-import signal
 import sys
-import threading
 import time
-from collections import deque
 from collections.abc import Callable, Iterable, Iterator
-from concurrent.futures import BrokenExecutor, Future, ProcessPoolExecutor, TimeoutError
+from concurrent.futures import BrokenExecutor
 from contextlib import closing, contextmanager, suppress
-from itertools import chain, islice
-from multiprocessing import active_children, connection
-from multiprocessing.process import BaseProcess
+from itertools import islice
 from typing import Any, NamedTuple, Union
 
-from . import limits, searching
-from .commits import add, commit
-from .entries import Journals, JsonLines
+from . import documents, searching
+from .commits import add, commit, grow, grown, units_of
+from .decoding import in_order, processors
+from .errors import Failed, Full, NoSuchDocument, StoreError, tell, waits
+from .jsonlines import Journals, JsonLines
 from .logs import Logs
 from .mailboxes import Mailboxes
 from .maildirs import Maildirs
-from .progress import Progress
-from .sources import Entry, Task
-from .store import LAST_TRY, Failed, Full, NoSuchDocument, Store, StoreError, make
-from .told import waits
+from .sources import Entry
+from .store import LAST_TRY, MOST_UNITS, Store, make
+from .terminal import Progress
+
+TYPE_CHECKING = False
+if TYPE_CHECKING:
+    from .commands import Given
 
 BATCH_DOCUMENTS, BATCH_BYTES = 4_096, 16_777_216  # A commit comes after so many.
-LEAST_UNITS, MOST_UNITS = 524_288, 2_147_483_648  # Of a new store: from 256 MiB to 1 TiB.
+FIRST_UNITS = 524_288  # Of a new store at least: 256 MiB.
 WAIT = 60  # Seconds for which a store that another program has is waited for.
-WATCHED = 1  # Seconds after which it is seen whether the processes are still there.
-AHEAD, AHEAD_BYTES = 64, 134_217_728  # Chunks that are decoded while a batch is added.
+NAMED = 5  # Files that could not be read, and mails with such ones, by their names.
+MOST_JOBS = 256
 
+SOURCES = {"load-mbox": Mailboxes, "load-maildir": Maildirs, "load-log": Logs,
+           "load-json": JsonLines, "load-journal": Journals}
 Source = Union[Mailboxes, Maildirs, Logs, JsonLines, Journals]
 
 
 class Loaded(NamedTuple):
     """What a load did: documents that were added, of which some were cut, some are stored by their
     heads since they could not be read or took too long, and some took the place of another;
-    documents that were deleted; and files that were passed over, or the rest of them."""
+    documents that were deleted; files that were passed over, or the rest of them; and mails with an
+    attached file whose text was wanted and is not there."""
 
     documents: int = 0
     cut: int = 0
@@ -53,10 +55,12 @@ class Loaded(NamedTuple):
     moved: int = 0
     pruned: int = 0
     passed: int = 0
+    unfiltered: int = 0
 
     def __str__(self) -> str:
         told = {"cut": self.cut, "unreadable": self.unreadable, "slow": self.slow,
-                "moved": self.moved, "pruned": self.pruned, "not readable": self.passed}
+                "moved": self.moved, "pruned": self.pruned, "not readable": self.passed,
+                "not filtered": self.unfiltered}
         more = ", ".join(f"{count} {what}" for what, count in told.items() if count)
         return f"{self.documents} documents" + (f" ({more})" if more else "")
 
@@ -66,6 +70,7 @@ class Shared:
 
     def __init__(self, path: str) -> None:
         self._path, self._left, self.changed, self._told = path, None, False, False
+        self._units = 0
 
     def _tell_of_waiting(self) -> None:
         if not self._told:
@@ -76,94 +81,21 @@ class Shared:
     def session(self) -> Iterator[Store]:
         """The store, open."""
         with Store(self._path, WAIT, self._tell_of_waiting) as store:
-            counts = store.count()
+            counts, self._units = store.count(), units_of(self._path)
             self.changed |= self._left not in (None, counts)
             yield store
             self._left = store.count()
 
-
-def _begin_decoding() -> None:
-    """Lets a process that decodes have so much memory, and end when the one that started it does,
-    however that ends."""
-    limits.limit_memory()
-    parent = multiprocessing.parent_process()
-
-    def watch() -> None:
-        connection.wait([parent.sentinel])
-        os._exit(1)
-    threading.Thread(target=watch, daemon=True).start()
-
-
-@contextmanager
-def _no_interrupt() -> Iterator[None]:
-    """Keeps the terminal's interrupt for later, and for ever from processes that are started."""
-    before = signal.pthread_sigmask(signal.SIG_BLOCK, {signal.SIGINT})
-    try:
-        yield
-    finally:
-        signal.pthread_sigmask(signal.SIG_SETMASK, before)
-
-
-def processors() -> int:
-    """How many processors this program may use."""
-    with suppress(AttributeError):  # Not every system tells.
-        return len(os.sched_getaffinity(0))
-    return os.cpu_count() or 1
-
-
-def in_order(tasks: Iterator[Task], jobs: int) -> Iterator[list[Entry]]:
-    """What each task gives, in their order. With more than one they are done side by side."""
-    first = list(islice(tasks, 2))
-    if jobs == 1 or len(first) < 2:
-        for function, *given in chain(first, tasks):
-            with limits.timed():
-                entries = function(*given)
-            yield entries
-        return
-    # A fork is quick. It comes before any other thread, and while no store is open.
-    context = multiprocessing.get_context("fork" if sys.platform == "linux" else None)
-    pool, waiting = ProcessPoolExecutor(jobs, context, _begin_decoding), deque()
-    others, own, is_broken, held = set(active_children()), set(), False, deque()
-    try:
-        for task in chain(first, tasks):
-            with _no_interrupt():
-                waiting.append(pool.submit(_columns, *task))
-            own.update(set(active_children()) - others)
-            held.append(_bytes_of(task))
-            while len(waiting) > AHEAD or len(waiting) > 1 and sum(held) > AHEAD_BYTES:
-                held.popleft()
-                yield [*map(Entry._make, zip(*_result(waiting.popleft(), own)))]
-        while waiting:
-            yield [*map(Entry._make, zip(*_result(waiting.popleft(), own)))]
-    except BrokenExecutor:
-        is_broken = True
-        for process in own:
-            process.kill()
-        raise
-    finally:
-        pool.shutdown(wait=not is_broken, cancel_futures=True)
-
-
-def _bytes_of(task: Task) -> int:
-    """The bytes that are handed over with a task."""
-    given = task[1] if isinstance(task[1], list) else [getattr(task[1], "lines", b"")]
-    return sum(len(one) for one in given if isinstance(one, bytes))
-
-
-def _columns(function: Callable[..., list[Entry]], *given: Any) -> list[tuple[Any, ...]]:
-    """What a task gives, by columns, which are handed over twice as fast as entries."""
-    with limits.timed():
-        return [*zip(*function(*given))]
-
-
-def _result(future: Future[list[Any]], processes: set[BaseProcess]) -> list[Any]:
-    """What a task gives. The library waits for ever where a process is killed while it hands its
-    result over, so now and then they are looked at."""
-    while True:
-        with suppress(TimeoutError):
-            return future.result(WATCHED)
-        if not all(process.is_alive() for process in processes):
-            raise BrokenExecutor("a process that decodes was ended: run it again")
+    def committed(self, done: Callable[[Store], Any]) -> Any:
+        """What a function gives that ends with a commit. Where the store is full, the store grows,
+        and what was not committed is done again."""
+        while True:
+            try:
+                with self.session() as store:
+                    return done(store)
+            except Full as full:
+                if units := grow(self._path, self._units, full, WAIT, self._tell_of_waiting):
+                    tell(grown(self._path, units))
 
 
 def _batches(chunks: Iterable[list[Entry]]) -> Iterator[list[Entry]]:
@@ -184,29 +116,18 @@ def _add(store: Store, entries: list[Entry]) -> Loaded:
     for number in filter(None, (entry.replaces for entry in entries)):
         with suppress(NoSuchDocument):  # Another program has deleted it.
             store.delete(number)
-    try:
-        added = add(store, [entry.data for entry in entries])
-    except Full as full:
-        raise StoreError(f"{store.path} is full: {full.need * 512:,} bytes in a row are wanted, and "
-                         f"{full.largest * 512:,} are free. What was committed before stays. Make a "
-                         f"larger one, as `rubewola create --size {_larger(store.path)} NEW`, and "
-                         "load into it, or carry this one over, as the guide tells of growing"
-                         ) from full
+    added = add(store, [entry.data for entry in entries])
     return Loaded(added, sum(entry.cut for entry in entries),
                   sum(entry.unreadable for entry in entries), sum(entry.slow for entry in entries),
-                  sum(1 for entry in entries if entry.replaces))
-
-
-def _larger(path: str) -> str:
-    """Four times the room of a store, as it is written."""
-    return f"{max(os.path.getsize(path) * 4 >> 20, 1)}M"
+                  sum(1 for entry in entries if entry.replaces),
+                  unfiltered=sum(1 for entry in entries if entry.unfiltered))
 
 
 def _make(path: str, room: int) -> None:
     """Makes a store with eight times the bytes that are to be read. Its file is sparse: what is
     never written takes no room."""
     try:
-        make(path, max(LEAST_UNITS, min(MOST_UNITS, room // 64)))
+        make(path, max(FIRST_UNITS, min(MOST_UNITS, room // 64)))
     except Failed as failed:
         if failed.reason != "exists":
             raise
@@ -257,21 +178,84 @@ def load(path: str, source: Source, with_parts: bool = True, jobs: int = 0,
         for batch in _batches(chunks):
             progress.committed(done.documents)
             batch = _readable(source, batch)
-            with shared.session() as store:
-                if shared.changed:
-                    batch = source.still_lacking(store, batch)
-                done = Loaded(*map(sum, zip(done, _add(store, batch))))
+            added = shared.committed(lambda store, batch=batch: _add(store, (
+                source.still_lacking(store, batch) if shared.changed else batch)))
+            done = Loaded(*map(sum, zip(done, added)))
     if prune:
-        with shared.session() as store:
-            done = done._replace(pruned=source.prune(store))
-            commit(store)
+        done = done._replace(pruned=shared.committed(lambda store: _pruned(store, source)))
     source.passed.extend(one.fault for one in source.inputs if one.fault)
     return done._replace(passed=len(source.passed))
 
 
+def _pruned(store: Store, source: Source) -> int:
+    """Deletes the mails that are no more, and gives how many they were."""
+    pruned = source.prune(store)
+    commit(store)
+    return pruned
+
+
 def _readable(source: Source, batch: list[Entry]) -> list[Entry]:
-    """The entries that could be read; the source is told of the others."""
+    """The entries that could be read; the source is told of the others, and of the first few whose
+    attached files were not."""
+    failed = (f"not filtered: {entry.unfiltered}" for entry in batch if entry.unfiltered)
+    source.notes.extend(islice(failed, max(NAMED - len(source.notes), 0)))
     passed = [entry.passed for entry in batch if entry.passed]
     source.passed.extend(passed)
     source.readable -= len(passed)
     return [entry for entry in batch if not entry.passed]
+
+
+def carry_out(given: Given) -> int:
+    """Loads what a command line names, once or as long as it is followed."""
+    if "follow" in given.options:
+        from . import following
+        return following.follow(given)
+    begin = time.monotonic()
+    source, loaded = once(given, given.words)
+    for note in notes_of(source):
+        tell(note)
+    if "prune" in given.options and source.passed:
+        tell("nothing was pruned, since not all could be read")
+    tell_of(loaded, begin)
+    return 2 if source.passed and not source.readable else 0
+
+
+def once(given: Given, words: list[str]) -> tuple[Source, Loaded]:
+    """Loads what some words name, as a command line wants it; gives what was read and done."""
+    options = given.options
+    source = SOURCES[given.command.name](*words)
+    try:
+        with documents.choosing(_extras(options)):
+            loaded = load(given.stores[0], source, "no_parts" not in options,
+                          min(options.get("jobs", 0), MOST_JOBS), "prune" in options)
+    except BrokenExecutor as error:
+        tell(str(error))
+        sys.stdout.flush()
+        os._exit(2)  # What waits for the process that was ended would wait for ever.
+    return source, loaded
+
+
+def notes_of(source: Source) -> list[str]:
+    """What a reader should know of what was read."""
+    return [*source.notes, *_not_read(source.passed)]
+
+
+def tell_of(loaded: Loaded, begin: float) -> None:
+    """Says what was loaded since a moment of the clock."""
+    if sys.stderr:
+        print(f"loaded {loaded} in {time.monotonic() - begin:.1f} s", file=sys.stderr)
+
+
+def _extras(options: dict[str, Any]) -> documents.Extras:
+    """What the options of a load choose."""
+    filters = None
+    if "filters" in options:
+        from . import config
+        filters = config.read().filters
+    return documents.Extras("no_accents" not in options, filters)
+
+
+def _not_read(told: list[str]) -> list[str]:
+    """Why files could not be read, of the first few of them."""
+    more = [f"and {len(told) - NAMED:,} more could not be read"] if len(told) > NAMED else []
+    return [f"not read: {one}" for one in told[:NAMED]] + more

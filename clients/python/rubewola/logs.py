@@ -2,7 +2,8 @@
 
 A file is known by what it begins with. Now and then a stored line has MARKS behind it: the digest
 of its file's first line, how many bytes of the file are stored with it, their digest, and the
-file's path. A later load goes on behind the most bytes that a file still begins with.
+file's path. A later load goes on behind the most bytes that a file still begins with, by the newest
+marks of which one fits.
 """
 
 from __future__ import annotations
@@ -16,17 +17,19 @@ from datetime import date
 from hashlib import blake2b
 from typing import NamedTuple
 
-from . import days, limits
-from .charsets import decoded
+from . import days, decoding, stamps
 from .documents import MOST_BYTES, document
+from .errors import NoSuchDocument, StoreError
 from .files import Input, Stream, inputs
+from .layout import earlier, lines_words, split
 from .sources import CHUNK_BYTES, CHUNK_ITEMS, Entry, Task, has_kind
-from .store import NoSuchDocument, Store, StoreError
-from .stored import earlier, split
-from .words import SIGN, asked, digest, named
+from .store import Store
+from .texts import decoded
+from .words import asked, named
 
 _LINE_END = b"\n"
 LONGEST_LINE = MOST_BYTES  # Bytes of a line that are read.
+FEW_MARKS = 16  # That are looked at first.
 _DIGITS = 18  # Of the bytes of a file.
 
 
@@ -44,18 +47,22 @@ class Mark(NamedTuple):
                 *named("file", self.path)]
 
 
-def _mark_of(stored: str) -> Mark | None:
+def _mark_of(stored: str, kind: str) -> Mark | None:
     known = split(stored)[1]
     size, _, told = known.get("read", "").partition("_")
-    if not size.isdecimal() or len(size) > _DIGITS or "first" not in known:
+    if not size.isdecimal() or len(size) > _DIGITS or "first" not in known or known["kind"] != kind:
         return None
     return Mark(known["first"], int(size), told, known.get("file", ""))
 
 
-def _marks(store: Store, kind: str, word: str) -> list[Mark]:
-    """The marks that a word finds, the newest first."""
-    numbers = store.find(f"{word} {SIGN}{kind}")[::-1]
-    return [mark for mark in map(_mark_of, list(store.show_all(numbers))) if mark]
+def _marks(store: Store, kind: str, word: str) -> Iterator[list[Mark]]:
+    """The marks that a word finds, the newest first: some at a time, for the newest mostly tell
+    enough, and a large log has many."""
+    # With the word of the kind, which all lines have, the find would take longer.
+    numbers, count = store.find(word)[::-1], FEW_MARKS
+    while numbers:
+        shown, numbers, count = numbers[:count], numbers[count:], count * 4
+        yield [mark for one in list(store.show_all(shown)) if (mark := _mark_of(one, kind))]
 
 
 class _Digests:
@@ -112,13 +119,16 @@ def _first_of(source: Input) -> str:
 
 class Read(NamedTuple):
     """Whole lines as they stand in a file, with the words that mark them, the digest of the file's
-    first line, the place of these ones, and the day on which the file was written."""
+    first line, the place of these ones, and the day on which the file was written; where that is to
+    be found, the file's name and the number of the first of the lines."""
 
     lines: bytes
     marks: list[str]
     first: str
     begin: int
     written: date
+    file: str = ""
+    line: int = 0
 
 
 # The text of a line, its words, and whether it could not be read.
@@ -132,9 +142,13 @@ def entries_of(read: Read, kind: str, parsed: Callable[[bytes, date], Line],
     if not lines[-1]:
         lines.pop()
     entries, last, query = [], len(lines) - 1, f"{read.first} {read.begin}"
+    places = lines_words(named("in", read.file), read.line, len(lines)) if read.line else None
     for at, line in enumerate(lines):
-        marks = read.marks if at in (0, last) else []
-        entries.append(entry(kind, line.rstrip(b"\r"), parsed, read.written, marks, query, with_parts))
+        marks = places[at] if places else []
+        if at in (0, last):
+            marks = [*read.marks, *marks]
+        entries.append(entry(kind, line.rstrip(b"\r"), parsed, read.written, marks, query,
+                             with_parts))
     return entries
 
 
@@ -142,9 +156,9 @@ def entry(kind: str, line: bytes, parsed: Callable[[bytes, date], Line], written
           marks: list[str], asked_by: str, with_parts: bool) -> Entry:
     """A line as a document with these marks. One that takes too much time or memory is stored as
     it stands."""
-    for read_as in (parsed, _bare):
-        limits.begin(len(line))
-        with suppress(limits.Slow, MemoryError):
+    for attempt, read_as in enumerate((parsed, _bare)):
+        with suppress(decoding.Slow, MemoryError):
+            decoding.begin(len(line), attempt)
             text, words, is_unreadable = read_as(line, written)
             data, is_cut = document(kind, text, [*marks, *words],
                                     with_parts and read_as is parsed)
@@ -158,7 +172,7 @@ def _bare(line: bytes, _: date) -> Line:
 
 def _parsed(line: bytes, written: date) -> Line:
     text = decoded(line)
-    return text, [*days.words_of(days.of_line(text, written))], False
+    return text, [*days.words_of(stamps.of_line(text, written))], False
 
 
 def _read_lines(read: Read, with_parts: bool) -> list[Entry]:
@@ -171,7 +185,7 @@ class Logs:
 
     kind = "log"
     read_chunk = staticmethod(_read_lines)
-    longest = LONGEST_LINE
+    longest, has_places = LONGEST_LINE, True
 
     def __init__(self, *paths: str) -> None:
         self.inputs, self.passed = inputs(paths)
@@ -194,9 +208,10 @@ class Logs:
     def _known(self, store: Store, source: Input) -> _File:
         """A file, to be read behind what the store has of it."""
         file = _File(source)
-        marks = _marks(store, self.kind, asked("first", file.first)) if file.first else []
-        if known := _begins_with(source, marks):
-            file.begin = known.size
+        for marks in _marks(store, self.kind, asked("first", file.first)) if file.first else []:
+            if known := _begins_with(source, marks):
+                file.begin = known.size
+                break
         return file
 
     def _with_earlier(self, store: Store, source: Input) -> Iterator[_File]:
@@ -209,7 +224,7 @@ class Logs:
     def _earlier(self, store: Store, file: _File) -> Iterator[_File]:
         """What a log was rotated to, if the store has more of a file of its name."""
         source = file.source
-        known = _marks(store, self.kind, asked("file", source.name))[:1]
+        known = next(filter(None, _marks(store, self.kind, asked("file", source.name))), [])[:1]
         if not known or known[0].size <= file.begin:
             return
         if any(_begins_with(one, known) for one in self.inputs):
@@ -217,9 +232,10 @@ class Logs:
         beside = _rotated(source)
         at = next((at for at, one in enumerate(beside) if _begins_with(one, known)), None)
         if at is None:
-            self.notes.append(f"{source.path} is not what it was at its last load, and what that was "
-                              "rotated to is not beside it: name it too, or what it had more is not "
-                              "stored; lines that both have may be there twice")
+            self.notes.append(
+                f"{source.path} is not what it was at its last load, and what that was rotated to "
+                "is not beside it: name it too, or what it had more is not stored; lines that both "
+                "have may be there twice")
             return
         named_too = {one.name for one in self.inputs}
         for one in beside[at:]:
@@ -263,22 +279,25 @@ class Logs:
             before += file.source.size
 
     def _reads(self, file: _File, stream: Stream) -> Iterator[Read]:
-        digests, last = _Digests(), _LINE_END
+        digests, last, number = _Digests(), _LINE_END, 1
         while digests.size < file.begin:
             last = stream.read(min(file.begin - digests.size, CHUNK_BYTES))
             if not last:
                 return
             digests.take(last)
+            number += last.count(_LINE_END)
         while not last.endswith(_LINE_END) and (last := stream.line(self.longest)):
             digests.take(last)  # A last line that had no end.
-        begin = digests.size
+            number += last.count(_LINE_END)
+        begin, name = digests.size, os.path.basename(file.source.name)
         for lines in self._whole_lines(stream, file.source, digests):
             if file.note:
                 self.notes.append(file.note)
             file.note = ""
             mark = Mark(file.first, digests.size, digests.digest, file.source.name)
-            yield Read(lines, mark.words(), file.first, begin, file.source.written)
-            begin = digests.size
+            yield Read(lines, mark.words(), file.first, begin, file.source.written, name,
+                       number if self.has_places else 0)
+            begin, number = digests.size, number + lines.count(_LINE_END)
 
     def _whole_lines(self, stream: Stream, source: Input, digests: _Digests) -> Iterator[bytes]:
         """The lines of a stream, so many at once as a process decodes; the digests are those of
@@ -304,8 +323,8 @@ class Logs:
             digests.take(rest[:end])
             yield rest[:end]
         if rest[end:] or not digests.is_line_end:
-            self.notes.append(f"{source.path}: its last line has no end yet, and waits for the next "
-                              "load")
+            self.notes.append(f"{source.path}: its last line has no end yet, and waits for the "
+                              "next load")
 
     def still_lacking(self, store: Store, entries: list[Entry]) -> list[Entry]:
         """The entries, if nobody has added lines behind those that this load knows of."""
@@ -316,11 +335,11 @@ class Logs:
         for file in self._files:
             if file.first not in begins:
                 continue
-            marks = _marks(store, self.kind, asked("first", file.first))
-            marks = [mark for mark in marks if mark.size > begins[file.first]]
-            if _begins_with(file.source, marks):
-                raise StoreError(f"another program has loaded lines of {file.source.path} "
-                                 "meanwhile: run it again")
+            for marks in _marks(store, self.kind, asked("first", file.first)):
+                new = [mark for mark in marks if mark.size > begins[file.first]]
+                if new and _begins_with(file.source, new):
+                    raise StoreError(f"another program has loaded lines of {file.source.path} "
+                                     "meanwhile: run it again")
         return entries
 
 

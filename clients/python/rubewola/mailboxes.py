@@ -5,11 +5,11 @@ from __future__ import annotations
 import re
 from collections.abc import Iterator
 
+from .errors import InputRefused
 from .files import Stream, inputs
 from .mails import LONGEST_MAIL, entry, query_of
 from .sources import Entry, Named
 from .store import Store
-from .told import InputRefused
 
 _READ, _LOOKED_AT, _SUM_DIGITS = 4_194_304, 1_024, 16
 _BEGIN = b"From "

@@ -1,4 +1,8 @@
-"""Mails from maildirs: each file is a mail, known by its name and its checksum."""
+"""Mails from maildirs: each file is a mail, known by its name and its checksum.
+
+So are the files of MH folders, whose names are numbers, and those that end with `.eml`. Their names
+are given again, so of these a place is known with its checksum.
+"""
 
 from __future__ import annotations
 
@@ -9,20 +13,23 @@ from collections.abc import Iterator
 from contextlib import suppress
 from typing import NamedTuple
 
+from .errors import InputRefused
+from .layout import MAILS, split
 from .mails import LONGEST_MAIL, entry, identity
 from .places import FOLDERS, Places, base_name, place_of
-from .sources import Entry, Named
+from .sources import Entry, Named, bytes_of
 from .store import Store
-from .stored import split
-from .told import InputRefused
-from .words import SIGN, asked, named
+from .words import SIGN, asked, field_words, named
+
+_EML, _MH, _UNSENT = ".eml", ".mh_sequences", "tmp"
 
 
 class Wanted(NamedTuple):
-    """A file to be loaded, and the document whose place it takes, or 0."""
+    """A file to be loaded, the document whose place it takes, or 0, and the folder's name."""
 
     path: str
     replaces: int
+    folder: str = ""
 
 
 def _raw(path: str) -> bytes | None:
@@ -50,10 +57,37 @@ def _sum(path: str) -> str | None:
 
 
 def _read(wanted: list[Wanted], with_parts: bool) -> list[Entry]:
-    return [one for path, replaces in wanted for one in _entries(path, replaces, with_parts)]
+    return [one for each in wanted for one in _entries(*each, with_parts)]
 
 
-def _entries(path: str, replaces: int, with_parts: bool) -> Iterator[Entry]:
+def _is_loose(path: str) -> bool:
+    """Whether a file stands in no maildir."""
+    return os.path.basename(os.path.dirname(path)) not in FOLDERS
+
+
+def _mails_of(folder: str, names: list[str]) -> list[str]:
+    """Of the files of a folder those that are mails: all of `cur` and `new`, none of `tmp`, of
+    another the numbered files of MH, and those that end with `.eml`."""
+    seen = [name for name in names if not name.startswith(".")]
+    if os.path.basename(folder) in FOLDERS:
+        return seen
+    if os.path.basename(folder) == _UNSENT:
+        return []
+    is_mh = _MH in names or all(map(_is_number, seen))
+    return [name for name in seen if name.lower().endswith(_EML) or is_mh and _is_number(name)]
+
+
+def _is_number(name: str) -> bool:
+    return name.isascii() and name.isdecimal()
+
+
+def _query(path: str) -> str:
+    """What finds a mail that is stored, by its place; a loose one by its checksum, too."""
+    known = _sum(path) if _is_loose(path) else None
+    return asked("path", place_of(path)) + (f" {asked('sum', known)}" if known else "")
+
+
+def _entries(path: str, replaces: int, folder: str, with_parts: bool) -> Iterator[Entry]:
     """A mail; none where it is gone; why, where it cannot be read."""
     place = named("path", place_of(path))
     try:
@@ -62,22 +96,24 @@ def _entries(path: str, replaces: int, with_parts: bool) -> Iterator[Entry]:
         yield Entry(b"", place[0], passed=f"{path}: {error.strerror}")
         return
     if raw is not None:
-        names = [*place, *named("name", base_name(path))]
-        yield entry(Maildirs.kind, raw, names, place[0], with_parts, replaces)
+        names = [*place, *named("name", base_name(path)), *field_words("folder", folder)]
+        known = f" {asked('sum', identity(raw)[1])}" if _is_loose(path) else ""
+        yield entry(Maildirs.kind, raw, names, place[0] + known, with_parts, replaces)
 
 
 class Maildirs(Named):
-    """Maildirs and the folders in them. Each mail that the store lacks is added; one that has moved
-    is stored with its new path."""
+    """Maildirs, MH folders, folders of `.eml` files, and the folders in them. Each mail that the
+    store lacks is added; one that has moved is stored with its new path."""
 
     kind = "maildir"
     read_chunk = staticmethod(_read)
 
     def __init__(self, *tops: str) -> None:
         super().__init__()
+        self._folders: dict[str, str] = {}
         self.paths = [path for top in tops for path in self._files(top)]
         self.paths = sorted(dict.fromkeys(self.paths), key=lambda path: (base_name(path), path))
-        self.size = self.room = sum(map(_bytes_of, self.paths))
+        self.size = self.room = sum(map(bytes_of, self.paths))
         self.readable = len(self.paths)
         count = Counter(map(base_name, self.paths))
         self._twice = {name for name, files in count.items() if files > 1}
@@ -98,13 +134,16 @@ class Maildirs(Named):
                 below.clear()
                 continue
             seen.add(known)
-            if os.path.basename(folder) in FOLDERS:
-                is_maildir = True
-                files = (os.path.join(folder, name) for name in names if not name.startswith("."))
-                yield from filter(self._is_mail, files)
+            is_own = os.path.basename(folder) in FOLDERS
+            own = os.path.dirname(folder) if is_own else folder
+            self._folders[folder] = (os.path.relpath(own, top) if own != top
+                                     else os.path.basename(top))
+            kept = _mails_of(folder, names)
+            is_maildir |= is_own or bool(kept)
+            yield from filter(self._is_mail, (os.path.join(folder, name) for name in kept))
         if not is_maildir and not self.passed:
             raise InputRefused(f"no maildir in {top}: neither `cur` nor `new` is there, nor in a "
-                               "folder below")
+                               f"folder below, nor numbered files of MH, nor any with {_EML}")
 
     def _is_mail(self, path: str) -> bool:
         """Whether a file is there; what cannot be looked at is passed over."""
@@ -127,12 +166,24 @@ class Maildirs(Named):
 
     def lacking(self, store: Store | None, paths: list[str]) -> list[Wanted]:
         """The mails that the store has at no place, or at one where they are no more."""
-        places = self.found(store, [asked("path", place_of(path)) for path in paths])
+        places = self.found(store, [_query(path) if store else "" for path in paths])
         new = [path for path, numbers in zip(paths, places) if not numbers]
         names = self.found(store, [asked("name", base_name(path)) for path in new])
         here = Places()
         judged = [self._judged(store, path, numbers, here) for path, numbers in zip(new, names)]
-        return [one for one in judged if one]
+        wanted = [one._replace(folder=self._folders.get(os.path.dirname(one.path), ""))
+                  for one in judged if one]
+        return [*self._in_place(store, wanted)]
+
+    def _in_place(self, store: Store | None, wanted: list[Wanted]) -> Iterator[Wanted]:
+        """Files to be loaded; a loose one takes the place of what stood there before."""
+        loose = [one.path for one in wanted if _is_loose(one.path) and not one.replaces]
+        before = dict(zip(loose, self.found(store, [asked("path", path) for path in loose])))
+        for one in wanted:
+            left = (each for each in before.get(one.path, ()) if each not in self._replaced)
+            number = next(left, 0)
+            self._replaced.update({number} - {0})
+            yield one._replace(replaces=one.replaces or number)
 
     def _judged(self, store: Store | None, path: str, numbers: list[int],
                 here: Places) -> Wanted | None:
@@ -161,7 +212,8 @@ class Maildirs(Named):
 
     def prune(self, store: Store) -> int:
         """Deletes the mails that are in none of the folders, nor at the place where they were, and
-        gives how many they were. Where a folder cannot be read none is deleted: it may hold them."""
+        gives how many they were. Where a folder cannot be read none is deleted: it may hold
+        them."""
         if self.passed:
             return 0
         here = [asked("path", place_of(path)) for path in self.paths]
@@ -175,8 +227,15 @@ class Maildirs(Named):
         return len(gone)
 
 
-def _bytes_of(path: str) -> int:
-    try:
-        return os.path.getsize(path)
-    except OSError:  # The mail is gone.
-        return 0
+def file_of(known: dict[str, str]) -> tuple[bytes | None, str]:
+    """The bytes of a mail's file, where it is still that mail; or why there are none."""
+    if known.get("kind") != MAILS[0]:
+        return None, "no mail of a maildir: its file is not known"
+    now = Places().path_at(known.get("path", ""))
+    if not now or not stat.S_ISREG(os.stat(now).st_mode):
+        return None, "its file is not there any more"
+    with open(now, "rb") as file:
+        data = file.read(LONGEST_MAIL)
+    if identity(data)[1] != known.get("sum"):
+        return None, f"{now} has another mail now"
+    return data, ""

@@ -12,13 +12,12 @@ from contextlib import suppress
 from functools import lru_cache
 from typing import NamedTuple
 
-from . import days, limits
-from .charsets import decoded
+from . import days, decoding, documents, letters, stamps
 from .documents import MOST_BYTES, document
+from .layout import HEAD
 from .mime import LONGEST_FIELD, Part, blocks, read, text_of
-from .pages import charset_of, page_text
 from .sources import Entry
-from .stored import HEAD
+from .texts import charset_of, decoded, page_text
 from .words import APART, asked, clean, digest, field_words, guarded, named, unguarded
 
 LONGEST_MAIL = 134_217_728  # Bytes of a mail that are read.
@@ -46,6 +45,7 @@ class Parsed(NamedTuple):
     cut: bool = False
     unreadable: bool = False
     slow: bool = False
+    unfiltered: str = ""
 
 
 @lru_cache(maxsize=1)
@@ -86,13 +86,18 @@ def _is_long(part: Part) -> bool:
 
 class _Body:
     """What the parts of a mail hold: the `texts` to show, with those `behind` all parts; `more` of
-    alternatives that are not shown; and the `names` of attached files."""
+    alternatives that are not shown; the `names` of attached files, and those that are `attached`,
+    of which the text is shown where that is chosen, or why it is not is `unfiltered`."""
 
     def __init__(self, top: Part) -> None:
         self.names: list[str] = []
         self.more: list[str] = []
         self.behind: list[str] = []
+        self.attached: list[Part] = []
+        self.unfiltered = ""
         self.texts = [*self._texts(top, 0, True), *self.behind]
+        if documents.chosen().filters is not None:
+            self.texts.extend(self._filtered())
 
     def _texts(self, top: Part, depth: int, is_mail: bool = False) -> Iterator[str]:
         waiting = [top]  # No recursion: parts may stand in one another a thousand deep.
@@ -115,6 +120,16 @@ class _Body:
                     self.behind.append(decoded(part.behind))
             elif part.kind.startswith(_WITH_PARTS) or is_text and (is_whole or not is_attached):
                 yield _part_text(part)
+            else:
+                self.attached.append(part)
+
+    def _filtered(self) -> Iterator[str]:
+        """The texts of attached files."""
+        from . import filters
+        for text, why in filters.texts(self.attached, _part_text):
+            self.unfiltered = self.unfiltered or why
+            if text:
+                yield text
 
     def _chosen(self, inner: list[Part], depth: int) -> Iterator[str]:
         """Of alternatives the plain ones, and the others too where they have many more words."""
@@ -160,7 +175,7 @@ def _day(top: Part) -> tuple[str, tuple[str, ...]]:
     told = field(top, "date")
     received = (decoded(one.rpartition(b";")[2]) for one in top.values("received")[:1])
     for text in (told, *received):
-        if when := days.of_date(text):
+        if when := stamps.of_date(text):
             shown = when.isoformat(" ", "seconds")  # The zone is written as mails write it.
             zone = shown[19:].replace(":", "")
             return f"{shown[:19]} {zone}".strip(), days.words_of(when)
@@ -198,11 +213,14 @@ def _parsed(top: Part, raw: bytes) -> Parsed:
               "cc": head[2], "subject": head[3], "list": field(top, "list-id"),
               "attachment": attached}
     found = [word for name, value in fields.items() if value for word in field_words(name, value)]
+    if documents.chosen().accents:
+        found += [word for name, value in fields.items()
+                  for word in letters.bare_field_words(name, value)]
     lines = [*head, day, attached]
     shown = _fitting(lines)
     return Parsed("\n".join([*shown, "", text]),
                   [*_names(raw), *day_words, *found, *_lacking(body.more, text)],
-                  _is_long(top) or shown != lines)
+                  _is_long(top) or shown != lines, unfiltered=body.unfiltered)
 
 
 def mail(raw: bytes) -> Parsed:
@@ -247,11 +265,11 @@ def entry(kind: str, raw: bytes, names: list[str], asked_by: str, with_parts: bo
           replaces: int = 0) -> Entry:
     """A mail as a document with these names. One that takes too much time or memory is stored by
     its head; one whose head does, by its names."""
-    for read_as in (mail, _slow, _unread):
-        limits.begin(len(raw))
-        with suppress(limits.Slow, MemoryError):
+    for attempt, read_as in enumerate((mail, _slow, _unread)):
+        with suppress(decoding.Slow, MemoryError):
+            decoding.begin(len(raw), attempt)
             parsed = read_as(raw)
             data, is_cut = document(kind, parsed.text, [*names, *parsed.words], with_parts)
             return Entry(data, asked_by, replaces, is_cut or parsed.cut, parsed.unreadable,
-                         parsed.slow)
+                         parsed.slow, unfiltered=parsed.unfiltered)
     raise MemoryError

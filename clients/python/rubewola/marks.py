@@ -4,9 +4,8 @@ from __future__ import annotations
 
 import re
 
-from .letters import ALONE
-from .queries import FIELDS, plain
-from .searching import as_line
+from .letters import ALONE, bare
+from .queries import FIELDS, LINE_FIELDS, plain
 from .words import clean
 
 TYPE_CHECKING = False
@@ -20,7 +19,7 @@ BEGIN, END = "\x1b[1m", "\x1b[m"  # Bold, and as it was.
 
 # A run of letters and digits; of those that stand alone each.
 _RUN = re.compile(rf"{ALONE}|(?:(?!{ALONE})[^\W_])+")
-_INDENT = "    "
+
 # The fields that no line of a list has, with the names of the lines of a head.
 _HEAD_LINES = {"to": "to", "cc": "cc", "attachment": "attached"}
 FIELD_OF = {name: field for field, name in _HEAD_LINES.items()}
@@ -58,24 +57,34 @@ class Marks:
 
     def of_line(self) -> Marks:
         """What is to be marked in a line, which has its fields within it."""
-        values = [value for field, value in self._fields if field not in FIELDS]
+        values = [value for field, value in self._fields
+                  if field not in FIELDS or field in LINE_FIELDS]
         return Marks([*self._typed, *values]) if values else self
 
-    def _places(self, text: str) -> list[tuple[int, int]]:
-        """Where something is to be marked, in the order of the text."""
-        runs = [(run.span(), run[0].casefold()) for run in _RUN.finditer(text)]
-        found: list[tuple[int, int]] = []
-        for at, ((begin, end), run) in enumerate(runs):
-            if run in self._words or run.startswith(self._begun):
-                found.append((begin, end))
+    def _found(self, text: str) -> Iterator[tuple[int, int]]:
+        """Where each word and each phrase stands that is to be marked, by where it begins. No more
+        of a text is looked at than is asked for, but where there are phrases."""
+        runs = ((run.span(), run[0].casefold()) for run in _RUN.finditer(text))
+        if not self._phrases:
+            yield from (place for place, run in runs if self._marks(run))
+            return
+        every = [*runs]
+        for at, ((begin, end), run) in enumerate(every):
+            if self._marks(run):
+                yield begin, end
             for phrase in self._phrases.get(run, ()):
-                if [one for _, one in runs[at:at + len(phrase)]] == phrase:
-                    found.append((begin, runs[at + len(phrase) - 1][0][1]))
-        return _apart(found)
+                if [one for _, one in every[at:at + len(phrase)]] == phrase:
+                    yield begin, every[at + len(phrase) - 1][0][1]
+
+    def _marks(self, run: str) -> bool:
+        return self._has(run) or not run.isascii() and self._has(bare(run))
+
+    def _has(self, run: str) -> bool:
+        return run in self._words or run.startswith(self._begun)
 
     def finds(self, text: str) -> bool:
         """Whether anything is to be marked in a text."""
-        return bool(self._places(text[:_LOOKED_AT]))
+        return next(self._found(text[:_LOOKED_AT]), None) is not None
 
     def head_line(self, doc: dict[str, Any], width: int) -> str:
         """The line of a mail's head in which a field was found that no list of hits shows."""
@@ -88,7 +97,7 @@ class Marks:
     def pieces(self, text: str) -> Iterator[tuple[str, bool]]:
         """A text in pieces, each with whether it is one of the words."""
         at = 0
-        for begin, end in self._places(text):
+        for begin, end in _apart(self._found(text)):
             yield text[at:begin], False
             yield text[begin:end], True
             at = end
@@ -103,14 +112,14 @@ class Marks:
         """So many characters of a text as one line, with the first of the words in their midst;
         where none stands in it, its beginning."""
         text = plain(" ".join(text[:_LOOKED_AT].split()))
-        at = next((begin for begin, _ in self._places(text)), 0)
+        at = next((begin for begin, _ in self._found(text)), 0)
         begin = max(0, min(at - width // 3, len(text) - width))
         if begin and (space := text.find(" ", begin, at)) >= 0:
             begin = space + 1
         return text[begin:begin + width]
 
 
-def _apart(places: list[tuple[int, int]]) -> list[tuple[int, int]]:
+def _apart(places: Iterable[tuple[int, int]]) -> list[tuple[int, int]]:
     """Places by where they begin, of which those that overlap are one."""
     found: list[tuple[int, int]] = []
     for begin, end in places:
@@ -119,31 +128,3 @@ def _apart(places: list[tuple[int, int]]) -> list[tuple[int, int]]:
         else:
             found.append((begin, end))
     return found
-
-
-def lines(documents: Iterable[dict[str, Any]], query: Query, width: int,
-          is_seen: bool) -> Iterator[str]:
-    """A line for each document, and behind that of a mail one of its text, or of its head where a
-    field was found there; where they are seen by a person with the words marked."""
-    marks, room = Marks.of(query), width - len(_INDENT)
-    for doc in documents:
-        if "date" not in doc:
-            yield marks.of_line().marked(as_line(doc)) if is_seen else as_line(doc)
-            continue
-        yield _mail_line(doc, marks) if is_seen else as_line(doc)
-        head = "" if marks.finds(doc["text"]) else marks.head_line(doc, room)
-        if line := head or marks.context(doc["text"], room):
-            name = line.partition(":")[0].lower()
-            shown = marks.within(FIELD_OF.get(name, name)) if head else marks
-            yield _INDENT + (shown.marked(line) if is_seen else line)
-
-
-def _mail_line(doc: dict[str, Any], marks: Marks) -> str:
-    """The line of a mail with the words marked: in its sender and its subject also those that were
-    asked for in these."""
-    line, subject = as_line(doc), plain(doc["subject"])
-    before, found, behind = line.partition(f"  {subject}  ")
-    if not found:
-        return marks.marked(line)
-    return (marks.within("from").marked(before) + "  " + marks.within("subject").marked(subject)
-            + "  " + marks.marked(behind))

@@ -11,14 +11,15 @@ import re
 from collections.abc import Iterator
 from urllib.parse import unquote_to_bytes
 
-from .charsets import decoded
+from .texts import decoded
 
 LONGEST_FIELD = 262_144  # Bytes of a field that are looked at.
 MOST_FIELDS = 16_384  # Of a head.
 MOST_PARTS = 4_096  # What stands behind so many is the text of the last.
 
 _FIELD = re.compile(rb"([!-9;-~]*):[ \t]*([^\n]*(?:\n[ \t][^\n]*)*)(?:\n|\Z)")
-_PARAMETER = re.compile(rb';\s*([^\s=;"]+)\s*=\s*(?:"([^"\\]*(?:\\.[^"\\]*)*)"?|([^;]*))', re.DOTALL)
+_PARAMETER = re.compile(rb';\s*([^\s=;"]+)\s*=\s*(?:"([^"\\]*(?:\\.[^"\\]*)*)"?|([^;]*))',
+                        re.DOTALL)
 _ENCODED = re.compile(rb"=\?([^?]*)\?([bBqQ])\?")
 _CONTINUED = re.compile(r"(.+?)\*(\d{1,4})(\*?)")
 _EMPTY_LINES = (b"\n", b"\r\n")

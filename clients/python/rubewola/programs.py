@@ -24,6 +24,9 @@ class Program:
             # A session of its own, so that the terminal's interrupt does not end it.
             self._id = os.posix_spawnp(name, [name, *words], os.environ, file_actions=actions,
                                        setsid=True)
+        except FileNotFoundError:
+            raise FileNotFoundError(f"there is no program {name}: install it, or name it by "
+                                    "RUBEWOLA_PROGRAM") from None
         finally:
             for end in (to_read, to_reply, to_fail):
                 os.close(end)
@@ -33,7 +36,9 @@ class Program:
         return min(map(_room, (self.input, self.output))) // 2
 
     def ended(self) -> str:
-        """Lets it end, and gives what it told of errors."""
+        """Lets it end, and gives what it told of errors; that once."""
+        if self.output.closed:
+            return ""
         try:
             self.input.close()
         except BrokenPipeError:
@@ -45,6 +50,13 @@ class Program:
         self.output.close()
         self.errors.close()
         return told
+
+    def has_ended(self) -> bool:
+        """Whether it has ended, also where nobody has let it."""
+        if self.status is None:
+            ended, status = os.waitpid(self._id, os.WNOHANG)
+            self.status = os.waitstatus_to_exitcode(status) if ended else None
+        return self.status is not None
 
     def kill(self) -> None:
         """Ends it in its midst."""

@@ -9,13 +9,14 @@ from contextlib import suppress
 
 from . import commits, queries, searching
 from .actions import number, opened
-from .store import Refused, Store
-from .stored import split
-from .told import Misused, tell
+from .errors import Misused, Refused, tell
+from .layout import split
+from .results import Results, as_line
+from .store import Store
 
 TYPE_CHECKING = False
 if TYPE_CHECKING:
-    from .arguments import Given
+    from .commands import Given
 
 TYPED = ["add", "commit", "count", "delete", "find", "help", "merge", "quit", "show", "tidy",
          *(f"{name}:" for name in queries.FIELDS), "AND", "OR", "NOT"]
@@ -66,8 +67,8 @@ def answer(store: Store, line: str) -> str:
     command, _, rest = line.partition(" ")
     if command == "find":
         found = searching.answer(store, rest, tell)
-        results = searching.Results().read(store, searching.newest(found, SHOWN))
-        lines = map(searching.as_line, results.newest(SHOWN))
+        results = Results().read(store, searching.newest(found, SHOWN))
+        lines = map(as_line, results.newest(SHOWN))
         return "\n".join([*lines, f"found {len(found.numbers)}"])
     if command == "show":
         return queries.plain(split(store.show(number(rest)))[0])

@@ -5,21 +5,26 @@ from __future__ import annotations
 import os
 from collections import namedtuple
 
+from .errors import QueryRefused
 from .places import place_of
-from .store import QueryRefused
 from .words import SIGN, asked, clean, field_name, field_words, guarded
 
 TYPE_CHECKING = False
 if TYPE_CHECKING:
-    from collections.abc import Callable, Iterator
     import datetime
+    from collections.abc import Callable, Iterator
 
-FIELDS = ("from", "to", "cc", "subject", "list", "attachment", "date", "id", "path")
+LINE_FIELDS = ("unit", "priority", "host")  # Of journals, and maybe of lines of JSON.
+FIELDS = ("from", "to", "cc", "subject", "list", "attachment", "date", "id", "path", "folder",
+          "flag", "file", "line", *LINE_FIELDS)
+_WHOLE = ("id", "path", "date", "flag", "file", "line")  # Their values are not cut into words.
 
-LONGEST = 65_536  # Characters of a query that are read; a value may be longer than what it asks for.
+# Characters of a query that are read; a value may be longer than what it asks for.
+LONGEST = 65_536
 # What the program refuses as a whole.
-_WHOLE = {"query too long": "the query is too long: it may have 4,096 bytes",
-          "query too deep": "the query is too deep: 64 brackets, or NOT in a row, may be open at once"}
+_REFUSED_WHOLE = {
+    "query too long": "the query is too long: it may have 4,096 bytes",
+    "query too deep": "the query is too deep: 64 brackets, or NOT in a row, may be open at once"}
 OPERATORS = ("AND", "OR", "NOT")
 _JOINERS = "\u200c\u200d"  # Within words of Persian and others; they steer nothing.
 
@@ -92,7 +97,7 @@ def refused(told: str, query: str, place: int) -> QueryRefused:
 def why(reason: str, text: str, byte: int | None) -> str:
     """A reason for which the program refused a query, in plain words."""
     if byte is None:
-        return _WHOLE.get(reason, reason)
+        return _REFUSED_WHOLE.get(reason, reason)
     before, behind = text.encode()[:byte].decode(errors="ignore"), text.encode()[byte:].decode(
         errors="ignore")
     if reason.startswith("query no word"):
@@ -152,7 +157,8 @@ def _token(typed: str, at: int) -> Token:
     return Token(typed[at:end], at, name, typed[begin:close], typed[close:end])
 
 
-def _tokens(typed: str) -> Iterator[Token]:
+def tokens(typed: str) -> Iterator[Token]:
+    """What stands in a query, one behind the other."""
     at = 0
     while at < len(typed):
         yield (token := _token(typed, at))
@@ -166,9 +172,9 @@ def read(typed: str, has_field: Callable[[str], bool], today: datetime.date | No
         raise QueryRefused("query too long")
     typed = clean(typed.replace("\n", " "))
     query = Query(typed, [], [], [], [])
-    tokens = [*_tokens(typed)]
-    chunks = [token for token in tokens if token.is_chunk]
-    for token in tokens:
+    found = [*tokens(typed)]
+    chunks = [token for token in found if token.is_chunk]
+    for token in found:
         piece = _field(token, typed, has_field, today) if token.name else None
         query.pieces.append((token.place, piece or _words_text(token)))
         if piece:
@@ -210,9 +216,20 @@ def _field(token: Token, typed: str, has_field: Callable[[str], bool],
         raise refused("a word stands right behind a quoted value", typed, place + len(token.value))
     if not value.strip():
         raise refused(f"{name}: wants a value right behind it", typed, place)
-    if not is_quoted and name not in ("id", "path", "date"):
+    if not is_quoted and not _is_whole(name, value):
         return _each_word(name, value, typed, place)
-    return _program_text(name, value, typed, place, today)
+    told = _program_text(name, value, typed, place, today)
+    if name in ("file", "line") and has_field(name):  # Of lines of JSON.
+        told = f"({told} OR {_each_word(name, value, typed, place)})"
+    return told
+
+
+def _is_whole(name: str, value: str) -> bool:
+    """Whether a value is not cut into words."""
+    if name != "priority":
+        return name in _WHOLE
+    from . import fields
+    return fields.is_priority(value)
 
 
 def _field_words(name: str, value: str, typed: str, place: int) -> list[str]:
@@ -240,11 +257,17 @@ def _program_text(name: str, value: str, typed: str, place: int,
         return asked("path", place_of(os.path.abspath(os.path.expanduser(value))))
     if name == "date":
         from datetime import date
-        from . import ranges
+        from . import days
         try:
-            return ranges.query(value, today or date.today())
+            return days.query(value, today or date.today())
         except (ValueError, OverflowError) as error:
             raise refused(f"no day: {error}", typed, place) from error
+    if _is_whole(name, value):
+        from . import fields
+        try:
+            return fields.READ[name](value)
+        except ValueError as error:
+            raise refused(f"{name}: {error}", typed, place) from error
     words = _field_words(name, value, typed, place)
     return words[0] if len(words) == 1 else f'"{" ".join(words)}"'
 

@@ -10,13 +10,13 @@ import time
 from http.server import BaseHTTPRequestHandler
 from urllib.parse import parse_qs
 
-from .actions import opened, put
-from .told import Misused, tell
+from .actions import put
+from .errors import Misused, tell
 from .views import View, Views
 
 TYPE_CHECKING = False
 if TYPE_CHECKING:
-    from .arguments import Given
+    from .commands import Given
 
 LOOPBACK = "127.0.0.1"
 NAMES = (LOOPBACK, "localhost", "[::1]")  # Another name may be one that leads here since a moment.
@@ -61,7 +61,9 @@ class Server(socketserver.ThreadingTCPServer):
         super().shutdown_request(request)
 
     def service_actions(self) -> None:
-        """Twice a second: hears no more of clients that take too long."""
+        """Twice a second: hears no more of clients that take too long; ends sessions that nobody
+        uses."""
+        self.views.end_idle()
         late = time.monotonic() - LONGEST
         for request, came in [*self._clients.items()]:
             if came < late:
@@ -139,10 +141,8 @@ def serve(given: Given) -> int:
     port = given.options.get("port", 0)
     if port > LARGEST_PORT:
         raise Misused(f"--port is at most {LARGEST_PORT}")
-    for path in given.stores:
-        with opened(path):
-            pass  # A wrong path is told at once.
     with Server(given.stores, port) as server:
+        server.views.open()  # A wrong path is told at once.
         tell("open this address; whoever has it can read the stores; an interrupt ends the page")
         put([f"http://{LOOPBACK}:{server.port}{server.top}"])
         sys.stdout.flush()

@@ -2,13 +2,15 @@
 
 from __future__ import annotations
 
+import os
 from collections.abc import Callable, Iterable, Iterator, Sequence
 from typing import Any, NamedTuple
 
 from .commits import COMMIT
+from .errors import Refused
 from .files import Input
-from .store import Refused, Store
-from .stored import split
+from .layout import split
+from .store import Store
 from .words import SIGN
 
 ASKED_AT_ONCE = 4_096
@@ -18,7 +20,8 @@ CHUNK_BYTES, CHUNK_ITEMS = 262_144, 2_048  # What a process decodes at once.
 class Entry(NamedTuple):
     """A document to be added: its bytes; a query that finds it where it is there already; the
     number of the document whose place it takes, or 0; and what its reader should be told. One that
-    could not be read at all is `passed`, with why, and not added."""
+    could not be read at all is `passed`, with why, and not added. Of one with an attached file of
+    which no text was read `unfiltered` tells why."""
 
     data: bytes
     query: str
@@ -27,6 +30,7 @@ class Entry(NamedTuple):
     unreadable: bool = False
     slow: bool = False
     passed: str = ""
+    unfiltered: str = ""
 
 
 # A function that gives entries, with what it is given. It may run in another process.
@@ -71,6 +75,7 @@ class Named:
     def __init__(self) -> None:
         self._asks, self._seen = False, set()
         self.passed: list[str] = []
+        self.notes: list[str] = []
 
     def is_new(self, known: str) -> bool:
         """Whether a digest is met for the first time."""
@@ -126,3 +131,11 @@ class Named:
 def _size(item: object) -> int:
     """The bytes of an item as it is handed on; a mail's file counts as a mail of the usual size."""
     return len(item) if isinstance(item, bytes) else 2_048
+
+
+def bytes_of(path: str) -> int:
+    """The bytes of a mail's file."""
+    try:
+        return os.path.getsize(path)
+    except OSError:  # The mail is gone.
+        return 0

@@ -12,6 +12,7 @@ import os
 SIGN, GUARD = "\u01bb", "\u200b"
 NAMING = SIGN * 2
 APART = NAMING  # A word between two that do not stand in a row.
+ABSENT = NAMING + "none"  # A word that no document has: no loader writes it, and no text holds it.
 LONGEST_NAME = 1_024
 
 # The letters and digits of ASCII, folded; all else of it is a space.

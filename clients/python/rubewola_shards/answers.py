@@ -8,7 +8,7 @@ from datetime import date
 from itertools import chain
 from typing import NamedTuple
 
-from rubewola import QueryRefused, queries, searching
+from rubewola import QueryRefused, queries, results
 from rubewola.sources import portions
 from rubewola.words import has_word
 
@@ -61,4 +61,4 @@ def lines(fleet: Fleet, numbers: Iterable[int], form: str) -> Iterator[str]:
     for some in portions(numbers, SHOWN_AT_ONCE):
         there = texts(fleet, some)
         for number in filter(there.__contains__, some):
-            yield searching.FORMATS[form](searching.parsed(there[number], number))
+            yield results.FORMATS[form](results.parsed(there[number], number))

@@ -9,7 +9,7 @@ import time
 from collections.abc import Iterator
 from contextlib import suppress
 
-from rubewola import queries, stored
+from rubewola import layout, queries
 
 from . import answers, inputs, loading
 from .archive import Archive
@@ -119,7 +119,7 @@ def answer(fleet: Fleet, line: str) -> None:
         print(*answers.lines(fleet, found.numbers, "text"), f"found {found.count}", sep="\n")
     elif command == "show":
         text = answers.texts(fleet, [_number(rest)]).get(_number(rest))
-        print("no such document" if text is None else queries.plain(stored.split(text)[0]))
+        print("no such document" if text is None else queries.plain(layout.split(text)[0]))
     elif command == "delete":
         delete(fleet, argparse.Namespace(numbers=[*map(_number, rest.split())]))
     elif line == "counts":

@@ -5,7 +5,7 @@ from __future__ import annotations
 import sys
 
 from rubewola import StoreError
-from rubewola.told import InputRefused
+from rubewola.errors import InputRefused
 
 
 class ShardsError(Exception):

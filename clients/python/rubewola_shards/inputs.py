@@ -2,22 +2,28 @@
 
 from __future__ import annotations
 
+import os
 from collections.abc import Iterator
-from datetime import date
 from itertools import groupby, islice
-from typing import Any
+from typing import Any, NamedTuple
 
-from rubewola.stored import split
+from rubewola.errors import InputRefused
 from rubewola.files import Input
-from rubewola.loading import BATCH_BYTES, BATCH_DOCUMENTS, Logs, Mailboxes
-from rubewola.logs import Read
+from rubewola.layout import split
+from rubewola.loading import BATCH_BYTES, BATCH_DOCUMENTS
+from rubewola.logs import Logs, Read
+from rubewola.mailboxes import Mailboxes
 from rubewola.sources import Task, portions
-from rubewola.told import InputRefused
 
 from .archive import Archive
 
-# An item as it stands in its file, and of a line the day on which that was written.
-Item = tuple[bytes, Any]
+
+class Item(NamedTuple):
+    """An item as it stands in its file, and of a line that file and the line's number there."""
+
+    data: bytes
+    file: Input | None = None
+    line: int = 0
 
 
 class Lines:
@@ -31,11 +37,11 @@ class Lines:
         """All lines, with their ends."""
         for file in self._files:
             with file.opened() as (stream, _):
-                for line, _ in stream.lines(Logs.longest):
+                for number, (line, _) in enumerate(stream.lines(Logs.longest), 1):
                     if line.endswith(b"\n"):
-                        yield line, file.written
+                        yield Item(line, file, number)
                     elif not file.fault and self._is_whole(file):
-                        yield line + b"\n", file.written
+                        yield Item(line + b"\n", file, number)
             _refuse_faults([file])
 
     def _is_whole(self, file: Input) -> bool:
@@ -46,9 +52,12 @@ class Lines:
         return not waits
 
     @staticmethod
-    def task(items: list[bytes], written: date, with_parts: bool) -> Task:
-        """What makes documents of lines of one file. Places are known, so no line is marked."""
-        return Logs.read_chunk, Read(b"".join(items), [], "", 0, written), with_parts
+    def task(items: list[Item], with_parts: bool) -> Task:
+        """What makes documents of lines of one file, one behind the other. How far the archive has
+        it is known, so no line is marked."""
+        file, line = items[0].file, items[0].line
+        name, lines = os.path.basename(file.name), b"".join(item.data for item in items)
+        return Logs.read_chunk, Read(lines, [], "", 0, file.written, name, line), with_parts
 
 
 class Mails:
@@ -62,13 +71,13 @@ class Mails:
         """All mails."""
         for raw in self._boxes.items():
             _refuse_faults(self._boxes.inputs)
-            yield raw, None
+            yield Item(raw)
         _refuse_faults(self._boxes.inputs)
 
     @staticmethod
-    def task(items: list[bytes], _: None, with_parts: bool) -> Task:
+    def task(items: list[Item], with_parts: bool) -> Task:
         """What makes documents of mails."""
-        return Mailboxes.read_chunk, items, with_parts
+        return Mailboxes.read_chunk, [item.data for item in items], with_parts
 
 
 def _whole(source: Any) -> Any:
@@ -87,9 +96,9 @@ def _refuse_faults(files: list[Input]) -> None:
 
 
 def tasks_of(source: Lines | Mails, items: list[Item], with_parts: bool) -> list[Task]:
-    """What makes a document of each item, in their order."""
-    return [source.task([data for data, _ in some], written, with_parts)
-            for written, some in groupby(items, lambda item: item[1])]
+    """What makes a document of each of these items, which follow each other."""
+    return [source.task([*some], with_parts)
+            for _, some in groupby(items, lambda item: id(item.file))]
 
 
 def batches(archive: Archive, source: Lines | Mails, start: int) -> Iterator[tuple[int, list[Item]]]:
@@ -106,7 +115,7 @@ def batches(archive: Archive, source: Lines | Mails, start: int) -> Iterator[tup
 
 
 def _size(item: Item) -> int:
-    return len(item[0])
+    return len(item.data)
 
 
 def known_by(stored: str) -> str:

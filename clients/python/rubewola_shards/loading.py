@@ -10,9 +10,10 @@ from itertools import islice
 from typing import Any, NamedTuple
 
 from rubewola import loading
+from rubewola.commits import grown
 
 from .archive import Archive, Shard
-from .faults import Missing, OtherInput
+from .faults import Missing, OtherInput, tell
 from .fleet import Fleet
 from .inputs import Lines, Mails, batches, known_by, tasks_of
 from .session import Added
@@ -110,4 +111,6 @@ class _Feed:
         while len(self._waiting[shard]) > most:
             if added := self._waiting[shard].popleft().result():
                 self._nexts[shard] = added.next
+                for units in added.grown:
+                    tell(grown(shard.name, units))
                 self.cut, self.unreadable = self.cut + added.cut, self.unreadable + added.unreadable

@@ -12,8 +12,8 @@ from concurrent.futures import ThreadPoolExecutor
 from functools import wraps
 from typing import Any, NamedTuple
 
-from rubewola import Counts, Failed, InUse, NoSuchDocument, QueryRefused, Store, StoreError
-from rubewola.commits import commit
+from rubewola import Counts, Failed, Full, InUse, NoSuchDocument, QueryRefused, Store, StoreError
+from rubewola.commits import commit, grow, units_of
 from rubewola.loading import BATCH_BYTES, BATCH_DOCUMENTS
 from rubewola.sources import Entry, Task, portions
 from rubewola.store import make
@@ -34,11 +34,12 @@ class Taken(NoAnswer):
 
 class Added(NamedTuple):
     """What a load left: the next number; of the documents that it added some were cut, and some
-    could not be read."""
+    could not be read; the units to which the store grew, each time."""
 
     next: int
     cut: int
     unreadable: int
+    grown: tuple[int, ...] = ()
 
 
 def _in_turn(method: Callable[..., Any]) -> Callable[..., Coroutine[Any, Any, Any]]:
@@ -75,6 +76,19 @@ def _with_store(method: Callable[..., Any]) -> Callable[..., Coroutine[Any, Any,
     return _in_turn(carried_out)
 
 
+def _growing(method: Callable[..., Any]) -> Callable[..., Any]:
+    """A method that commits: where the store is full it grows, and the method is carried out again
+    over what is committed."""
+    @wraps(method)
+    def carried_out(session: Session, store: Store, *given: Any) -> Any:
+        while True:
+            try:
+                return method(session, store, *given)
+            except Full as full:
+                store = session.larger(full)
+    return carried_out
+
+
 class Session:
     """One store, opened at its first use.
 
@@ -85,6 +99,7 @@ class Session:
 
     def __init__(self, path: str, identity: str) -> None:
         self._path, self._identity, self._store = path, identity, None
+        self._grown: list[int] = []
         self.thread = ThreadPoolExecutor(1)
 
     def opened(self) -> Store:
@@ -103,6 +118,14 @@ class Session:
         except BaseException:
             self._end()
             raise
+
+    def larger(self, full: Full) -> Store:
+        """The store, open, with more units, as it was committed."""
+        had = units_of(self._path)
+        self._end()
+        if units := grow(self._path, had, full, WAIT):
+            self._grown.append(units)
+        return self.opened()
 
     def _judge(self, has_store: bool) -> None:
         """Refuses a store that was made as another shard."""
@@ -159,6 +182,7 @@ class Session:
         return following, 0, ""
 
     @_with_store
+    @_growing
     def load(self, store: Store, at: int, count: int, packed: bytes) -> Added:
         """Adds and commits the documents of packed tasks, `count` from the number `at` on, as far as
         the store lacks them. So what is sent twice is added once."""
@@ -173,8 +197,9 @@ class Session:
             for _ in store.add_all(entry.data for entry in batch):
                 pass
             commit(store)
+        grown, self._grown = self._grown, []
         return Added(store.count().next, sum(entry.cut for entry in lacking),
-                     sum(entry.unreadable for entry in lacking))
+                     sum(entry.unreadable for entry in lacking), tuple(grown))
 
     @_with_store
     def find(self, store: Store, query: str, limit: int, most: int) -> tuple[int, bytes]:
@@ -190,6 +215,7 @@ class Session:
         return _texts(store, numbers)
 
     @_with_store
+    @_growing
     def delete(self, store: Store, numbers: list[int]) -> list[bool]:
         """Deletes documents and commits that, and tells which of them were there."""
         were_there = [text is not None for text in _texts(store, numbers)]

@@ -1,6 +1,8 @@
 """What the tests share: a folder with a store, files in it, and the client's command line."""
 
+import functools
 import io
+import os
 import shutil
 import signal
 import subprocess
@@ -12,7 +14,7 @@ from contextlib import redirect_stderr, redirect_stdout
 from pathlib import Path
 from unittest import mock
 
-from rubewola import Store, __main__, searching
+from rubewola import Store, __main__, results, searching
 
 TOP = Path(__file__).resolve().parents[3]
 RUBEWOLA = [sys.executable, "-m", "rubewola"]
@@ -83,7 +85,7 @@ class Stores(unittest.TestCase):
     def texts(self):
         with Store(self.store, wait=LONG) as store:
             numbers = store.find("NOT xyzzy")
-            return dict(zip(numbers, (searching.parsed(text, 0)["text"]
+            return dict(zip(numbers, (results.parsed(text, 0)["text"]
                                       for text in store.show_all(numbers))))
 
     def kill_in_midst(self, command, *words, commits=1):
@@ -97,6 +99,22 @@ class Stores(unittest.TestCase):
         loader.send_signal(signal.SIGKILL)
         loader.communicate()
         return loader.returncode == -signal.SIGKILL
+
+
+@functools.lru_cache(maxsize=None)
+def reads():
+    """Whether the program has a session that only reads."""
+    line = [os.environ["RUBEWOLA_PROGRAM"], "read", "/"]
+    return subprocess.run(line, capture_output=True, check=False).returncode != 2
+
+
+def older(folder):
+    """A program that has no such session."""
+    script = folder / "older"
+    script.write_text('#!/bin/sh\nif [ "$1" = read ]; then echo no >&2; exit 2; fi\n'
+                      f'exec {os.environ["RUBEWOLA_PROGRAM"]} "$@"\n')
+    script.chmod(0o755)
+    return mock.patch.dict(os.environ, RUBEWOLA_PROGRAM=str(script))
 
 
 def processes_of(session):

@@ -11,9 +11,8 @@ import sys
 import unittest
 from unittest import mock
 
-from rubewola import Store, days, documents, searching
-from rubewola.commands import COMMANDS, VERSION
-from rubewola.completing import candidates
+from rubewola import Store, days, documents, results, searching
+from rubewola.commands import COMMANDS, VERSION, candidates
 
 from support import RUBEWOLA, TOP, Stores, mail, mbox
 
@@ -35,7 +34,7 @@ class Commands(Stores):
 
     def test_the_newest_by_day(self):
         for words, told in [(["wort"], "3 2 1"), (["wort", "--limit", "2"], "2 1"),
-                            (["wort", "--limit=1"], "2"), (["--limit", "9", "wort"], "3 2 1"),
+                            (["wort", "--limit=1"], "1"), (["--limit", "9", "wort"], "3 2 1"),
                             (["zahl1 OR zahl3", "--limit", "1"], "1")]:
             said = self.run_line("wort|Ada", "search", *words).stdout
             self.assertEqual(" ".join(re.findall(r"(?m)^\d+", said)), told, words)
@@ -66,8 +65,9 @@ class Commands(Stores):
             self.loaded(3, "load-log", log)
         line = ["-s", self.store, "--store", other, "wort"]
         with mock.patch.object(self, "ran", self.bare):
-            self.run_line(rf"\A{other}:3: wort\n{other}:2: 2009-.*\n{self.store}:3: .*\n{other}:1: "
-                          rf".*\n{self.store}:2: .*\n{self.store}:1: .*\n\Z", "search", *line)
+            self.run_line(rf"\A{other}:3: wort\n{other}:2: 2009-.*\n{self.store}:3: .*\n"
+                          rf"{self.store}:2: .*\n{other}:1: .*\n{self.store}:1: .*\n\Z", "search",
+                          *line)
             self.run_line(r"\A6\n\Z", "search", "--count", *line)
             self.run_line(rf'\A{{"store": "{other}", "number": 1,', "search", "--format=json", *line,
                           "im")
@@ -143,7 +143,8 @@ class Commands(Stores):
 
     def test_marks_on_a_terminal(self):
         terminal, other = os.openpty()
-        subprocess.run([*RUBEWOLA, "search", self.store, "ZAHL3", "s3"], stdout=other, check=True)
+        subprocess.run([*RUBEWOLA, "search", self.store, "ZAHL3", "s3"], stdout=other, check=True,
+                       env={**os.environ, "RUBEWOLA_PAGER": "cat", "NO_COLOR": ""})
         os.close(other)
         self.assertRegex(self.all_of(terminal),
                          r"\A3: .*\x1b\[1ms3\x1b\[m .*\r\n    wort \x1b\[1mzahl3\x1b\[m\r\n\Z")
@@ -187,7 +188,7 @@ class Commands(Stores):
                              ("a@x.org", "a@x.org"), ("<a@x>", "a@x"), ("a@x (Ada)", "Ada"),
                              ("Ada <a@x>, Bo <b@x>", "Ada"), ("", ""), ('"', '"'),
                              ("Ada  Byron\t<a@x>", "Ada Byron")]:
-            self.assertEqual(searching.sender(told), sender, told)
+            self.assertEqual(results.sender(told), sender, told)
 
 
 class Completions(unittest.TestCase):
@@ -198,7 +199,8 @@ class Completions(unittest.TestCase):
                 (["sea"], ["search"]), (["load-m"], ["load-maildir", "load-mbox"]),
                 (["search", ""], []), (["search", "store", "fr"], ["from:"]),
                 (["search", "store", "N"], ["NOT"]), (["search", "-s", "store", "da"], ["date:"]),
-                (["search", "--c"], ["--count", "--context"]),
+                (["search", "--c"], ["--count", "--context"]), (["search", "s", "un"], ["unit:"]),
+                (["search", "--sort", "o"], ["oldest"]),
                 (["search", "--format", "j"], ["json"]), (["show", "store", ""], []),
                 (["delete", "store", "--query", "su"], ["subject:"]), (["load-log", "s", ""], []),
                 (["nothing", ""], []), (["--v"], ["--version"]), (["ser"], ["serve"]),

@@ -5,12 +5,12 @@ import os
 import signal
 import stat
 import subprocess
-import sys
 import unittest
+from functools import partial
 from unittest import mock
 
-from rubewola import (Failed, Full, InUse, Store, limits, loading, logs, mailboxes, maildirs, mails,
-                      marks, queries, sources)
+from rubewola import (Failed, Full, InUse, Store, decoding, loading, logs, mailboxes, maildirs,
+                      mails, mime, queries, sources, terminal)
 from rubewola.marks import BEGIN, END, Marks
 from rubewola.words import SIGN
 
@@ -25,11 +25,11 @@ class Limits(Stores):
                                       mail("drei", Subject="spaet")))
 
     def test_a_mail_that_takes_too_long(self):
-        def read(raw, whole=mails.read):
+        def read(raw, whole=mime.read):
             while b"zaeh" in raw:
                 pass
             return whole(raw)
-        with mock.patch.object(mails, "read", read), mock.patch.object(limits, "SECONDS", 0.3):
+        with mock.patch.object(mails, "read", read), mock.patch.object(decoding, "SECONDS", 0.3):
             done = loading.load(str(self.store), mailboxes.Mailboxes(str(self.box())), jobs=1)
         self.assertEqual(str(done), "3 documents (1 slow)")
         self.assert_found({"subject:dauert zaeh": [2], "eins OR drei": [1, 3]})
@@ -37,7 +37,7 @@ class Limits(Stores):
         self.loaded(0, "load-mbox", self.folder / "box")
 
     def test_a_mail_that_takes_too_much_memory(self):
-        def read(raw, whole=mails.read):
+        def read(raw, whole=mime.read):
             if b"zaeh" in raw:
                 raise MemoryError
             return whole(raw)
@@ -46,23 +46,64 @@ class Limits(Stores):
         self.assertEqual((done.documents, done.slow), (3, 1))
 
     def test_the_memory_of_a_process_that_decodes(self):
-        def read(raw, whole=mails.read):
+        def read(raw, whole=mime.read):
             held = []
             while b"zaeh" in raw:
                 held.append(b"%09d" % len(held) * 100_000)
             return whole(raw)
-        with mock.patch.object(mails, "read", read), mock.patch.object(loading, "AHEAD", 1), \
+        with mock.patch.object(mails, "read", read), mock.patch.object(decoding, "AHEAD", 1), \
                 mock.patch.object(sources, "CHUNK_ITEMS", 1), \
-                mock.patch.object(limits, "MEMORY", 100_000_000):
+                mock.patch.object(decoding, "MEMORY", 100_000_000):
             done = loading.load(str(self.store), mailboxes.Mailboxes(str(self.box())), jobs=2)
         self.assertEqual(str(done), "3 documents (1 slow)")
+
+    def ended(self, read, jobs=2):
+        """What a load did of a box, each mail by itself, whose processes may be ended."""
+        with mock.patch.object(mails, "read", read), mock.patch.object(sources, "CHUNK_ITEMS", 1), \
+                mock.patch.object(decoding, "SECONDS", 0.3), mock.patch.object(decoding, "GRACE", 0.2):
+            return loading.load(str(self.store), mailboxes.Mailboxes(str(self.box())), jobs=jobs)
+
+    def test_a_mail_in_which_a_library_hangs(self):
+        def read(raw, whole=mime.read):
+            # It heeds no signal, as no function does that is written in C and takes its time.
+            return sum(range(10**12)) if b"zaeh" in raw else whole(raw)
+        for jobs in (1, 2):
+            self.assertEqual(str(self.ended(read, jobs)), "3 documents (1 slow)")
+            self.assert_found({"subject:dauert zaeh": [2], "eins OR drei": [1, 3]})
+            self.assertIn("[not read: too slow]", self.texts()[2])
+            self.store.unlink()
+
+    def test_a_mail_that_ends_its_process(self):
+        def read(raw, whole=mime.read, words=(b"zaeh",)):
+            if any(word in raw for word in words):
+                os.kill(os.getpid(), signal.SIGKILL)  # As the system does where memory is short.
+            return whole(raw)
+        self.assertEqual(str(self.ended(read)), "3 documents (1 slow)")
+        self.assert_found({"subject:dauert zaeh": [2], "eins OR drei": [1, 3]})
+        self.store.unlink()
+        # Nor can its head be read.
+        self.assertEqual(str(self.ended(partial(read, words=(b"dauert",)))), "3 documents (1 slow)")
+        self.assert_found({"dauert OR zaeh": [], "eins OR drei": [1, 3]})
+        self.loaded(0, "load-mbox", self.folder / "box")
+
+    def test_a_line_that_ends_its_process(self):
+        def parsed(line, written, whole=logs._parsed):
+            if b"zaeh" in line:
+                os.kill(os.getpid(), signal.SIGKILL)
+            return whole(line, written)
+        log = self.write("log", "".join(f"zeile{at}{' zaeh' * (at in (3, 7))}\n" for at in range(9)))
+        with mock.patch.object(logs, "_parsed", parsed), mock.patch.object(logs, "CHUNK_ITEMS", 5):
+            done = loading.load(str(self.store), logs.Logs(str(log)), jobs=2)
+        self.assertEqual(str(done), "9 documents (2 slow)")
+        self.assert_found({"zaeh": [4, 8], "zeile8": [9]})
+        self.loaded(0, "load-log", log)
 
     def test_a_line_that_takes_too_long(self):
         def parsed(line, written, whole=logs._parsed):
             while b"zaeh" in line:
                 pass
             return whole(line, written)
-        with mock.patch.object(logs, "_parsed", parsed), mock.patch.object(limits, "SECONDS", 0.3):
+        with mock.patch.object(logs, "_parsed", parsed), mock.patch.object(decoding, "SECONDS", 0.3):
             log = self.write("log", "eins\nzaeh\ndrei\n")
             done = loading.load(str(self.store), logs.Logs(str(log)), jobs=1)
         self.assertEqual(str(done), "3 documents (1 slow)")
@@ -289,7 +330,7 @@ class Shown(Stores):
         query = queries.read("to:dora", lambda _: True)
         doc = {"number": 1, "text": "text", "date": "2010-05-14", "from": "Ada", "to": "Dora x",
                "cc": "", "subject": "dora", "attached": ""}
-        lines = marks.lines([doc], query, 80, True)
+        lines = terminal.lines([doc], query, 80, True)
         self.assertEqual([line.replace(BEGIN, "[").replace(END, "]") for line in lines],
                          ["1: 2010-05-14  Ada  dora  1", "    To: [Dora] x"])
 

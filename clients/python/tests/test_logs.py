@@ -10,8 +10,9 @@ import time
 import unittest
 from datetime import date
 from pathlib import Path
+from unittest import mock
 
-from rubewola import days
+from rubewola import commits, logs, stamps, store
 from rubewola.store import Store
 
 from support import Stores
@@ -196,6 +197,35 @@ class Logs(Stores):
         self.load(self.write("log", lines + b"x.y\n"), "--no-parts")
         self.assert_found({"openssl": [1], "bar": [3], "frühling": [3], "x": [], "x.y": [4]})
 
+    def test_a_line_more_asks_as_little_of_a_large_log(self):
+        asked = {}
+        with mock.patch.object(logs, "CHUNK_ITEMS", 1):  # So that each line has marks.
+            for count in (20, 400):
+                self.append("".join(f"{count} zeile{at}\n" for at in range(count)))
+                self.load()
+                self.append("ende\n")
+                with mock.patch.object(store, "_line", side_effect=store._line) as line, \
+                        mock.patch.object(Store, "find", autospec=True, side_effect=Store.find) as find:
+                    self.loaded(1, "load-log", self.log)
+                asked[count] = line.call_count
+                self.assertNotIn(commits.COMMIT, [call.args[1] for call in find.call_args_list])
+        self.assertEqual(asked[20], asked[400])
+        self.log.write_text("neu\n")
+        self.loaded(1, "load-log", self.log)
+        self.assertEqual(len(self.lines()), 423)
+
+    def test_marks_beyond_the_newest(self):
+        self.append("#Fields: time\n")
+        head = self.log.read_bytes()
+        with mock.patch.object(logs, "CHUNK_ITEMS", 1):
+            other = self.write("other", head + b"".join(b"x%d\n" % at for at in range(99)))
+            self.append("a1\na2\n")
+            self.load()
+            self.load(other)
+            self.append("a3\n")
+            self.loaded(1, "load-log", self.log)
+            self.loaded(0, "load-log", self.log, other)
+
     def test_many_lines_by_two_processes(self):
         rows = [f"{number} wort{number % 7} " + "x" * (number % 90) for number in range(20_000)]
         self.append("\n".join(rows) + "\n")
@@ -297,16 +327,16 @@ class Days(unittest.TestCase):
                 ("no stamp 2025-06-24", None), ("2025-13-24 x", None), ("99999 x", None),
                 ("12738798001273879800 x", None), ("May be", None), ("", None)]:
             with self.subTest(line):
-                self.assertEqual(days.of_line(line, WRITTEN), when)
+                self.assertEqual(stamps.of_line(line, WRITTEN), when)
 
     def test_values(self):
         for value in ("2010-05-14T23:30:00Z", 1273879800, 1273879800123, "1273879800000000",
                       1273879800.5):
             with self.subTest(value):
-                self.assertEqual(days.of_value(value), date(2010, 5, 14))
+                self.assertEqual(stamps.of_value(value), date(2010, 5, 14))
         for value in ("soon", None, 12, [], float("inf"), float("nan"), "inf"):
             with self.subTest(value):
-                self.assertIsNone(days.of_value(value))
+                self.assertIsNone(stamps.of_value(value))
 
     def test_dates_of_mails(self):
         for text, told in [("Fri, 14 May 2010 23:30:00 -0600", "2010-05-14 23:30:00-06:00"),
@@ -315,9 +345,9 @@ class Days(unittest.TestCase):
                            ("Fri, 14 May 2010 23:30:00 +9999", "2010-05-14 23:30:00"),
                            ("Fri May 14 23:30:00 2010", "2010-05-14 23:30:00")]:
             with self.subTest(text):
-                self.assertEqual(str(days.of_date(text)), told)
+                self.assertEqual(str(stamps.of_date(text)), told)
         for text in ("", "never", "99 May 2010", "Fri, 14 Foo 2010 23:30:00 -0600"):
-            self.assertIsNone(days.of_date(text))
+            self.assertIsNone(stamps.of_date(text))
 
 
 class Dated(Stores):

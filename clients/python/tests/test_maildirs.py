@@ -7,7 +7,7 @@ import shutil
 import unittest
 from unittest import mock
 
-from rubewola import loading, maildirs
+from rubewola import loading, maildirs, places
 from rubewola.places import place_of
 
 from support import Stores, mail
@@ -154,10 +154,10 @@ class Maildirs(Stores):
         self.assert_found({"eins": [1], "zwei": [], "drei": [3]})
 
     def test_what_is_no_maildir(self):
-        self.write("mh/1", mail("x"))
+        self.write("mh/brief", mail("x"))
         self.run_line("no maildir in ", "load-maildir", self.folder / "mh", status=2)
         self.run_line("No such file", "load-maildir", self.folder / "none", status=2)
-        self.run_line("Not a directory", "load-maildir", self.folder / "mh/1", status=2)
+        self.run_line("Not a directory", "load-maildir", self.folder / "mh/brief", status=2)
         self.assertFalse(self.store.exists())
 
     def test_an_empty_maildir(self):
@@ -168,7 +168,7 @@ class Maildirs(Stores):
     def test_a_mail_that_goes_while_it_is_loaded(self):
         for number in range(3):
             self.deliver(f"100{number}.a.h", f"wort{number}")
-        source = loading.Maildirs(str(self.top))
+        source = maildirs.Maildirs(str(self.top))
         (self.top / "cur").mkdir()
         (self.top / "new/1000.a.h").rename(self.top / "cur/1000.a.h:2,S")
         (self.top / "new/1001.a.h").unlink()
@@ -178,8 +178,8 @@ class Maildirs(Stores):
     def test_no_folder_is_looked_at_for_each_mail(self):
         for number in range(9):
             self.deliver(f"100{number}.a.h", f"wort{number}")
-        with mock.patch.object(maildirs.Places, "path_at", side_effect=AssertionError):
-            source = loading.Maildirs(str(self.top))
+        with mock.patch.object(places.Places, "path_at", side_effect=AssertionError):
+            source = maildirs.Maildirs(str(self.top))
             self.assertEqual(loading.load(str(self.store), source, jobs=1).documents, 9)
 
     def test_places(self):

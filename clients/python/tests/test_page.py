@@ -6,17 +6,18 @@ import signal
 import subprocess
 import threading
 import time
+import unittest
 from collections import Counter
 from concurrent.futures import ThreadPoolExecutor
+from contextlib import ExitStack
 from unittest import mock
 from urllib.parse import unquote_plus
 
-from rubewola import Store, bars, serving, views, words
-from rubewola.arguments import Given
-from rubewola.commands import COMMANDS
+from rubewola import Reader, Store, marks, markup, serving, sessions, views, words
+from rubewola.commands import COMMANDS, Given
 
 from pages import Page
-from support import LONG, RUBEWOLA, Stores, mail, mbox
+from support import LONG, RUBEWOLA, Stores, mail, mbox, older, reads
 
 EVIL = '"><script>alert(1)</script><img src=x onerror=y>\'&amp;'
 STEERING = "\u200e\u200f\u202a\u202b\u202c\u202d\u202e\u2066\u2067\u2068\u2069"
@@ -89,7 +90,8 @@ class Shown(Pages):
 
     def test_bars_ask_the_query_once(self):
         self.page.find("wort")  # From now on the months of the documents are known.
-        with mock.patch.object(Store, "_ask_all", autospec=True, side_effect=Store._ask_all) as asks:
+        with mock.patch.object(Reader, "_ask_all", autospec=True,
+                               side_effect=Reader._ask_all) as asks:
             self.assertIn("<title>2010-01: 2</title>", self.page.find("wort OR nichts").body)
         lines = [line for call in asks.call_args_list for line in [str(call)]]
         self.assertLessEqual(len(lines), 5)
@@ -104,19 +106,42 @@ class Shown(Pages):
     def test_neighbours_of_a_line(self):
         self.store = self.folder / "t"
         self.loaded(9, "load-log", self.write("log", "".join(f"zeile{at}\n" for at in range(9))))
-        body = Page(self, self.store).ask("doc/0/5").body
+        page = Page(self, self.store)
+        body = page.ask("doc/0/5").body
         for at, told in ((1, True), (2, True), (6, True), (7, True), (0, False), (8, False)):
             self.assertEqual(f"zeile{at}" in body, told, at)
+        links = page.tags(page.ask("doc/0/5?q=x")).links
+        self.assertEqual([re.sub(".*/doc", "doc", one) for one in links if "/doc/" in one],
+                         [f"doc/0/{at}?q=x#around" for at in (2, 3, 4, 6, 7, 8)])
+
+    def test_neighbours_are_of_the_same_log(self):
+        self.store = self.folder / "t"
+        self.loaded(2, "load-log", self.write("log", "zeile0\nzeile1\n"))
+        self.loaded(1, "load-mbox", self.write("one", mbox(mail("fremd", Subject="fremdes"))))
+        self.loaded(1, "load-json", self.write("json", '{"text": "fremd"}\n'))
+        page = Page(self, self.store)
+        body = page.ask("doc/0/2").body
+        self.assertIn("zeile0", body)
+        self.assertNotIn("fremd", body)
+        self.assertNotIn("Lines round it", page.ask("doc/0/4").body)
+
+    def test_a_hit_shows_its_file_and_its_line(self):
+        shown = views.Views([str(self.store)], "/x/")
+        doc = {"number": 7, "store": "0", "text": "wort", "file": "/var/log/<sys>", "line": 12}
+        hit = shown._hit(doc, "wort", marks.Marks([]))
+        self.assertIn("<bdi>/var/log/&lt;sys&gt;:12</bdi>", hit)
+        del doc["file"], doc["line"]
+        self.assertIn('<span class="who"></span>', shown._hit(doc, "wort", marks.Marks([])))
 
     def test_bars_of_many_years(self):
         counts = {f"{year}{month:02}": int(year % 7 == 0 and month == 3)
                   for year in range(1970, 2100) for month in range(1, 13)}
-        drawn = bars.drawn(counts, lambda month: f"/{month}")
+        drawn = markup.drawn(counts, lambda month: f"/{month}")
         self.assertEqual(drawn.count("<a "), sum(counts.values()))
         self.assertLessEqual(drawn.count("<text "), 12)
         edges = [float(left) + float(wide) for left, wide in
                  re.findall(r'<rect x="(.+?)" y=".+?" width="(.+?)"', drawn)]
-        self.assertLessEqual(max(edges), bars.WIDTH)
+        self.assertLessEqual(max(edges), markup.WIDTH)
 
     def test_twenty_a_page(self):
         days = [f"2010-05-{at % 3 + 10} wort" for at in range(50)]
@@ -319,15 +344,25 @@ class Rules(Pages):
         tell.assert_called_once_with("a request met a fault: ValueError")
 
     def test_a_store_in_use(self):
-        with mock.patch.object(views, "WAIT", 0.1), mock.patch.object(views, "TURN", 0.1):
-            with Store(self.store):
+        """An older program has no session that only reads, so a store may be in use."""
+        with older(self.folder):
+            self.assertEqual(self.page.find("wort").status, 200)
+            with mock.patch.object(sessions, "TURN", 0.1), Store(self.store):
                 for answer in (self.page.find("wort"), self.page.ask("doc/0/1")):
                     self.assertEqual(answer.status, 503)
                     self.assertIn("Retry-After: ", answer.head)
-                    self.assertIn("Another program has the store", answer.body)
+                    self.assertIn("The store is busy", answer.body)
             self.assertEqual(self.page.find("wort").status, 200)
-            with self.page.server.views._turn():
-                self.assertEqual(self.page.find("wort").status, 503)
+
+    def test_a_queue_that_is_too_long(self):
+        own, = self.page.server.views._sessions
+        with mock.patch.object(sessions, "TURN", 0.1), ExitStack() as stack:
+            for _ in range(sessions.MOST):
+                stack.enter_context(own.one())
+            self.assertEqual(self.page.find("wort").status, 503)
+        self.assertEqual(self.page.find("wort").status, 200)
+
+    def test_a_store_that_is_gone(self):
         self.store.unlink()
         self.assertEqual(self.page.find("wort").status, 500)
 
@@ -336,6 +371,78 @@ class Rules(Pages):
         for rest in ("", "?q=wort", "doc/0/1", "?q=a%0Aadd+b%0Acommit", "doc/0/1?q=x%0Adelete+1"):
             self.page.ask(rest)
         self.assertEqual(self.store.read_bytes(), before)
+
+
+@unittest.skipUnless(reads(), "wants a program with `read`")
+class Kept(Pages):
+    """The sessions that the page keeps open."""
+
+    def open(self):
+        """The sessions that are open and that nobody uses."""
+        own, = self.page.server.views._sessions
+        return [reader for reader, _ in own._free]
+
+    def test_one_session_answers_all(self):
+        self.page.find("wort")
+        kept, = self.open()
+        for query in ("nichts", "wort", "subject:s1"):
+            self.assertEqual(self.page.find(query).status, 200)
+            self.assertEqual(self.open(), [kept])
+        self.assertEqual(self.page.ask("doc/0/1").status, 200)
+        self.assertEqual(self.open(), [kept])
+
+    def test_eight_requests_at_once(self):
+        with Store(self.store), ThreadPoolExecutor(8) as pool:  # A lock keeps none of them off.
+            answers = [*pool.map(self.page.find, ["wort", "nichts"] * 16)]
+        self.assertEqual({answer.status for answer in answers}, {200})
+        counts = Counter(re.findall("<h2>(.*?)</h2>", " ".join(one.body for one in answers)))
+        self.assertEqual(counts, {"4 found": 16, "1 found": 16})
+        self.assertLessEqual(len(self.open()), sessions.MOST)
+        with mock.patch.object(sessions, "IDLE", 0):
+            self.page.server.views.end_idle()
+        self.assertEqual(len(self.open()), 1)
+
+    def test_a_session_that_is_killed(self):
+        self.page.find("wort")
+        kept, = self.open()
+        kept._program.kill()
+        self.assertEqual(self.page.find("wort").status, 200)
+        self.assertNotEqual(self.open(), [kept])
+
+    def test_a_session_that_is_killed_while_it_answers(self):
+        def ask(reader, lines, *given, **named):
+            if not killed:
+                killed.append(reader)
+                reader._program.kill()
+            return before(reader, lines, *given, **named)
+        killed, before = [], Reader._ask_all
+        self.page.find("wort")
+        with mock.patch.object(Reader, "_ask_all", ask):
+            self.assertIn("4 found", self.page.find("wort").body)
+        self.assertEqual(len(killed), 1)
+        self.assertNotEqual(self.open(), killed)
+
+    def test_what_is_new_is_found(self):
+        self.page.find("wort")
+        kept, = self.open()
+        with Store(self.store) as writer:
+            writer.add("wort neu")
+            writer.delete(1)
+            writer.commit()
+            self.assertIn("<h2>4 found</h2>", self.page.find("wort").body)
+            self.assertEqual(self.page.ask("doc/0/1").status, 404)
+            self.assertEqual(self.page.ask("doc/0/6").status, 200)
+        self.assertEqual(self.open(), [kept])
+
+    def test_a_store_that_is_replaced(self):
+        self.assertIn("<h2>4 found</h2>", self.page.find("wort").body)
+        other = self.folder / "other"
+        with Store.create(other, 64) as writer:
+            writer.add("wort und noch eines")
+            writer.commit()
+        os.replace(other, self.store)
+        self.assertIn("<h2>1 found</h2>", self.page.find("wort").body)
+        self.assertIn("noch eines", self.page.ask("doc/0/1").body)
 
 
 class Served(Stores):
@@ -379,8 +486,8 @@ class Served(Stores):
                     self.assertEqual(Given(COMMANDS["serve"], []).stores, ["other"])
 
     def test_many_requests_beside_a_load(self):
-        """2,000 requests, of which each is answered as it should be, or told that the store is in
-        use; then the server has as many files open as before, and all is there."""
+        """2,000 requests, of which each is answered as it should be; then the server has no more files
+        open than its sessions have, and all is there."""
         Store.create(self.store, 65_536).close()
         self.loaded(9, "load-mbox", self.write("first", mbox(*map(sent, range(9)))))
         box = self.write("box", mbox(*(sent(at % 48, f"wort{at} {'fuell ' * 50}",
@@ -403,11 +510,12 @@ class Served(Stores):
             asked = [kinds[at % len(kinds)] for at in range(2_000)]
             statuses = [*pool.map(lambda one: page.ask(one[0], **one[1]).status, asked)]
         wrong = Counter((rest, wanted, status) for (rest, _, wanted), status in zip(asked, statuses)
-                        if status not in (wanted, 503 if wanted in (200, 400, 404) else wanted))
+                        if status != wanted and (reads() or status != 503))
         self.assertEqual(wrong, {})
         self.assertGreater(statuses.count(200), 400)
         drain.join()
         self.assertEqual(loader.returncode, 0, told)
         self.assertIn("<h2>3,009 found</h2>", page.ask("?q=NOT+xyzzy").body)
-        # A connection is closed behind its answer.
-        self.wait_for(lambda: len(os.listdir(f"/proc/{server.pid}/fd")) <= files)
+        # A connection is closed behind its answer; each session more that is kept has three pipes.
+        most = files + 3 * (sessions.MOST - 1)
+        self.wait_for(lambda: len(os.listdir(f"/proc/{server.pid}/fd")) <= most)

@@ -3,17 +3,18 @@
 import random
 import re
 import unittest
-from datetime import date, timedelta
+from datetime import date, datetime, timedelta
 
-from rubewola import Store, queries, ranges, searching
-from rubewola.days import EARLIER, LATER, day_words
-from rubewola.store import QueryRefused
+from rubewola import Store, days, queries, searching
+from rubewola.days import EARLIER, LATER, day_words, words_of
+from rubewola.errors import QueryRefused
 from rubewola.words import NAMING, SIGN
 
 from support import Stores, mail, mbox
 
 TODAY = date(2026, 11, 26)
-MOST = 1_531  # Bytes of the longest range.
+MOST = 1_381  # Bytes of the longest range of days.
+MOST_HOURS = 1_779  # And of hours.
 
 
 def read(typed, fields=()):
@@ -43,6 +44,19 @@ class Fields(unittest.TestCase):
                 ("date:today", "$20261126"), ("date:yesterday", "$20261125"),
                 ("date:7d", "$20261119"), ("date:2w..2026-11-13", "($20261112 OR $20261113)"),
                 ("date:3d..today", "($20261123 OR $20261124 OR $20261125 OR $20261126)"),
+                ("date:2010-05-14T23", "($20100514 $23)"), ("date:todayT9", "($20261126 $09)"),
+                ("date:2010-05-14T14..15", "(($20100514 ($14 OR $15)))"),
+                ("date:2010-05-14T22..2010-05-16T0",
+                 "(($20100514 ($22 OR $23)) OR $20100515 OR ($20100516 $00))"),
+                ("date:2010-05-14T0..23", "($20100514)"),
+                ("date:2010-05-14T23..2010-05-15", "(($20100514 $23) OR $20100515)"),
+                ("file:sys.log", "$$in_sys_2Elog"), ("file:sys*", "$$in_sys*"),
+                ("line:7", "(($k0 ($l007)))"), ("line:1999..2001", "(($k1 ($l999)) OR ($k2 ($l000 OR $l001)))"),
+                ("line:1000..2119", "($k1 OR ($k2 ($l0* OR $l10* OR $l11*)))"),
+                ("unit:ssh.service", "($unit_ssh $unit_service)"), ("host:Web*", "$host_web*"),
+                ("priority:err", "($priority_err)"), ("priority:3", "($priority_3 OR $priority_err)"),
+                ("priority:..alert", "($priority_emerg OR $priority_alert)"),
+                ("priority:urgent", "$priority_urgent"), ('priority:"very high"', '"$priority_very $priority_high"'),
                 ("date:2010-11..2011-02-01", "($201011 OR $201012 OR $201101 OR $20110201)"),
                 ("date:..1979", "($0 OR $197)"), ("date:2098..", "($2098 OR $2099 OR $9)")]:
             with self.subTest(typed):
@@ -59,6 +73,8 @@ class Fields(unittest.TestCase):
         self.assertEqual(read("Level:Error", ["level"]), "$level_error")
         self.assertEqual(read("http.status:500", ["http.status"]), "$http_status_500")
         self.assertEqual(read("port:80 http://x", ["port"]), "$port_80 http://x")
+        self.assertEqual(read("line:7", ["line"]), "((($k0 ($l007))) OR $line_7)")
+        self.assertEqual(read("file:a.c", ["file"]), "($$in_a_2Ec OR ($file_a $file_c))")
 
     def test_what_no_text_may_write(self):
         self.assertEqual(read(f"{SIGN}from_ada {NAMING}id_x"), "$\u200bfrom_ada $\u200b$\u200bid_x")
@@ -119,8 +135,8 @@ class Ranges(unittest.TestCase):
         for _ in range(1_000):
             begin = first + timedelta(draw.randrange(47_482))
             end = min(begin + timedelta(int(draw.expovariate(1 / 4_000))), last)
-            told = set(re.findall(r"\w+", ranges.query(f"{begin}..{end}", TODAY)))
-            most = max(most, len(ranges.query(f"{begin}..{end}", TODAY).encode()))
+            told = set(re.findall(r"\w+", days.query(f"{begin}..{end}", TODAY)))
+            most = max(most, len(days.query(f"{begin}..{end}", TODAY).encode()))
             for day in (begin, end, begin - timedelta(1), end + timedelta(1),
                         first + timedelta(draw.randrange(47_482))):
                 found = told & set(day_words(day.year, day.month, day.day))
@@ -128,17 +144,34 @@ class Ranges(unittest.TestCase):
         self.assertLessEqual(most, MOST)
 
     def test_the_longest_range(self):
-        self.assertLessEqual(len(ranges.query("1970-01-02..2099-12-30", TODAY).encode()), MOST)
-        self.assertLessEqual(len(ranges.query("..2098-12-30", TODAY).encode()), MOST)
-        self.assertLessEqual(len(ranges.query("1970-01-02..", TODAY).encode()), MOST)
+        self.assertLessEqual(len(days.query("1970-01-02..2099-12-30", TODAY).encode()), MOST)
+        self.assertLessEqual(len(days.query("..2098-12-30", TODAY).encode()), MOST)
+        self.assertLessEqual(len(days.query("1970-01-02..", TODAY).encode()), MOST)
+
+    def test_random_ranges_of_hours(self):
+        draw, first = random.Random(2), datetime(1990, 1, 1)
+        for _ in range(300):
+            begin = first + timedelta(hours=draw.randrange(200_000))
+            end = begin + timedelta(hours=int(draw.expovariate(1 / 60)))
+            text = days.query(f"{begin:%Y-%m-%dT%H}..{end:%Y-%m-%dT%H}", TODAY)
+            self.assertLessEqual(len(text.encode()), MOST_HOURS)
+            for hour in (begin, end, begin - timedelta(hours=1), end + timedelta(hours=1),
+                         begin + (end - begin) / 2):
+                held = {*words_of(hour)}
+                meant = re.sub(r"\w+", lambda word: str(word[0] in held), text.replace("OR", "|"))
+                meant = re.sub(r"(?<=[\w)]) (?=[\w(])", " and ", meant.replace("|", " or "))
+                meant = re.sub(" +", " ", meant).replace("or and", "or").replace("and or", "or")
+                self.assertEqual(eval(meant), begin <= hour <= end, (text, hour))
+        longest = days.query("1970-01-01T01..2099-12-31T22", TODAY)
+        self.assertEqual(len(longest.encode()), MOST_HOURS)
 
     def test_open_ranges_have_all_before_or_after(self):
         for year in (1, 1900, 1969):
             self.assertIn(EARLIER, day_words(year, 1, 1))
-            self.assertIn(EARLIER, ranges.query("..1980", TODAY))
+            self.assertIn(EARLIER, days.query("..1980", TODAY))
         for year in (2100, 9999):
             self.assertIn(LATER, day_words(year, 1, 1))
-            self.assertIn(LATER, ranges.query("1980..", TODAY))
+            self.assertIn(LATER, days.query("1980..", TODAY))
 
 
 class Told(Stores):

@@ -8,7 +8,7 @@ import re
 import time
 import unittest
 
-from rubewola import documents, entries, logs, mailboxes, mails, stored
+from rubewola import documents, jsonlines, layout, logs, mailboxes, mails
 
 from shapes import HEADS, LINES, PAGES, PLACES, SHAPES, SIGNS
 
@@ -39,8 +39,8 @@ def by_log(line):
 
 
 def by_json(line):
-    parsed = entries._Fields().parsed
-    return entries.entries_of(logs.Read(line, [], "x", 0, DAY), "json", parsed, True)
+    parsed = jsonlines._Fields().parsed
+    return logs.entries_of(logs.Read(line, [], "x", 0, DAY), "json", parsed, True)
 
 
 def by_mailbox(data):
@@ -114,9 +114,9 @@ class Chance(unittest.TestCase):
             begin = time.process_time()
             data = by_mail(raw)
             self.assertLess(time.process_time() - begin, 5 * SECOND, number)
-            text, known = stored.split(data.decode().replace("\v", "\n"))
+            text, known = layout.split(data.decode().replace("\v", "\n"))
             self.assertEqual(known["kind"], "mbox", number)
-            self.assertGreaterEqual(text.count("\n"), len(stored.HEAD), number)
+            self.assertGreaterEqual(text.count("\n"), len(layout.HEAD), number)
 
 
 if __name__ == "__main__":

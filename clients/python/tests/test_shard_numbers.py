@@ -9,7 +9,7 @@ import unittest
 from itertools import islice
 from unittest import mock
 
-from rubewola import searching
+from rubewola import results
 from rubewola_shards import __main__
 
 from support import Stores, mail, mbox
@@ -158,7 +158,7 @@ class Inputs(Stores):
 
     def lines(self, *paths):
         source = Lines(*map(str, paths))
-        return [line for line, _ in source.items()], source.notes
+        return [item.data for item in source.items()], source.notes
 
     def test_lines_of_files_in_their_order(self):
         first = self.write("log.1", "a1\r\na2")
@@ -181,7 +181,7 @@ class Inputs(Stores):
                 places = [archive.place(number + k) for k in (0, len(items) - 1)]
                 self.assertEqual(places[0][0], places[1][0])
                 self.assertEqual(places[1][1] - places[0][1], len(items) - 1)
-                for data, _ in items:
+                for data, *_ in items:
                     self.assertEqual(data, b"line %d\n" % at)
                     at += 1
             self.assertEqual(at, 20_001)
@@ -193,7 +193,11 @@ class Inputs(Stores):
             tasks = tasks_of(source, [*source.items()], True)
             entries = [entry for function, *given in tasks for entry in function(*given)]
             stored = [entry.data.decode().replace("\v", "\n") for entry in entries]
-            self.assertEqual([searching.parsed(one, 0)["text"] for one in stored], texts)
+            told = [results.parsed(one, 0) for one in stored]
+            self.assertEqual([doc["text"] for doc in told], texts)
+            places = [(doc.get("file"), doc.get("line")) for doc in told]
+            self.assertEqual(places, [("log", 1), ("log", 2), ("log", 3)] if source is log
+                             else [(None, None)] * 2)
 
 
 if __name__ == "__main__":

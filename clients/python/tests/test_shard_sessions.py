@@ -4,14 +4,15 @@ import asyncio
 import gc
 import os
 import pickle
+import resource
 import signal
 import unittest
 from array import array
 from pathlib import Path
 
 from rubewola import QueryRefused, Store
-from rubewola.loading import Logs, Mailboxes
-from rubewola.logs import Read
+from rubewola.logs import Logs, Read
+from rubewola.mailboxes import Mailboxes
 from rubewola.sources import Entry
 from rubewola_shards.session import NoAnswer, Session
 
@@ -69,7 +70,7 @@ class Sessions(Stores):
     def test_what_is_sent_twice_is_added_once(self):
         for first, last, following in [(1, 10, 11), (1, 10, 11), (1, 15, 16), (4, 9, 16),
                                        (16, 20, 21)]:
-            self.assertEqual(self.load(first, last), (following, 0, 0))
+            self.assertEqual(self.load(first, last), (following, 0, 0, ()))
         self.refused("documents from 22 on come where 21 is the next", "load", 22, 2, lines(22, 23))
         self.refused("2 documents from 21 on .* and 3 are told", "load", 21, 3, lines(21, 22))
         self.assertEqual(self.found("line"), (20, [*range(1, 21)]))
@@ -87,7 +88,28 @@ class Sessions(Stores):
     def test_what_was_cut_is_told(self):
         mails = [b"From: ada\n\n" + b"x " * 600_000, b"From: ada\n\ny\n"]
         self.assertEqual(self.ask("load", 1, 2, pickle.dumps([(Mailboxes.read_chunk, mails, True)])),
-                         (3, 1, 0))
+                         (3, 1, 0, ()))
+
+    def test_a_store_that_is_full_grows(self):
+        self.store.unlink()
+        self.assertEqual(self.ask("create", 64), "created")
+        self.load(1, 9)
+        self.assertEqual(self.load(10, 400), (401, 0, 0, (self.store.stat().st_size // 512,)))
+        self.assertGreater(self.store.stat().st_size, 64 * 512)
+        self.assertEqual(self.load(401, 409), (410, 0, 0, ()))
+        self.assertEqual(self.found("line", limit=2, most=999), (409, [408, 409]))
+
+    def test_a_growth_that_the_system_refuses(self):
+        self.store.unlink()
+        self.assertEqual(self.ask("create", 64), "created")
+        self.load(1, 9)
+        limits = resource.getrlimit(resource.RLIMIT_FSIZE)
+        resource.setrlimit(resource.RLIMIT_FSIZE, (40_000, limits[1]))
+        self.addCleanup(resource.setrlimit, resource.RLIMIT_FSIZE, limits)
+        self.refused(f"{self.store}: [0-9,]+ bytes are wanted, and no file may have more than 40,000",
+                     "load", 10, 391, lines(10, 400))
+        resource.setrlimit(resource.RLIMIT_FSIZE, limits)
+        self.assertEqual(self.ask("counts", 999), (9, 10))
 
     def test_commands_queue(self):
         async def both():
@@ -95,7 +117,8 @@ class Sessions(Stores):
                                         self.session.find("line", 0, 999),
                                         self.session.load(501, 100, lines(501, 600)),
                                         self.session.find("line", 0, 999))
-        self.assertEqual(asyncio.run(both()), [(501, 0, 0), (500, b""), (601, 0, 0), (600, b"")])
+        self.assertEqual(asyncio.run(both()), [(501, 0, 0, ()), (500, b""),
+                                               (601, 0, 0, ()), (600, b"")])
 
     def test_a_program_that_is_killed(self):
         self.load(1, 9)

@@ -1,4 +1,4 @@
-"""The guide's way to search several stores by GNU parallel: none found is no missing answer."""
+"""The documents' way to search several stores by GNU parallel: none found is no missing answer."""
 
 import os
 import re
@@ -27,11 +27,11 @@ class SideBySide(Stores):
         for name, lines in [("rubewola", f'exec {shlex.join(RUBEWOLA)} "$@"'),
                             ("ssh", 'cd "$1" 2>/dev/null || exit 255; shift; exec sh -c "$*"')]:
             self.write(f"bin/{name}", f"#!/bin/sh\n{lines}\n").chmod(0o755)
-        self.guide = (TOP / "docs/GUIDE.md").read_text("utf-8")
+        self.page = (TOP / "docs/STORES.md").read_text("utf-8")
 
     def lines(self, pattern, status):
-        """What the guide's line prints, with its fields parted by a tab, by rows."""
-        line, = re.findall(rf"(?m)^\$ ({pattern}.*)$", self.guide)
+        """What the page's line prints, with its fields parted by a tab, by rows."""
+        line, = re.findall(rf"(?m)^\$ ({pattern}.*)$", self.page)
         path = f"{self.folder / 'bin'}:{os.environ['PATH']}"
         ran = subprocess.run(["sh", "-c", line], cwd=self.folder, capture_output=True, check=False,
                              encoding="utf-8", timeout=LONG, stdin=subprocess.DEVNULL,
@@ -47,6 +47,14 @@ class SideBySide(Stores):
         (self.folder / "shards" / "one").unlink()
         (self.folder / "shards" / "one").symlink_to("nowhere")
         self.assertEqual(self.lines("parallel --tag", 2), found[1:])
+
+    def test_what_the_page_shows(self):
+        shutil.rmtree(self.folder / "shards")
+        (self.folder / "shards").mkdir()
+        self.store = self.folder / "shards/2010"
+        self.loaded(3, "load-mbox", TOP / "examples/mails.mbox")
+        shown = re.search(r"(?m)^\$ parallel --tag .*\n((?:shards/.*\n)+)", self.page)[1]
+        self.assertEqual(self.lines("parallel --tag ", 0), shown.splitlines())
 
     def test_stores_of_several_machines(self):
         (self.folder / "host").mkdir()

@@ -14,8 +14,8 @@ from support import TOP, Stores, mail, mbox
 LIGHT = {"__future__", "_collections", "_collections_abc", "_operator", "_stat", "collections",
          "collections.abc", "fcntl", "genericpath", "itertools", "keyword", "operator", "os",
          "os.path", "posixpath", "reprlib", "stat", "time"}
-OWN = {"actions", "arguments", "commands", "places", "programs", "queries", "searching", "store",
-       "stored", "told", "words", "__main__"}
+OWN = {"actions", "commands", "errors", "layout", "places", "programs", "queries", "results",
+       "searching", "store", "words", "__main__"}
 SCRIPT = """import sys
 before = set(sys.modules)
 sys.path.insert(0, sys.argv.pop(1))
@@ -70,10 +70,11 @@ class Starts(Stores):
         self.assertRegex(entry.read_text("utf-8"), r"\A#!/\S+ -SI\n")
         self.check_modules_of_the_working_directory(top, bare)
         self.check_early_interrupts(entry, bare)
-        sources = {path.stem for path in top.glob("lib/rubewola/rubewola/*.py")}
-        compiled = {path.name.partition(".")[0]
-                    for path in top.glob("lib/rubewola/rubewola/__pycache__/*.pyc")}
-        self.assertEqual(sources, compiled)
+        for package in ("rubewola", "rubewola_shards"):
+            sources = {path.stem for path in top.glob(f"lib/rubewola/{package}/*.py")}
+            compiled = {path.name.partition(".")[0]
+                        for path in top.glob(f"lib/rubewola/{package}/__pycache__/*.pyc")}
+            self.assertEqual(sources, compiled)
         subprocess.run(["make", "--silent", "uninstall", f"PREFIX={top}"], cwd=TOP, check=True)
         self.assertEqual([path for path in top.rglob("*") if path.is_file()], [])
 

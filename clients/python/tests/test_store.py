@@ -8,7 +8,7 @@ import unittest
 from unittest import mock
 
 from rubewola import (Failed, Full, InUse, NoSuchDocument, QueryRefused, Refused, Store,
-                      TooManySegments, commits, loading)
+                      TooManySegments, commits, loading, logs)
 
 from support import LONG, RUBEWOLA, TOP, Stores, mail, mbox
 
@@ -129,19 +129,14 @@ class Sessions(Stores):
 class Commands(Stores):
     """The command line."""
 
-    def test_a_store_too_small_is_told(self):
-        Store.create(self.store, 64).close()
-        self.write("box", mbox(*(mail(f"wort{number} " * 99) for number in range(99))))
-        self.run_line(r"/s is full: [0-9,]+ bytes .*rubewola create --size 1M NEW", "load-mbox",
-                      self.folder / "box", status=2)
-
     def test_a_check_and_its_status(self):
         with Store.create(self.store, 256) as store:
             store.add("wort zahl")
             store.commit()
-        self.run_line(r"\Aok 1 documents next 2 segments 1\n\Z", "check")
+        ran = self.run_line("1 documents have no digest", "check")
+        self.assertEqual(ran.stdout, "ok 1 documents next 2 segments 1\n")
         self.store.write_bytes(self.store.read_bytes().replace(b"wort zahl", b"wort zehl"))
-        self.run_line(r"\Arubewola: /.*/s: damaged \(.*\n\Z", "check", status=1)
+        self.run_line(r"\Arubewola: /.*/s: damaged \(.*\n", "check", status=1)
         self.store.unlink()
         self.run_line("missing", "check", status=2)
 
@@ -150,7 +145,7 @@ class Commands(Stores):
         with mock.patch.object(Store, "tidy", autospec=True, side_effect=Store.tidy) as tidy:
             for number in range(1, 146):
                 self.write("log", "".join(f"zeile{line}\n" for line in range(number)))
-                loading.load(str(self.store), loading.Logs(str(log)), jobs=1)
+                loading.load(str(self.store), logs.Logs(str(log)), jobs=1)
                 counts.append(Store.check(self.store).segments)
         # Behind the 16th commit eight become one, behind the 24th eight more, and so on. Behind the
         # 136th there are 16 such, of which eight become one: 8, 8 and 1 are left.

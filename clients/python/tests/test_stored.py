@@ -5,7 +5,7 @@ import os
 import random
 import subprocess
 
-from rubewola import Store, searching
+from rubewola import Store, results
 from rubewola.prompt import answer
 from rubewola.words import NAMING, SIGN
 
@@ -20,6 +20,8 @@ PIECES = [
     f" {NAMING}commit_²", f" {SIGN}20100514", f" {SIGN}20109999", f" {SIGN}²²²²²²²²", f" {SIGN}201005",
     f" {NAMING}path_00", f" {NAMING}path__2Fm_2Fcur_2Fa", f" {NAMING}path_", f" {NAMING}id_",
     f" {NAMING}id__FF", f" {NAMING}read_²_x", f" {NAMING}read_{'1' * 30}_x", f" {NAMING}read_5_x",
+    f" {NAMING}in_a_2Eb", f" {NAMING}in_", f" {SIGN}k12", f" {SIGN}l²", f" {SIGN}k{'9' * 30}",
+    f" {SIGN}23", f" {SIGN}20100514 {SIGN}99", "23:5", "23:59:5x", "99:99:99", " !#$%&()*",
     f" {NAMING}first_x", f" {NAMING}file_x", f" {NAMING}sum_x", f" {NAMING}name__ZZ",
     "2010-05-14 23:30:00 +0000", "2010-05-14 23:30:00 -9x00", "9999-99-99 99:99:99 +9999",
     "2010-05", "\v\v\v\v\v\v", "[cut]", "\v[cut]", "<", '"', "((((((", "\\", "\\n", "\0", "\ufffd",
@@ -77,6 +79,11 @@ class Shapes(Stores):
                 answer(store, f"show {number}")
         self.run_line(rf"\Adocuments  {self.count}\b", "info")
 
+    def test_a_check(self):
+        ran = self.run_line(r"\A", "check", status=None)
+        self.assertIn(ran.returncode, (0, 1))
+        self.assertNotIn("Traceback", ran.stderr)
+
     def test_loads(self):
         self.write("log", "2010-05-14 eine zeile\nzweite\n")
         self.write("m/cur/a", mail("brief"))
@@ -89,8 +96,8 @@ class Shapes(Stores):
     def test_parts_of_any_text(self):
         for _ in range(2_000):
             text = "".join(self.draw.choices(PIECES, k=self.draw.randint(0, 20)))
-            doc = searching.parsed(text.replace("\v", "\n"), 1)
-            for form in searching.FORMATS.values():
+            doc = results.parsed(text.replace("\v", "\n"), 1)
+            for form in results.FORMATS.values():
                 form(doc)
 
 

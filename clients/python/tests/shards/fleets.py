@@ -12,7 +12,6 @@ import sys
 import tempfile
 import time
 import unittest
-from pathlib import Path
 from unittest import mock
 
 from rubewola_shards import __main__

@@ -1,5 +1,6 @@
 """A scheduler and workers as processes on loopback, and the file of an archive over them."""
 
+import contextlib
 import logging
 import os
 import signal
@@ -30,7 +31,8 @@ def children(pid):
     """The processes that a process started."""
     found = []
     for task in Path(f"/proc/{pid}/task").iterdir():
-        found += map(int, (task / "children").read_text().split())
+        with contextlib.suppress(FileNotFoundError, ProcessLookupError):  # A thread that has ended.
+            found += map(int, (task / "children").read_text().split())
     return found
 
 

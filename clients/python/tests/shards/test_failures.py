@@ -3,6 +3,7 @@ that nothing that was acknowledged is lost: a test for each row of the table in 
 
 import contextlib
 import os
+import re
 import resource
 import signal
 import tempfile
@@ -208,14 +209,32 @@ class Searches(Shards):
 
 
 class Full(Shards):
-    """A disk that is full, and a group of shards behind it."""
+    """A store that is full, a disk that is, and a group of shards behind it."""
+
+    LINES, LEAST = 2_000, 128  # Units of a store that is too small.
+
+    def test_a_shard_that_grows(self):
+        self.write_groups((1, "ab"))
+        self.write("b.shard", f"2 of 2 from 1 by {self.BLOCK}\n")
+        Store.create(self.folder / "b", self.LEAST).close()
+        self.run_line("a: created\nb: was there", "create", "--units", self.UNITS)
+        told = re.findall(r"b was full: grown to ([\d,]+) units", self.load().stderr)
+        self.assertEqual(int(told[-1].replace(",", "")) * 512, (self.folder / "b").stat().st_size)
+        self.assertEqual(len(told), len(set(told)))
+        self.assert_whole()
 
     def test_a_group_behind_a_full_shard(self):
         self.write_groups((1, "ab"))
         self.write("b.shard", f"2 of 2 from 1 by {self.BLOCK}\n")
-        Store.create(self.folder / "b", 1_024).close()
+        Store.create(self.folder / "b", self.LEAST).close()
         self.run_line("a: created\nb: was there", "create", "--units", self.UNITS)
-        ran = self.run_line(r"missing: b \(full need", "load-log", self.log, status=2)
+        worker = self.machines.worker("b")
+        limits = resource.prlimit(worker, resource.RLIMIT_FSIZE)
+        self.addCleanup(resource.prlimit, worker, resource.RLIMIT_FSIZE, limits)
+        resource.prlimit(worker, resource.RLIMIT_FSIZE, (self.LEAST * 512, limits[1]))
+        ran = self.run_line(r"missing: b \(.*no file may have more than", "load-log", self.log,
+                            status=2)
+        resource.prlimit(worker, resource.RLIMIT_FSIZE, limits)
         before = int(ran.stderr.split("complete to ")[1].split()[0])
         self.assertTrue(0 < before < self.LINES)
         self.run_line(f"complete to {before}$", "counts")

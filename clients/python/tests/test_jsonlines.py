@@ -2,7 +2,7 @@
 
 import json
 
-from rubewola.entries import JsonLines
+from rubewola.jsonlines import JsonLines
 from rubewola.words import field_name
 
 from support import Stores

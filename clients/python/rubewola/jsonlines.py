@@ -9,20 +9,22 @@ from contextlib import suppress
 from datetime import date
 from typing import Any
 
-from . import days
-from .charsets import decoded
+from . import days, documents, letters, stamps
+from .errors import InputRefused
+from .fields import level_of
 from .files import Input, inputs
 from .logs import Line, Logs, Read, entries_of, entry
 from .mime import LONGEST_FIELD
 from .sources import Entry, Named
 from .store import Store
-from .told import InputRefused
+from .texts import decoded
 from .words import APART, LONGEST_NAME, asked, digest, field_name, field_words, has_word, named
 
 # The names under which entries tell their time, the surest first.
 _TIMES = ("@timestamp", "timestamp", "time", "ts", "datetime", "date", "t", "asctime", "created",
           "created_at", "eventtime")
 BYTE_ORDER = "\ufeff"  # Some programs begin a file with it.
+_UNITS = ("_SYSTEMD_UNIT", "UNIT", "_SYSTEMD_USER_UNIT", "USER_UNIT")
 _DEEPEST = 32
 LONGEST_OBJECT = 16_777_216  # Bytes of a line of JSON that are read; of a longer one no value is.
 MOST_VALUES = 16_384  # Of an object, that are found by their names; more are words of its text.
@@ -70,6 +72,8 @@ class _Fields:
         if not field:
             return []
         words = named(field, told) if field in ("id", "path") else field_words(field, told)
+        if documents.chosen().accents and field not in ("id", "path"):
+            words += letters.bare_field_words(field, told)
         if field not in self._met:
             self._met.add(field)
             words.append(has_word(field))
@@ -82,7 +86,7 @@ class _Fields:
             return decoded(line), [], bool(line.strip())
         flat = [(name, told) for name, told in _flat(value)]
         by_name = {name.lower(): told for name, told in reversed(flat[:MOST_VALUES])}
-        when = next(filter(None, (days.of_value(by_name.get(name)) for name in _TIMES)), None)
+        when = next(filter(None, (stamps.of_value(by_name.get(name)) for name in _TIMES)), None)
         words: list[str] = []
         before = None
         for name, told in flat[:MOST_VALUES]:
@@ -102,7 +106,7 @@ class JsonLines(Logs):
 
     kind = "json"
     read_chunk = staticmethod(_read_json)
-    longest = LONGEST_OBJECT
+    longest, has_places = LONGEST_OBJECT, False  # An object may have a `file` and a `line` itself.
 
     def __init__(self, *paths: str) -> None:
         super().__init__(*paths)
@@ -142,7 +146,16 @@ def _journal_entry(line: bytes, _: date) -> Line:
     name = entry.get("SYSLOG_IDENTIFIER") or entry.get("_COMM") or "-"
     pid = f"[{entry['_PID']}]" if entry.get("_PID") else ""
     text = f"{when} {entry.get('_HOSTNAME', '-')} {name}{pid}: {message}"
-    return text, [*days.words_of(days.of_line(text, date.max))], False
+    return text, [*days.words_of(stamps.of_line(text, date.max)), *_journal_words(entry)], False
+
+
+def _journal_words(entry: dict[str, Any]) -> list[str]:
+    """The words of an entry's unit, priority and host."""
+    unit = next(filter(None, map(entry.get, _UNITS)), None)
+    told = {"unit": unit, "priority": level_of(str(entry.get("PRIORITY", ""))),
+            "host": entry.get("_HOSTNAME")}
+    return [word for name, value in told.items() if isinstance(value, str)
+            for word in field_words(name, value[:LONGEST_NAME])]
 
 
 class Journals(Named):
