@@ -50,8 +50,10 @@ LINES, BYTES, FEW, TWO, QUICK = 400, 8_000_000, 16, 2, 80
 CACHED = "a list of 200 documents"
 
 # What is asked in the end, and behind `count` each document. Where a call of the first opening
-# fails, the disk that is handed back is opened by the second.
+# fails, the disk that is handed back is opened by the second. Behind a growth the disk may be longer
+# than its store.
 LEFT = ("!close", "!open", "!open", "count", "!check", "find NOT zzz")
+GROWN = "!within"
 
 # How a line is answered that is refused memory, and one whose call of the disk fails; and which
 # lines make a call that is noted.
@@ -89,7 +91,7 @@ class Course:
         """What is left behind so many lines, when it is asked for."""
         if count not in self.lefts:
             told = scripts.answers([self.lines[:count] + self.asked])[0]
-            self.lefts[count] = what_is_left(told[count:])
+            self.lefts[count] = what_is_left(self.asked, told[count:])
         return self.lefts[count]
 
     def is_as(self, place, answer, again):
@@ -115,7 +117,8 @@ class Play:
         self.lines, answers = self.courses[None].lines, self.courses[None].answers
         numbers = {int(number) for text in (*self.lines, *answers)
                    for found in _NUMBERS.finditer(text) for number in found[1].split()}
-        self.asked = [*LEFT, *(f"show {number}" for number in sorted(numbers))]
+        grown = [GROWN] if any(line.startswith("!grow ") for line in self.lines) else []
+        self.asked = [*grown, *LEFT, *(f"show {number}" for number in sorted(numbers))]
         self.courses[None].asked = self.asked
         given = scripts.input_of(row, setting)
         self.wrong = scripts.differences([given]) if is_whole else \
@@ -168,7 +171,7 @@ class Play:
         if not is_cut and len(body) != len(self.lines):
             return f"it ended behind {self.lines[len(body) - 1]}"
         places = (len(body) - 1, len(body)) if is_cut else (len(body),)
-        left = what_is_left(got[-len(self.asked):])
+        left = what_is_left(self.asked, got[-len(self.asked):])
         return None if left in [course.left(place) for place in places] else \
             f"behind {self.lines[len(body) - 1]} there is something else: {left}"
 
@@ -214,9 +217,10 @@ def creations():
         yield setting, Creation(setting)
 
 
-def what_is_left(told):
+def what_is_left(asked, told):
     """What is told in the end: whether the store was opened, and what it has."""
-    return [told[2] if told[1] in FAULTS else told[1], *told[3:]]
+    first, second, *has = told[asked.index("!open"):]
+    return [second if first in FAULTS else first, *has]
 
 
 def runs_of(play, shim):
