@@ -344,10 +344,15 @@ class ThatCannotGetAhead(WithAStore, NotedTest):
         return reply, calls
 
     def test_a_writer_that_goes_on(self):
-        writer = Writer(self)
+        writer, reads = Writer(self), []
 
+        # An opening looks at each half by two reads, and then once more at the greater one.
         def before(call):
-            if call == "read":
+            if call != "read":
+                reads.clear()
+                return
+            reads.append(call)
+            if len(reads) == 5:
                 writer.commit()
                 writer.commit()
         reply, calls = self.stepped("find x", before)
@@ -368,6 +373,20 @@ class ThatCannotGetAhead(WithAStore, NotedTest):
                 self.assertEqual(reply, found(range(1, writer.commits + 1)))
                 self.assertNotIn("lock", calls)
                 self.assertEqual(writer.end()[0], 0)
+
+    def test_the_reader_goes_on_while_it_waits_for_the_lock(self):
+        writer, locks = Writer(self), []
+
+        def before(call):
+            if call == "lock":
+                locks.append(call)
+            elif call == "read" and not locks:
+                writer.commit()
+                writer.commit()
+        reply, _ = self.stepped("find x", before)
+        self.assertEqual(reply, found(range(1, writer.commits + 1)))
+        self.assertEqual(len(locks), 1)
+        self.assertEqual(writer.end()[0], 0)
 
     def committed(self):
         """How many documents the store has."""
@@ -407,6 +426,12 @@ class CallsOfAReader(WithAStore, NotedTest):
     def test_it_only_looks(self):
         _, notes = self.noted("read", "s", lines=self.LINES)
         self.assertEqual({note.split()[0] for note in notes}, {"open", "length", "read", "print"})
+
+    def test_a_line_over_kept_pages_looks_at_two_generations(self):
+        once, twice = (self.noted("read", "s", lines=lines * b"find x\n")[1] for lines in (1, 2))
+        more = [note.split() for note in twice[len(once):-1]]
+        self.assertEqual([(call, at, n) for call, _, at, n in more],
+                         [("read", "1032", "8"), ("read", "9224", "8")])
 
     def test_each_call_fails(self):
         _, notes = self.noted("read", "s", lines=self.LINES)

@@ -6,18 +6,18 @@ ghost use Rattle.pk_reader.specs.Held.{held_bytes};
 ghost use Rattle.pk_reader.specs.Reading.{ReadStep};
 
 use crate::holding::ask_held;
-use crate::opening::{Caches, close};
+use crate::opening::Caches;
 use crate::question::Question;
 use crate::turning::{Held, turn};
 use pk_model::Reply;
-use pk_snapshot::{HeldFile, SnapshotFault};
+use pk_snapshot::HeldFile;
 use std::alloc::Global;
 use std::time::Clock;
 
 /// How often a file is opened at most for a question, beside its writers.
 const MOST_OPENINGS: u32 = 8;
 
-/// Asks until there is a reply: eight times beside writers, and once without.
+/// Asks until there is a reply: eight times beside writers, and then for a second without them, too.
 pub fn ask<F: HeldFile + Drop, C: Clock>(
     alloc: Global,
     caches: Caches,
@@ -38,10 +38,5 @@ pub fn ask<F: HeldFile + Drop, C: Clock>(
             return (reply, held);
         }
     }
-    let file = match held {
-        Ok(view) => close(view, SnapshotFault::Changed).file,
-        Err(file) => file,
-    };
-    let (reply, file) = ask_held(alloc, caches, clock, file, question);
-    (reply, Err(file))
+    ask_held(alloc, caches, clock, held, question)
 }

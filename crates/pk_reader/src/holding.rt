@@ -1,15 +1,17 @@
-//! What is asked while no one writes.
+//! What is asked while no one writes, or between two tries at that.
 
-ghost use Rattle.pk_manifest.specs.Evolves.{Evolves};
+ghost use Rattle.std.specs.Prelude.{◌≤◌, IfSome};
+ghost use Rattle.pk_manifest.specs.Evolves.{in_force};
 ghost use Rattle.pk_model.specs.Views.{reply_of};
 ghost use Rattle.pk_reader.specs.Asking.{request_of};
+ghost use Rattle.pk_reader.specs.Held.{held_bytes};
 ghost use Rattle.pk_reader.specs.Reading.{ReadStep};
 
-use crate::opening::{Caches, close};
+use crate::opening::Caches;
 use crate::question::Question;
-use crate::turning::turn;
+use crate::turning::{Held, file_of, turn};
 use pk_model::{Refusal, Reply};
-use pk_snapshot::{HeldFile, SnapshotFault};
+use pk_snapshot::HeldFile;
 use std::alloc::Global;
 use std::time::{Clock, Duration};
 
@@ -19,43 +21,79 @@ const MOST_HOLDS: u32 = 100;
 
 const WAIT_MILLIS: u64 = 10;
 
-// Keeps writers away, and says whether it does. It waits a second at most.
-fn hold<F: HeldFile, C: Clock>(file: &mut F, clock: &C) -> bool
-    ensures { F.SharedFile.honest
-        → Evolves (F.SharedFile.content file.old) (F.SharedFile.content file.new) }
+// Asks once while no one writes. There is no reply where there is a writer; where what is read is
+// outdated all the same, it is `Refusal::Disk`.
+fn ask_alone<F: HeldFile + Drop>(
+    alloc: Global,
+    caches: Caches,
+    mut file: F,
+    question: Question<'_>,
+) -> (Option<Reply>, F)
+    ensures step { IfSome result.0 (λ reply. ReadStep F.SharedFile.honest
+        (F.SharedFile.content file) (request_of question.entry) (reply_of reply)
+        (F.SharedFile.content result.1)) }
+    ensures later { F.SharedFile.honest → in_force (F.SharedFile.content file)
+        ≤ in_force (F.SharedFile.content result.1) }
 {
-    for _ in 0..MOST_HOLDS {
-        if file.hold() {
-            return true;
-        }
-        clock.sleep(Duration::from_millis(WAIT_MILLIS));
+    if !file.hold() {
+        return (None, file);
     }
-    false
+    let (reply, held) = turn(alloc, caches, Err(file), question);
+    let mut file = file_of(held);
+    file.release();
+    match reply {
+        Some(reply) => (Some(reply), file),
+        None => (Some(Reply::Refused(Refusal::Disk)), file),
+    }
 }
 
-/// Asks once while no one writes: `Refusal::Disk` where there is a writer for a second, or where what
-/// is read is outdated all the same.
+// Asks once while no one writes, or, where there is a writer, once beside it a little later.
+fn ask_again<F: HeldFile + Drop, C: Clock>(
+    alloc: Global,
+    caches: Caches,
+    clock: &C,
+    held: Held<F>,
+    question: Question<'_>,
+) -> (Option<Reply>, Held<F>)
+    ensures step { IfSome result.0 (λ reply. ReadStep F.SharedFile.honest
+        (held_bytes held F.SharedFile.content (λ s. F.SharedFile.content s.store.volume.disk.disk.file))
+        (request_of question.entry) (reply_of reply)
+        (held_bytes result.1 F.SharedFile.content (λ s. F.SharedFile.content s.store.volume.disk.disk.file))) }
+    ensures later { F.SharedFile.honest
+        → in_force (held_bytes held F.SharedFile.content (λ s. F.SharedFile.content s.store.volume.disk.disk.file))
+        ≤ in_force (held_bytes result.1 F.SharedFile.content (λ s. F.SharedFile.content s.store.volume.disk.disk.file)) }
+{
+    let (reply, file) = ask_alone(alloc, caches, file_of(held), question);
+    match reply {
+        Some(reply) => (Some(reply), Err(file)),
+        None => {
+            clock.sleep(Duration::from_millis(WAIT_MILLIS));
+            turn(alloc, caches, Err(file), question)
+        }
+    }
+}
+
+/// Asks while no one writes, and beside writers between two tries at that: `Refusal::Disk` where
+/// neither gets a reply within a second, or where what is read while no one writes is outdated.
 pub fn ask_held<F: HeldFile + Drop, C: Clock>(
     alloc: Global,
     caches: Caches,
     clock: &C,
-    mut file: F,
+    first: Held<F>,
     question: Question<'_>,
-) -> (Reply, F)
-    ensures { ReadStep F.SharedFile.honest (F.SharedFile.content file)
-        (request_of question.entry) (reply_of result.0) (F.SharedFile.content result.1) }
+) -> (Reply, Held<F>)
+    ensures { ReadStep F.SharedFile.honest
+        (held_bytes first F.SharedFile.content (λ s. F.SharedFile.content s.store.volume.disk.disk.file))
+        (request_of question.entry) (reply_of result.0)
+        (held_bytes result.1 F.SharedFile.content (λ s. F.SharedFile.content s.store.volume.disk.disk.file)) }
 {
-    if !hold(&mut file, clock) {
-        return (Reply::Refused(Refusal::Disk), file);
+    let mut held = first;
+    for _ in 0..MOST_HOLDS {
+        let (reply, now) = ask_again(alloc, caches, clock, held, question);
+        held = now;
+        if let Some(reply) = reply {
+            return (reply, held);
+        }
     }
-    let (reply, held) = turn(alloc, caches, Err(file), question);
-    let mut file = match held {
-        Ok(view) => close(view, SnapshotFault::Changed).file,
-        Err(file) => file,
-    };
-    file.release();
-    match reply {
-        Some(reply) => (reply, file),
-        None => (Reply::Refused(Refusal::Disk), file),
-    }
+    (Reply::Refused(Refusal::Disk), held)
 }

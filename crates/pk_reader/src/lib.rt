@@ -12,11 +12,11 @@
 //! |---|---|
 //! | a question | looks whether what it shows is the latest, opens anew if not, and asks its store |
 //! | a question, and what it reads is outdated meanwhile | opens anew, and begins again |
-//! | the same for the eighth time | keeps writers away, for which it waits a second at most, and begins again; if it can't, it answers `Refusal::Disk` |
+//! | the same for the eighth time | keeps writers away, where there are none, and begins again; beside a writer it begins again each 10 ms for a second, and then answers `Refusal::Disk` |
 //!
 //! A reader that has to begin again doesn't wait, and takes no lock. One that would starve beside a
-//! writer that commits faster than it reads has the file to itself for one question. A session that
-//! begins to write meanwhile is told that another has the file.
+//! writer that commits faster than it reads has the file to itself for one question, once that writer
+//! ends. A session that begins to write meanwhile is told that another has the file.
 //!
 //! # What is refused
 //!
@@ -25,7 +25,7 @@
 //! | `NoSuchDocument` | no live document of that body has the number |
 //! | `Memory` | a growth of memory was refused |
 //! | `Damaged` | bytes of that body are no spelling of what should stand there |
-//! | `Disk` | a read failed, there is no store in the file any more, or writers could not be kept away |
+//! | `Disk` | a read failed, there is no store in the file any more, or each try was outdated, the last ones for a second beside a writer |
 //!
 //! After `Damaged` and `Disk` the next question opens anew.
 //!

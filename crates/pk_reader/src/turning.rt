@@ -18,6 +18,17 @@ use std::alloc::Global;
 /// What is held of a file: a store over what is shown of it, or the file alone.
 pub type Held<F> = Result<Open<F>, F>;
 
+/// The file that is held.
+pub fn file_of<F: SharedFile>(held: Held<F>) -> F
+    ensures { F.content result
+        ≡ held_bytes held F.content (λ s. F.content s.store.volume.disk.disk.file) }
+{
+    match held {
+        Ok(view) => close(view, SnapshotFault::Changed).file,
+        Err(file) => file,
+    }
+}
+
 // A store over the newest that is in force: the one that is held, if it shows that.
 fn newest<F: SharedFile + Drop>(
     alloc: Global,

@@ -30,7 +30,8 @@ pub trait View: Sized {
             (λ r. in_force (Self.File.SharedFile.content file)
             ≤ in_force (Self.File.SharedFile.content r.file)) };
 
-    /// Asks until there is a reply: eight times beside writers, and once without.
+    /// Asks until there is a reply: eight times beside writers, and then for a second without them,
+    /// too.
     fn ask<C: Clock>(
         alloc: Global,
         caches: Caches,

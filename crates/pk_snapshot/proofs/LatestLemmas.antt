@@ -1,36 +1,61 @@
--- What a snapshot is of, and that nothing newer is in force where its body is seen again.
-use Rattle.std.proofs.Common.{◌≡◌, ℕ, ◌*◌, ◌≤◌, ◌++◌, Bool, true, false, nat_lt, List, Result, Ok, Err, refl, sym, ◌∙◌, ap, subst, arith}
+-- What a snapshot is of, and that nothing newer is in force where no greater generation is seen.
+use Rattle.std.proofs.Common.{◌≡◌, inl, inr, ℕ, ◌*◌, ◌<◌, ◌≤◌, ◌++◌, Bool, true, false, nat_lt, List, Result, Ok, Err, refl, sym, ◌∙◌, ap, subst, arith}
+use Rattle.std.proofs.lemmas.Bool.Decides.{nat_tests}
 use Rattle.std.specs.Prelude.{IfOk, IsTrue, Some, if◌then◌else◌}
 use Rattle.pk_disk.specs.declared.units.Extent.{Extent}
 use Rattle.pk_manifest.specs.declared.half.Half.{Half}
 use Rattle.pk_manifest.specs.declared.half.Half.TheVariants.{A, B}
-use Rattle.pk_manifest.specs.Bodies.{generation_of, half_in_force, half_of, has_open_gate}
+use Rattle.pk_manifest.specs.Bodies.{generation_of, half_in_force, half_of, has_open_gate, other}
 use Rattle.pk_manifest.specs.Evolves.{Evolves, covers, force_of, in_force, stamp}
 use Rattle.pk_manifest.specs.Found.{IsFound}
 use Rattle.pk_manifest.specs.Sound.{named}
 use Rattle.pk_manifest.specs.Spelling.{Body}
-use Rattle.pk_manifest.proofs.Evolving.{evolves_here, evolves_then, open_below}
+use Rattle.pk_manifest.proofs.Evolving.{evolves_then, open_below}
 use Rattle.pk_manifest.proofs.Fields.{generation_of_spelling}
 use Rattle.pk_manifest.proofs.Found.{found_body}
 use Rattle.pk_snapshot.specs.Latest.{IsSnapshot}
 use Rattle.pk_snapshot.specs.Order.{CoverAlike}
-use Rattle.pk_snapshot.specs.Shared.{Confirms, IsChosen}
+use Rattle.pk_snapshot.specs.Seen.{SawStamp}
+use Rattle.pk_snapshot.specs.Shared.{Confirms, SawShut}
 use Rattle.pk_snapshot.specs.Shown.{ShowsBody, own_extents, shown_bytes}
 use Rattle.pk_snapshot.proofs.ConfirmLemmas.{begun}
-use Rattle.pk_snapshot.proofs.OpenLemmas.{fresh}
+use Rattle.pk_snapshot.proofs.OpenLemmas.{alone}
 use Rattle.pk_snapshot.proofs.ShowsLemmas.{shows}
 
--- a look at both gates that chose the half again, and then a look at that one
-pub latest_of : (old mid new : List ℕ) (half : Half) (g : ℕ) → g ≤ in_force old → Evolves old mid → IsChosen old mid half g → Confirms mid new half g → in_force old ≤ g
-latest_of old mid new half g low first chosen last =
-    let from = begun mid mid new half g (omega (arith, low, first.rises)) (evolves_here mid) last in
-    fresh old mid mid half g chosen (evolves_here mid) first from.gate from.stamp_is
+-- NOTHING NEWER IS IN FORCE where neither body says a greater generation than one that is: what a body
+-- says that is no greater, it said before.
+stamp_before : (old new : List ℕ) (half : Half) (g n : ℕ) → g ≤ in_force old → n ≤ g → SawStamp old new half n → stamp old half ≤ g
+stamp_before old new half g n low most seen = elim (seen.since.stamps half) [
+  | inl same ↦ omega (arith, same, seen.stamp_is, most)
+  | inr next ↦ absurd (let above : in_force old < stamp seen.moment half = next.0 in omega (arith, above, low, seen.stamp_is, most))
+]
 
-pub latest_again : {E : Type 0} (old mid new : List ℕ) (chosen half : Half) (there g : ℕ) → chosen ≡ half → there ≡ g → g ≤ in_force old → Evolves old mid → IsChosen old mid chosen there
-    → (result : Result Bool E) → IfOk result (λ is. IsTrue is → Confirms mid new half g) → IfOk result (λ is. IsTrue is → in_force old ≤ g)
-latest_again old mid new chosen half there g same same_too low first is (Ok b) given = λ yes.
-    latest_of old mid new half g low first (subst (λ (n : ℕ). IsChosen old mid half n) same_too (subst (λ (h : Half). IsChosen old mid h there) same is)) (given yes)
-latest_again old mid new chosen half there g same same_too low first is (Err e) given = tt
+force_most : (x y : Bool) (a b g : ℕ) → a ≤ g → b ≤ g → force_of x y a b ≤ g
+force_most true true a b g first second = grind (arith, nat_tests, first, second)
+force_most true false a b g first second = first
+force_most false true a b g first second = second
+force_most false false a b g first second = omega arith
+
+force_below : (bytes : List ℕ) (half : Half) (g : ℕ) → stamp bytes half ≤ g → stamp bytes (other half) ≤ g → in_force bytes ≤ g
+unfolding in_force
+force_below bytes A g own beside = force_most (has_open_gate bytes A) (has_open_gate bytes B) (stamp bytes A) (stamp bytes B) g own beside
+force_below bytes B g own beside = force_most (has_open_gate bytes A) (has_open_gate bytes B) (stamp bytes A) (stamp bytes B) g beside own
+
+pub latest_by_stamps : (old mid new : List ℕ) (half : Half) (g beside own : ℕ) → g ≤ in_force old → Evolves old mid → beside ≤ g → SawStamp old mid (other half) beside → own ≤ g → SawStamp mid new half own → in_force old ≤ g
+latest_by_stamps old mid new half g beside own low first most seen most_own seen_own =
+    force_below old half g
+    (stamp_before old new half g own low most_own
+    (record { moment = seen_own.moment; since = evolves_then old mid seen_own.moment first seen_own.since; until = seen_own.until; stamp_is = seen_own.stamp_is }))
+    (stamp_before old mid (other half) g beside low most seen)
+
+-- Nor is there where the other gate was shut, and then the body seen behind its own.
+pub latest_alone : {E : Type 0} (old mid looked new : List ℕ) (half : Half) (g : ℕ) → g ≤ in_force old → Evolves old mid → SawShut mid looked (other half)
+    → (result : Result Bool E) → IfOk result (λ is. IsTrue is → Confirms looked new half g) → IfOk result (λ is. IsTrue is → in_force old ≤ g)
+latest_alone old mid looked new half g low first shut (Ok b) given = λ yes.
+    let is = begun shut.moment looked new half g (omega (arith, low, first.rises, shut.since.rises)) shut.until (given yes) in
+    let only : in_force shut.moment ≡ stamp shut.moment half = alone shut.moment half is.gate shut.shut in
+    omega (arith, first.rises, shut.since.rises, only, is.stamp_is)
+latest_alone old mid looked new half g low first shut (Err e) given = tt
 
 -- what was in force when the bytes were marked is no newer than what is there now
 pub marked_low : (marked now : List ℕ) (half : Half) (g : ℕ) → has_open_gate marked half ≡ true → stamp marked half ≡ g → Evolves marked now → g ≤ in_force now

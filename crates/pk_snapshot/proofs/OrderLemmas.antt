@@ -3,7 +3,7 @@ use Rattle.std.proofs.Common.{◌≡◌, inl, inr, ℕ, suc, ◌+◌, ◌-◌, �
 use Rattle.std.specs.Prelude.{All}
 use Rattle.std.specs.List.{AllByRecursion, IsDistinct, list_all, list_any}
 use Rattle.std.specs.List.Sorted.{IsNonDecreasingBy, IsPartitionPoint, IsPermutation}
-use Rattle.std.proofs.lemmas.Bool.{and_parts, cases_lt, leb-false, leb-true, ltb-false, ltb-true}
+use Rattle.std.proofs.lemmas.Bool.{and_parts, cases_lt, leb-false, leb-true, ltb-false, ltb-true, not-true}
 use Rattle.std.proofs.lemmas.Bool.Decides.{nat_tests}
 use Rattle.std.proofs.lemmas.List.{get_or-drop, get_or-take, length-take-le, take-append-drop}
 use Rattle.std.proofs.Math.Seq.{take-length}
@@ -19,6 +19,7 @@ use Rattle.pk_manifest.specs.declared.half.Half.TheVariants.{A, B}
 use Rattle.pk_manifest.specs.Evolves.{covers, is_in}
 use Rattle.pk_manifest.specs.Sound.{IsBody, is_extent, named}
 use Rattle.pk_manifest.specs.Spelling.{Body}
+use Rattle.pk_manifest.proofs.Apart.{has_unit, overlap_flips}
 use Rattle.pk_manifest.proofs.Ends.{each_named}
 use Rattle.pk_manifest.proofs.Fields.{extents_of_disk}
 use Rattle.pk_snapshot.specs.Order.{AreMet, CoverAlike, IsRising, MeetsRange, stop_of}
@@ -32,29 +33,16 @@ record HasUnits (e : Extent) : Type 0 where
   pub some : 0 < e.units
 
 extent_fits : (units least : ℕ) (e : Extent) → is_extent units least e ≡ true → HasUnits e
-extent_fits units least e h = record { holds = grind (arith, nat_tests); some = grind (arith, nat_tests) }
+extent_fits units least e h = record { holds = grind (arith, nat_tests); some = has_unit units least e h }
 
 own_fit : (half : Half) → All HasUnits (own_extents half)
 own_fit A = All-cons HasUnits (gate_extent A) (body_extent A ∷ []) (record { holds = omega arith; some = omega arith }) (All-cons HasUnits (body_extent A) [] (record { holds = omega arith; some = omega arith }) (All-nil HasUnits))
 own_fit B = All-cons HasUnits (gate_extent B) (body_extent B ∷ []) (record { holds = omega arith; some = omega arith }) (All-cons HasUnits (body_extent B) [] (record { holds = omega arith; some = omega arith }) (All-nil HasUnits))
 
 -- no two of them overlap
-flips : (e f : Extent) → overlap e f ≡ overlap f e
-flips e f = both (ltb e.first (end_of f)) (ltb f.first (end_of e))
-  where
-    both : (a b : Bool) → (a && b) ≡ (b && a)
-    both true true = refl
-    both true false = refl
-    both false true = refl
-    both false false = refl
-
 beside_own : (half : Half) (e : Extent) → 34 ≤ e.first → AllByRecursion (λ f. overlap e f ≡ false) (own_extents half)
 beside_own A e low = (grind (arith, nat_tests), (grind (arith, nat_tests), tt))
 beside_own B e low = (grind (arith, nat_tests), (grind (arith, nat_tests), tt))
-
-not_true : (b : Bool) → not b ≡ true → b ≡ false
-not_true true is = cc
-not_true false is = refl
 
 none_meets : (half : Half) (e : Extent) (es : List Extent) → 34 ≤ e.first → list_any (overlap e) es ≡ false → AllByRecursion (λ f. overlap e f ≡ false) (es ++ own_extents half)
 none_meets half e [] low none = beside_own half e low
@@ -73,7 +61,7 @@ all_distinct half units (e ∷ es) within is =
     let none = and_parts (not (list_any (overlap e) es)) (apart overlap es) is in
     let a = and_parts (leb 34 e.first && ltb 0 e.units) (leb (end_of e) units) here.0 in
     let b = and_parts (leb 34 e.first) (ltb 0 e.units) a.0 in
-    (none_meets half e es (leb-true _ _ b.0) (not_true (list_any (overlap e) es) none.0), all_distinct half units es here.1 none.1)
+    (none_meets half e es (leb-true _ _ b.0) (not-true (list_any (overlap e) es) none.0), all_distinct half units es here.1 none.1)
 
 -- two that are in order
 in_order : (e f : Extent) → HasUnits e → HasUnits f → e.first ≤ f.first → overlap e f ≡ false → stop_of e ≤ stop_of f
@@ -83,7 +71,7 @@ module _ (half : Half) (b : Body) (sound : IsBody b.units b) (sorted : List Exte
   distinct : IsDistinct overlap sorted
   distinct =
       let says = extents_of_disk b.units b sound in
-      IsDistinct-IsPermutation overlap flips (named b ++ own_extents half) sorted permuted (all_distinct half b.units (named b) says.1 says.2)
+      IsDistinct-IsPermutation overlap overlap_flips (named b ++ own_extents half) sorted permuted (all_distinct half b.units (named b) says.1 says.2)
 
   fit : All HasUnits sorted
   fit = All-permutation HasUnits (named b ++ own_extents half) sorted permuted (All-append HasUnits (named b) (own_extents half) (each_named HasUnits b.units (extent_fits b.units) b sound) (own_fit half))

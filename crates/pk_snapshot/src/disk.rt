@@ -159,8 +159,6 @@ impl<F: SharedFile> Watched for SnapshotDisk<F> {
 
     ghost goes_on = { λ old new. F.honest → Evolves (F.content old.file) (F.content new.file) };
 
-    // Both gates are looked at, and then its own again. Beside a replacement it may answer no though
-    // nothing newer is in force.
     fn is_latest(&mut self) -> Result<bool, DiskFault> {
         is_latest(&mut self.file, self.half, self.generation)
     }

@@ -36,13 +36,16 @@
 //! |---|---|
 //! | `open` | its length; a look at A and one at B; a second at the greater of the two; its length again; its body and its table; a third look |
 //! | `read` | each extent where the range meets it; a look |
-//! | `is_latest` | a look at A and one at B; where they name its body, a second at that half |
+//! | `is_latest` | the generation of the other half, then its own; where the other is greater, the other gate, and where that is shut, a look |
 //!
 //! A look after the bytes that names the generation of the snapshot tells that they are as they were.
 //! One that names another sets `is_outdated`; from then on each read fails, and the file is to be
 //! opened anew. A body stays readable beside one replacement, whose gate is the other one, and is
 //! outdated by the second. So one that isn't the latest may be read on; who wants the latest asks
-//! `is_latest` of pk_watch, which reads nothing of what is shown.
+//! `is_latest` of pk_watch, which reads nothing of what is shown. No gate is wanted for that, while
+//! neither body says a greater generation: one that was in force is never written again, so what a
+//! body says that is no greater, it said before. A greater one may stand behind a shut gate while a
+//! replacement goes on.
 //!
 //! This is the optimistic reading of Kung and Robinson (1981), "On optimistic methods for concurrency
 //! control": read, then validate, and begin again where that fails. The generation is the version of

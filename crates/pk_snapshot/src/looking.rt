@@ -14,7 +14,7 @@ ghost use Rattle.pk_snapshot.specs.Shared.{Confirms, IsChosen, SawShut};
 ghost use Rattle.pk_snapshot.specs.Shown.{ShowsBody, shown_bytes};
 
 use crate::fault::SnapshotFault;
-use crate::reading::{is_still, read_whole, stamp_behind};
+use crate::reading::{is_still, read_whole, stamp_behind, stamp_of};
 use crate::shared::SharedFile;
 use crate::shown::Shown;
 use pk_disk::{DiskFault, Extent, LEAST_UNITS, UNIT, units_in};
@@ -29,20 +29,6 @@ const UNITS_FIELD: usize = 16;
 pub struct Chosen {
     pub half: Half,
     pub generation: u64,
-}
-
-impl Chosen {
-    // Whether it is this half, with this generation behind its gate.
-    fn is_at(&self, half: Half, generation: u64) -> bool
-        ensures half { IsTrue result → self.now.half ≡ half }
-        ensures generation { IsTrue result → self.now.generation ≡ generation }
-    {
-        let same = match self.half {
-            Half::A => matches!(half, Half::A),
-            Half::B => matches!(half, Half::B),
-        };
-        same && self.generation == generation
-    }
 }
 
 // Looks at both gates.
@@ -83,7 +69,9 @@ pub fn choose<F: SharedFile>(file: &mut F) -> Result<Option<Chosen>, DiskFault>
     })
 }
 
-// Whether no other body than that of a half, behind this generation, is in force.
+// Whether no other body than that of a half, behind this generation, is in force. A generation that
+// was in force is never written again: so where neither body says a greater one, none is in force,
+// whatever the gates are. A greater one may be that of a body that is being made ready.
 pub fn is_latest<F: SharedFile>(
     file: &mut F,
     half: Half,
@@ -94,9 +82,13 @@ pub fn is_latest<F: SharedFile>(
     ensures evolves { F.honest → Evolves (F.content file.old) (F.content file.new) }
     ensures marked { F.honest → F.marked file.new ≡ F.marked file.old }
 {
-    match choose(file)? {
-        Some(chosen) if chosen.is_at(half, generation) => is_still(file, half, generation),
-        _ => Ok(false),
+    let beside = stamp_of(file, half.other())?;
+    if beside <= generation {
+        return Ok(stamp_of(file, half)? == generation);
+    }
+    match stamp_behind(file, half.other())? {
+        None => is_still(file, half, generation),
+        Some(_) => Ok(false),
     }
 }
 

@@ -2,6 +2,7 @@
 
 ghost use Rattle.std.specs.Prelude.{◌≡◌, ◌<◌, ◌≤◌, ◌+◌, ◌%◌, ◌^◌, length, IfNone, IfOk, IfSome, IsTrue, OnOk};
 ghost use Rattle.pk_manifest.specs.Evolves.{Evolves};
+ghost use Rattle.pk_snapshot.specs.Seen.{SawStamp};
 ghost use Rattle.pk_snapshot.specs.Shared.{AreSeen, Confirms, SawShut, SeenAtOnce};
 
 use crate::shared::{ReadFault, SharedFile};
@@ -52,6 +53,18 @@ fn read_once<F: SharedFile>(file: &mut F, at: u64, out: &mut [u8]) -> Result<(),
     Err(DiskFault)
 }
 
+// The generation that the body of a half says, whatever its gate is.
+pub fn stamp_of<F: SharedFile>(file: &mut F, half: Half) -> Result<u64, DiskFault>
+    ensures given { F.honest → IfOk result
+        (SawStamp (F.content file.old) (F.content file.new) half) }
+    ensures evolves { F.honest → Evolves (F.content file.old) (F.content file.new) }
+    ensures marked { F.honest → F.marked file.new ≡ F.marked file.old }
+{
+    let mut field = [0u8; 8];
+    read_once(file, half.body() + 8, &mut field)?;
+    Ok(u64_at(&field, 0))
+}
+
 // The generation behind a gate that is open: the gate is read first, and the generation after it.
 pub fn stamp_behind<F: SharedFile>(file: &mut F, half: Half) -> Result<Option<u64>, DiskFault>
     ensures given { F.honest → IfOk result (λ found. IfSome found
@@ -66,9 +79,8 @@ pub fn stamp_behind<F: SharedFile>(file: &mut F, half: Half) -> Result<Option<u6
     if gate[0] != OPEN {
         return Ok(None);
     }
-    let mut field = [0u8; 8];
-    read_once(file, half.body() + 8, &mut field)?;
-    Ok(Some(u64_at(&field, 0)))
+    let stamp = stamp_of(file, half)?;
+    Ok(Some(stamp))
 }
 
 // Whether a gate is still open behind this generation.

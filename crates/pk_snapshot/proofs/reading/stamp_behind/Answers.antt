@@ -1,24 +1,23 @@
 -- The gate's byte is that of one moment, and the generation's bytes are those of a later one.
-use Rattle.std.proofs.Common.{sym}
 use Rattle.pk_manifest.proofs.Evolving.{evolves_then}
-use Rattle.pk_snapshot.proofs.SeenLemmas.{gate_seen, shut_seen, stamp_seen}
+use Rattle.pk_snapshot.proofs.SeenLemmas.{gate_seen, shut_seen}
 use Rattle.pk_snapshot.proofs.reading.stamp_behind.Goals as goal
 
-pub returns-in_err-read_once-2-clause-evolves : goal.returns-in_err-read_once-2-clause-evolves
-returns-in_err-read_once-2-clause-evolves g c = λ h.
+pub returns-in_err-stamp-clause-evolves : goal.returns-in_err-stamp-clause-evolves
+returns-in_err-stamp-clause-evolves g c = λ h.
     let f = g.F.SharedFile in
-    evolves_then (f.content c.args.file.now) (f.content c.read_once.new.file) (f.content c.read_once-2.new.file) (c.read_once.ensures.evolves h) (c.read_once-2.ensures.evolves h)
+    evolves_then (f.content c.args.file.now) (f.content c.read_once.new.file) (f.content c.stamp_of.new.file) (c.read_once.ensures.evolves h) (c.stamp_of.ensures.evolves h)
 
 pub returns-clause-evolves : goal.returns-clause-evolves
 returns-clause-evolves g c = λ h.
     let f = g.F.SharedFile in
-    evolves_then (f.content c.args.file.now) (f.content c.read_once.new.file) (f.content c.read_once-2.new.file) (c.read_once.ensures.evolves h) (c.read_once-2.ensures.evolves h)
+    evolves_then (f.content c.args.file.now) (f.content c.read_once.new.file) (f.content c.stamp_of.new.file) (c.read_once.ensures.evolves h) (c.stamp_of.ensures.evolves h)
 
 pub returns-clause-given : goal.returns-clause-given
 returns-clause-given g c = λ h.
     let f = g.F.SharedFile in
     let first = c.in_ok-read_once.ensures.given h in
-    let second = c.in_ok-read_once-2.ensures.given h in
+    let second = c.in_ok-stamp.ensures.given h in
     record {
       gate_at = first.moment;
       stamp_at = second.moment;
@@ -26,7 +25,7 @@ returns-clause-given g c = λ h.
       between = evolves_then first.moment (f.content c.read_once.new.file) second.moment first.until second.since;
       until = second.until;
       gate = gate_seen first.moment c.read_once.new.out c.args.half c.gate.result c.gate.ensures c.read_once.auto.out first.are c.if-gate.false;
-      stamp_is = sym (stamp_seen second.moment c.read_once-2.new.out c.args.half c.body.result c.u64_at.result c.body.ensures c.read_once-2.auto.out second.are c.u64_at.ensures);
+      stamp_is = second.stamp_is;
     }
 
 pub returns-then-gate-clause-shut : goal.returns-then-gate-clause-shut
