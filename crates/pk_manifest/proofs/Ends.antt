@@ -78,10 +78,12 @@ module _ (P : Extent → Type 0) (units : ℕ) (each : (least : ℕ) (e : Extent
   of_table size e (inl none) h = subst (λ (x : Extent). All P (table_extents x)) (sym (no_table units size e h none)) (All-nil P)
   of_table size e (inr some) h = one_or_none (e.bytes == 0) e (each 1 e (table_extent units size e h some))
 
+  pub each_judged : (b : Body) → is_table units (table_size b) b.table ≡ true → list_all (is_part units b.next_segment) b.entries ≡ true → All P (named b)
+  each_judged b table parts =
+      All-append P (table_extents b.table) (flat_map extents_of b.entries) (of_table (table_size b) b.table (zero_or_not (table_size b)) table) (of_parts b.next_segment b.entries parts)
+
   pub each_named : (b : Body) → IsBody units b → All P (named b)
-  each_named b sound =
-      let says = says_sound units b sound.sound in
-      All-append P (table_extents b.table) (flat_map extents_of b.entries) (of_table (table_size b) b.table (zero_or_not (table_size b)) says.table) (of_parts b.next_segment b.entries says.parts)
+  each_named b sound = let says = says_sound units b sound.sound in each_judged b says.table says.parts
 
 pub table_end_by : (units size : ℕ) (e : Extent) → (size ≡ 0) ⊎ (size ≡ 0 → ⊥) → is_table units size e ≡ true → Ends (512 * units) e
 table_end_by units size e (inl none) h =

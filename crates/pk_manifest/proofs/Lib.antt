@@ -14,3 +14,4 @@ pub mod Longer
 pub mod Moves
 pub mod Written
 pub mod Found
+pub mod Apart
