@@ -2,7 +2,7 @@
 pub mod Changes
 pub mod Crashes
 pub mod Images
-mod Joined
+pub mod Joined
 pub mod Moments
 pub mod Ranges
 pub mod Reading

@@ -142,7 +142,8 @@ impl<F: RawFile + Drop> FileDisk<F> {
             ≡ resized len (⟦<FileDisk<F> as Disk>⟧.content self)) }
         ensures closed { F.honest → IfOk result
             (λ d. ⟦<FileDisk<F> as Disk>⟧.is_open d ≡ nowhere) }
-        ensures images { F.honest → IfOk result (λ d. OnlyNew F.moment F.images_since self.file d.file
+        ensures images { F.honest → IfOk result
+            (λ d. OnlyNew F.moment F.images_since self.file d.file
             (IsExtended (⟦<FileDisk<F> as Disk>⟧.content self)
             (⟦<FileDisk<F> as Disk>⟧.is_open self))) }
         ensures same { IfOk result (λ d. IsSameFile F.is_new F.path self.file d.file) }
@@ -206,7 +207,8 @@ fn locked<F: RawFile + Drop>(mut file: F) -> Result<F, NotADisk<F>>
     ensures same { IfOk result (λ f. IsSameFile F.is_new F.path file f) }
     ensures sure { IfOk result (λ f. F.is_sure f ≡ F.is_sure file) }
     ensures fault { IfErr result (λ none. none.why ≡ FileFault.Disk) }
-    ensures left { F.honest → IfErr result (λ none. IfSome none.file (λ f. F.content f ≡ F.content file)) }
+    ensures left { F.honest → IfErr result
+        (λ none. IfSome none.file (λ f. F.content f ≡ F.content file)) }
     ensures same_left { IfErr result (λ none. IfSome none.file (IsSameFile F.is_new F.path file)) }
     ensures handed { IfErr result (λ none. IsSome none.file) }
 {
@@ -276,9 +278,12 @@ impl<F: RawFile> Disk for FileDisk<F> {
         Ok(())
     }
 
-    ghost counts_now = { λ disk t image honest le now. F.counts_now disk.file t image honest disk.settled le
-        (image_of_resized disk.len (F.content disk.file) (F.is_open disk.file) image (disk.fits honest) now) };
+    ghost counts_now = { λ disk t image honest le now.
+        F.counts_now disk.file t image honest disk.settled le
+        (image_of_resized disk.len (F.content disk.file) (F.is_open disk.file) image
+        (disk.fits honest) now) };
 
-    ghost only_now = { λ disk image honest since. image_resized disk.len (F.content disk.file) (F.is_open disk.file) image
+    ghost only_now = { λ disk image honest since.
+        image_resized disk.len (F.content disk.file) (F.is_open disk.file) image
         (disk.fits honest) (F.only_now disk.file image honest disk.settled since) };
 }

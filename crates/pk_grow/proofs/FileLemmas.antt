@@ -1,7 +1,6 @@
--- A file that was made longer begins with what it was, and so holds the store that it held: what a
--- growth in a file comes to.
-use Rattle.std.proofs.Common.{Result, Ok, Err, IfOk, OnOk, ◌≡◌, ⊎_elim, ℕ, ◌*◌, ◌≤◌, ◌++◌, replicate, Bool, List, length, take, sym, ap, subst, ◌∙◌, arith}
-use Rattle.std.proofs.lemmas.List.{length-take, take-append-le, take-take, take_all}
+-- What a growth in a file comes to: a file that was made longer holds the store that it held.
+use Rattle.std.proofs.Common.{Result, Ok, Err, None, IfOk, ◌≡◌, ⊎_elim, ℕ, ◌*◌, ◌-◌, ◌^◌, ◌<◌, ◌≤◌, ◌++◌, replicate, Bool, List, length, take, sym, ap, subst, ◌∙◌, arith}
+use Rattle.std.proofs.lemmas.List.{take-append-le, take-take, take_all}
 use Rattle.pk_disk.specs.Disk.{IsImage, nowhere}
 use Rattle.pk_disk.specs.Since.{NoneNew, OnlyNew}
 use Rattle.pk_disk.proofs.Images.{closed_image}
@@ -9,57 +8,21 @@ use Rattle.pk_disk.proofs.Moments.{none_only, none_then_only, only_then, weaker}
 use Rattle.pk_filedisk.specs.Raw.{IsExtended}
 use Rattle.pk_filedisk.specs.Resized.{resized, resized_is}
 use Rattle.pk_filedisk.specs.declared.raw.RawFile.{Ghosts}
+use Rattle.pk_manifest.specs.declared.fault.ManifestFault.{ManifestFault}
 use Rattle.pk_manifest.specs.declared.fault.ManifestFault.TheVariants.{NotAStore, Damaged, Disk, UsedUp, Memory}
 use Rattle.pk_manifest.specs.declared.half.Half.{Half}
-use Rattle.pk_manifest.specs.Bodies.{other}
-use Rattle.pk_manifest.specs.Current.{HasBody, HasBodyOf, units_of_disk}
+use Rattle.pk_manifest.specs.Current.{HasBodyOf, units_of_disk}
 use Rattle.pk_manifest.specs.Spelling.{Body}
-use Rattle.pk_manifest.proofs.Firm.{other_other}
 use Rattle.pk_manifest.specs.Said.{said_units}
 use Rattle.pk_model.specs.Collection.{Collection}
 use Rattle.pk_state.specs.Holds.{Holds}
-use Rattle.pk_state.proofs.HoldsLemmas.{units_room}
-use Rattle.pk_grow.specs.Growth.{GrowsAs, HoldsStore, IsDue, session_units, store_bytes}
+use Rattle.pk_grow.specs.Growth.{GrowsAs, HoldsEither, HoldsStore, IsDue, IsSoundFault, session_units, store_bytes}
 use Rattle.pk_grow.specs.GrownFile.{GrowsFile, greater}
 use Rattle.pk_grow.specs.declared.fault.GrowFault.{GrowFault}
 use Rattle.pk_grow.specs.declared.fault.GrowFault.TheVariants.{Shorter, Store}
-use Rattle.pk_grow.specs.declared.fault.Growth.{Growth}
-use Rattle.pk_grow.proofs.StoreLemmas.{fits_disk, has_first, least_store, most_store, opened_holds, store_fits, units_of_sound}
-
-module _ (bytes more : List ℕ) (start : take (length bytes) more ≡ bytes) where
-  pub no_shorter : length bytes ≤ length more
-  no_shorter = omega (arith, ap length start, length-take (length bytes) more)
-
-  -- what lies in the first bytes
-  pub first_same : (size : ℕ) → size ≤ length bytes → take size bytes ≡ take size more
-  first_same size le = ap (take size) (sym start) ∙ take-take size (length bytes) more le
-
-  pub starts_hold : (c : Collection) → 64 ≤ units_of_disk bytes → HoldsStore bytes c → HoldsStore more c
-  starts_hold c least holds =
-      let u = session_units bytes in
-      let fits : 512 * u ≤ length bytes = store_fits (length bytes) (said_units bytes) in
-      opened_holds more u c (least_store (units_of_disk bytes) (said_units bytes) least) (most_store (length bytes) (said_units bytes)) (omega (arith, fits, no_shorter))
-      (subst (λ (b : List ℕ). Holds b c) (first_same (512 * u) fits) holds)
-
--- the body in force of a store is that of the same units of what begins with it
-module _ (bytes more : List ℕ) (start : take (length bytes) more ≡ bytes) (b : Body) (half : Half) (least : 64 ≤ b.units) (has : HasBodyOf (session_units bytes) bytes half b) where
-  same_units : b.units ≡ session_units bytes
-  same_units = units_of_sound (session_units bytes) b has.sound
-
-  has_room : b.units ≤ units_of_disk bytes
-  has_room = subst (λ (m : ℕ). m ≤ units_of_disk bytes) (sym same_units) (fits_disk (units_of_disk bytes) (said_units bytes))
-
-  first_units : store_bytes b.units bytes ≡ store_bytes b.units more
-  first_units = first_same bytes more start (512 * b.units) (omega (arith, has_room, units_room (length bytes)))
-
-  pub has_longer : (s : Half) → s ≡ other half → HasBody (store_bytes b.units more) (other s) b
-  has_longer s is =
-      subst (λ (first : List ℕ). HasBody first (other s) b) first_units
-      (subst (λ (h : Half). HasBody (store_bytes b.units bytes) h b) (sym (ap other is ∙ other_other half))
-      (has_first bytes b.units half b (omega (arith, least)) has_room (subst (λ (m : ℕ). HasBodyOf m bytes half b) (sym same_units) has)))
-
-  pub holds_longer : (c : Collection) → HoldsStore bytes c → Holds (store_bytes b.units more) c
-  holds_longer c holds = subst (λ (first : List ℕ). Holds first c) first_units (subst (λ (m : ℕ). Holds (store_bytes m bytes) c) (sym same_units) holds)
+use Rattle.pk_grow.specs.declared.fault.Growth.TheVariants.{AsItWas, Grown}
+use Rattle.pk_grow.proofs.GrowthLemmas.{either_stores, failed_as}
+use Rattle.pk_grow.proofs.StoreLemmas.{holds_longer, starts_hold, store_fits, units_of_sound}
 
 -- an image of a file that was made longer, with nothing open
 pub extended_holds : (bytes image : List ℕ) (o : ℕ → Bool) (c : Collection) → o ≡ nowhere → 64 ≤ units_of_disk bytes → IsExtended bytes o image → HoldsStore bytes c → HoldsStore image c
@@ -90,62 +53,31 @@ pub none_of_file : {D F : Type 0} (file : D → F) (moment : F → ℕ) (images_
     → NoneNew (λ (d : D). moment (file d)) (λ (d : D). images_since (file d)) old new → NoneNew moment images_since (file old) (file new)
 none_of_file file moment images_since old new none = record { later = none.later; each = none.each }
 
-on_any : {T E : Type 0} (r : Result T E) (P : Type 0) → P → OnOk r P
-on_any (Ok v) P holds = holds
-on_any (Err e) P holds = tt
-
--- what was long enough stays as long as it was
-as_long_as : {T E : Type 0} (r : Result T E) (size least now : ℕ) → now ≡ size → OnOk r (least ≤ size) → OnOk r (now ≡ greater size least)
-as_long_as (Ok v) size least now same le = omega (arith, same, le)
-as_long_as (Err e) size least now same le = tt
-
--- a store that has so many units lies in its file
-pub lies_in : (bytes : List ℕ) (units : ℕ) → session_units bytes ≡ units → 512 * units ≤ length bytes
-lies_in bytes units is = subst (λ (u : ℕ). 512 * u ≤ length bytes) is (store_fits (length bytes) (said_units bytes))
-
 -- ---- the body is read, then the file is made longer, and then the store grows
 
-module _ {F : Type 0} (f : Ghosts F) (bytes : List ℕ) (units : ℕ) (old mid : F) (none : NoneNew f.moment f.images_since old mid) where
-  -- nothing was written
-  pub grows_unwritten : (answer : Result Growth GrowFault) → f.content mid ≡ bytes → f.is_open mid ≡ nowhere
-      → ((c : Collection) → HoldsStore bytes c → OnOk answer (Holds (store_bytes units bytes) c)) → OnOk answer (512 * units ≤ length bytes) → GrowsAs units bytes answer → GrowsFile f bytes old mid units answer
-  grows_unwritten answer same closed done fits told = record {
-    any_moment = λ c holds. none_only f.moment f.images_since old mid _ none;
-    kept = λ c holds. subst (λ (b : List ℕ). HoldsStore b c) (sym same) holds;
-    done = λ c holds. subst (λ (b : List ℕ). OnOk answer (Holds (store_bytes units b) c)) (sym same) (done c holds);
-    size = as_long_as answer (length bytes) (512 * units) (length (f.content mid)) (ap length same) fits;
-    closed = on_any answer _ closed;
-    answered = told;
-  }
+-- the file whose body was read
+pub record IsRead {F : Type 0} (f : Ghosts F) (bytes : List ℕ) (old mid : F) : Type 0 where
+  pub none : NoneNew f.moment f.images_since old mid
+  pub same : f.content mid ≡ bytes
+  pub closed : f.is_open mid ≡ nowhere
 
-  module _ (o : ℕ → Bool) (closed : o ≡ nowhere) (least : 64 ≤ units_of_disk bytes) (long : F) (extended : OnlyNew f.moment f.images_since mid long (IsExtended bytes o)) where
-    as_long : (c : Collection) → HoldsStore bytes c → OnlyNew f.moment f.images_since old long (λ image. HoldsStore image c)
-    as_long c holds = none_then_only f.moment f.images_since old mid long _ none
-        (weaker f.moment f.images_since mid long _ _ (λ image is. extended_holds bytes image o c closed least is holds) extended)
+-- then it was made longer, for that body to grow to so many units
+pub record IsLonger {F : Type 0} (f : Ghosts F) (bytes : List ℕ) (units : ℕ) (mid long : F) (half : Half) (b : Body) (more : List ℕ) : Type 0 where
+  pub has : HasBodyOf (session_units bytes) bytes half b
+  pub fewer : session_units bytes < units
+  pub least : 64 ≤ b.units
+  pub room : units ≤ units_of_disk more
+  pub start : take (length bytes) more ≡ bytes
+  pub size : length more ≡ greater (length bytes) (512 * units)
+  pub content : f.content long ≡ more
+  pub closed : f.is_open long ≡ nowhere
+  pub images : OnlyNew f.moment f.images_since mid long (IsExtended bytes (f.is_open mid))
 
-    -- it was not made longer
-    pub grows_refused : take (length bytes) (f.content long) ≡ bytes → GrowsFile f bytes old long units (Err (Store Disk))
-    grows_refused start = record {
-      any_moment = as_long;
-      kept = λ c holds. starts_hold bytes (f.content long) start c least holds;
-      done = λ c holds. tt;
-      size = tt;
-      closed = tt;
-      answered = tt;
-    }
-
-    -- it was, and the body of the growth was put in force, or not
-    pub grows_on : (new : F) (answer : Result Growth GrowFault) → ((c : Collection) → HoldsStore bytes c → OnlyNew f.moment f.images_since long new (λ image. HoldsStore image c))
-        → ((c : Collection) → HoldsStore bytes c → HoldsStore (f.content new) c) → ((c : Collection) → HoldsStore bytes c → OnOk answer (Holds (store_bytes units (f.content new)) c))
-        → OnOk answer (length (f.content new) ≡ greater (length bytes) (512 * units)) → OnOk answer (f.is_open new ≡ nowhere) → GrowsAs units bytes answer → GrowsFile f bytes old new units answer
-    grows_on new answer moments kept done size shut told = record {
-      any_moment = λ c holds. only_then f.moment f.images_since old long new _ (as_long c holds) (moments c holds);
-      kept = kept;
-      done = done;
-      size = size;
-      closed = shut;
-      answered = told;
-    }
+-- and then the body of the growth was put in force, or not
+pub record IsReplaced {F : Type 0} (f : Ghosts F) (more : List ℕ) (u units : ℕ) (long new : F) : Type 0 where
+  pub moments : (c : Collection) → Holds (store_bytes u more) c → OnlyNew f.moment f.images_since long new (λ image. (length image ≡ length more) × HoldsEither u units c image)
+  pub counts_now : f.moment long ≤ f.moment new → f.images_since new (f.moment long) (f.content new)
+  pub only_now : (image : List ℕ) → f.images_since long (f.moment long) image → IsImage (f.content long) (f.is_open long) image
 
 -- what is read of a file then is one of its images
 pub file_left : {F : Type 0} (f : Ghosts F) (long new : F) (c : Collection) → (f.moment long ≤ f.moment new → f.images_since new (f.moment long) (f.content new))
@@ -155,3 +87,79 @@ file_left f long new c counts only_now closed holds only = ⊎_elim
     (λ was. subst (λ (b : List ℕ). HoldsStore b c) (sym (closed_image (f.content long) (f.content new) (subst (λ (o : ℕ → Bool). IsImage (f.content long) o (f.content new)) closed (only_now (f.content new) was)))) holds)
     (λ now. now)
     (only.each (f.moment long) (f.content new) (omega arith) (counts only.later))
+
+module _ {F : Type 0} {f : Ghosts F} {bytes : List ℕ} {old mid : F} (read : IsRead f bytes old mid) where
+  kept_so_far : (c : Collection) → HoldsStore bytes c → HoldsStore (f.content mid) c
+  kept_so_far c holds = subst (λ (b : List ℕ). HoldsStore b c) (sym read.same) holds
+
+  -- it has as many units
+  pub long_enough : {units : ℕ} → IsDue units bytes (Ok None) → GrowsFile f bytes old mid units (Ok AsItWas)
+  long_enough {units} due = record {
+    any_moment = λ c holds. none_only f.moment f.images_since old mid _ read.none;
+    kept = kept_so_far;
+    done = λ c holds. subst (λ (b : List ℕ). Holds (store_bytes units b) c) (sym read.same) (subst (λ (u : ℕ). Holds (store_bytes u bytes) c) due.1 holds);
+    size = omega (arith, ap length read.same, due.1, store_fits (length bytes) (said_units bytes));
+    closed = read.closed;
+    answered = due;
+  }
+
+  -- no body was due
+  pub none_due : {units : ℕ} → (fault : GrowFault) → IsDue units bytes (Err fault) → GrowsFile f bytes old mid units (Err fault)
+  none_due {units} fault due = record {
+    any_moment = λ c holds. none_only f.moment f.images_since old mid _ read.none;
+    kept = kept_so_far;
+    done = λ c holds. tt;
+    size = tt;
+    closed = tt;
+    answered = due_refused fault units bytes due;
+  }
+
+  module _ (least : 64 ≤ units_of_disk bytes) where
+    as_long : (long : F) → OnlyNew f.moment f.images_since mid long (IsExtended bytes (f.is_open mid)) → (c : Collection) → HoldsStore bytes c → OnlyNew f.moment f.images_since old long (λ image. HoldsStore image c)
+    as_long long images c holds = none_then_only f.moment f.images_since old mid long _ read.none
+        (weaker f.moment f.images_since mid long _ _ (λ image is. extended_holds bytes image (f.is_open mid) c read.closed least is holds) images)
+
+    -- it was not made longer
+    pub not_longer : {units : ℕ} → (long : F) → OnlyNew f.moment f.images_since mid long (IsExtended bytes (f.is_open mid)) → take (length bytes) (f.content long) ≡ bytes → GrowsFile f bytes old long units (Err (Store Disk))
+    not_longer {units} long images start = record {
+      any_moment = as_long long images;
+      kept = λ c holds. starts_hold bytes (f.content long) start c least holds;
+      done = λ c holds. tt;
+      size = tt;
+      closed = tt;
+      answered = tt;
+    }
+
+    module _ {units : ℕ} {long new : F} {half : Half} {b : Body} {more : List ℕ} (longer : IsLonger f bytes units mid long half b more) (replaced : IsReplaced f more b.units units long new) where
+      held : (c : Collection) → HoldsStore bytes c → Holds (store_bytes b.units more) c
+      held = holds_longer bytes more longer.start b half longer.least longer.has
+
+      since_long : (c : Collection) → HoldsStore bytes c → OnlyNew f.moment f.images_since long new (λ image. HoldsStore image c)
+      since_long c holds = either_stores f.moment f.images_since long new more b.units units c longer.least (omega (arith, longer.fewer, units_of_sound (session_units bytes) b longer.has.sound)) longer.room (replaced.moments c (held c holds))
+
+      moments : (c : Collection) → HoldsStore bytes c → OnlyNew f.moment f.images_since old new (λ image. HoldsStore image c)
+      moments c holds = only_then f.moment f.images_since old long new _ (as_long long longer.images c holds) (since_long c holds)
+
+      kept : (c : Collection) → HoldsStore bytes c → HoldsStore (f.content new) c
+      kept c holds = file_left f long new c replaced.counts_now replaced.only_now longer.closed
+          (subst (λ (x : List ℕ). HoldsStore x c) (sym longer.content) (starts_hold bytes more longer.start c least holds)) (since_long c holds)
+
+      pub grew_file : ((c : Collection) → Holds (store_bytes b.units more) c → Holds (store_bytes units (f.content new)) c) → length (f.content new) ≡ length more → f.is_open new ≡ nowhere → GrowsFile f bytes old new units (Ok Grown)
+      grew_file done size closed = record {
+        any_moment = moments;
+        kept = kept;
+        done = λ c holds. done c (held c holds);
+        size = size ∙ longer.size;
+        closed = closed;
+        answered = (record { half = half; body = b; is = longer.has }, longer.fewer);
+      }
+
+      pub not_grown : (fault : ManifestFault) → IsSoundFault fault → (fault ≡ UsedUp → b.generation ≡ 2 ^ 64 - 1) → GrowsFile f bytes old new units (Err (Store fault))
+      not_grown fault sound last = record {
+        any_moment = moments;
+        kept = kept;
+        done = λ c holds. tt;
+        size = tt;
+        closed = tt;
+        answered = failed_as fault bytes units half b longer.has sound last;
+      }

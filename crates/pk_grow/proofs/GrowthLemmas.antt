@@ -4,7 +4,7 @@ use Rattle.std.proofs.Common.{◌≡◌, Result, Ok, Err, ◌⊎◌, inl, inr, �
 use Rattle.std.specs.List.{list_all}
 use Rattle.std.specs.Prelude.{IsErrAnd}
 use Rattle.std.proofs.lemmas.Bool.{and_parts}
-use Rattle.std.proofs.lemmas.List.{length-take-le}
+use Rattle.std.proofs.lemmas.List.{length-take-le, take_all}
 use Rattle.std.proofs.lemmas.List.Elements.{All-head, All-tail}
 use Rattle.pk_disk.specs.Disk.{IsImage, nowhere}
 use Rattle.pk_disk.specs.Since.{IsOnlyRead, OnlyNew}
@@ -22,7 +22,6 @@ use Rattle.pk_manifest.specs.declared.manifest.Part.{Part as Entry}
 use Rattle.pk_manifest.specs.Bodies.{bodies_end, body_of, generation_of, other}
 use Rattle.pk_manifest.specs.Current.{HasBody, HasBodyOf, units_of_disk}
 use Rattle.pk_manifest.specs.Firm.{IsFirm, half_places}
-use Rattle.pk_manifest.specs.Said.{said_units}
 use Rattle.pk_manifest.specs.Sound.{IsBody, is_dead, is_extent, is_part, is_table}
 use Rattle.pk_manifest.specs.Spelling.{Body, table_size, spelling as body_spelling}
 use Rattle.pk_manifest.proofs.Fields.{extent_within, generation_of_spelling, length_table, one_body_in_force, table_extent, table_long}
@@ -42,7 +41,7 @@ use Rattle.pk_state.proofs.CallerLemmas.{held_closed, held_now}
 use Rattle.pk_state.proofs.HoldsLemmas.{each_append, each_front, fitted_entry, has_holds, lie_inside, spelled_entries, table_kept, table_there, units_room, within_parts}
 use Rattle.pk_grow.specs.Growth.{GrowsAs, HoldsEither, HoldsStore, IsSoundFault, grown, session_units, store_bytes}
 use Rattle.pk_grow.specs.declared.fault.GrowFault.TheVariants.{Store}
-use Rattle.pk_grow.proofs.StoreLemmas.{current_first, few_units, first_current, first_part, fits_disk, fits_in, has_first, most, opened_holds, units_again, units_of_sound}
+use Rattle.pk_grow.proofs.StoreLemmas.{current_first, few_units, first_current, first_part, fits_in, has_first, has_longer, holds_longer, most, opened_holds, units_again, units_of_sound}
 use Rattle.pk_grow.proofs.WiderLemmas.{grown_sound}
 
 -- ---- what a sound body claims lies behind the bodies, and within its disk
@@ -188,26 +187,38 @@ module _ (bytes : List ℕ) (u n : ℕ) (b : Body) (s : Half) (least : bodies_en
       pub either_holds : (image : List ℕ) → (length image ≡ length bytes) × (Has image (body_spelling b) (all_claims kept) ⊎ Has image (body_spelling (grown n b)) (all_claims kept)) → HoldsEither u n c image
       either_holds image is = ⊎_elim (λ old. inl (old_holds image is.0 old)) (λ new. inr (new_holds image is.0 new)) is.1
 
--- ---- the body that is written
-
-pub rises : (b : Body) (n : ℕ) (written old : List ℕ) → written ≡ body_spelling (grown n b) → b.generation + 1 < 2 ^ 64 → generation_of old ≡ b.generation → generation_of old < generation_of written
-rises b n written old is more was =
-    let now : generation_of written ≡ b.generation + 1 = ap generation_of is ∙ generation_of_spelling (grown n b) more in
-    omega (arith, now, was)
-
 -- ---- what a replacement by the body of a growth says
 
-module _ {D : Type 0} (d : Ghosts D) (old now : D) (u n : ℕ) (b : Body) (s : Half) (written : List ℕ) (P : Claim → Type 0)
-    (least : bodies_end ≤ 512 * u) (longer : u ≤ n) (room : n ≤ units_of_disk (d.content old)) (has : HasBody (store_bytes u (d.content old)) (other s) b) (closed : d.is_open old ≡ nowhere)
-    (sound : IsBody u b) (more : b.generation + 1 < 2 ^ 64) (is : written ≡ body_spelling (grown n b)) (c : Collection) (holds : Holds (store_bytes u (d.content old)) c) where
+-- the body of a growth, and the store whose spare half it is written to
+pub record IsGrowth {D : Type 0} (d : Ghosts D) (old : D) (u n : ℕ) (b : Body) (s : Half) (written : List ℕ) : Type 0 where
+  pub least : bodies_end ≤ 512 * u
+  pub longer : u ≤ n
+  pub room : n ≤ units_of_disk (d.content old)
+  pub has : HasBody (store_bytes u (d.content old)) (other s) b
+  pub closed : d.is_open old ≡ nowhere
+  pub sound : IsBody u b
+  pub more : b.generation + 1 < 2 ^ 64
+  pub is : written ≡ body_spelling (grown n b)
+
+module _ {D : Type 0} {d : Ghosts D} {old : D} {u n : ℕ} {b : Body} {s : Half} {written : List ℕ} (g : IsGrowth d old u n b s written) where
+  pub spare_is_firm : IsFirm (d.content old) (d.is_open old) s
+  spare_is_firm = spare_firm (d.content old) u n b s g.least g.longer g.room g.has (d.is_open old) g.closed
+
+  pub generation_rises : generation_of (body_of (d.content old) (other s)) < generation_of written
+  generation_rises =
+      let now : generation_of written ≡ b.generation + 1 = ap generation_of g.is ∙ generation_of_spelling (grown n b) g.more in
+      let was = old_generation (d.content old) u n b s g.least g.longer g.room g.has g.sound.generation in
+      omega (arith, now, was)
+
+module _ {D : Type 0} {d : Ghosts D} {old : D} {u n : ℕ} {b : Body} {s : Half} {written : List ℕ} (g : IsGrowth d old u n b s written) (now : D) (P : Claim → Type 0) (c : Collection) (holds : Holds (store_bytes u (d.content old)) c) where
   abbrev claims : List Claim
-  claims = all_claims (kept (d.content old) u n b s least longer room has c holds sound)
+  claims = all_claims (kept (d.content old) u n b s g.least g.longer g.room g.has c holds g.sound)
 
   held : IsHeld (d.content old) (d.is_open old) s (body_spelling b) claims
-  held = grow_held (d.content old) u n b s least longer room has c holds sound (d.is_open old) closed
+  held = grow_held (d.content old) u n b s g.least g.longer g.room g.has c holds g.sound (d.is_open old) g.closed
 
   next : IsNext s (places []) P claims claims
-  next = grow_next (d.content old) u n b s least longer room has c holds sound P
+  next = grow_next (d.content old) u n b s g.least g.longer g.room g.has c holds g.sound P
 
   pub images_hold : ((old_body : List ℕ) (claims new_claims : List Claim) → IsHeld (d.content old) (d.is_open old) s old_body claims → IsNext s (places []) P claims new_claims
       → OnlyNew d.moment d.images_since old now (λ image. (length image ≡ length (d.content old)) × (Has image old_body claims ⊎ Has image written new_claims)))
@@ -215,24 +226,24 @@ module _ {D : Type 0} (d : Ghosts D) (old now : D) (u n : ℕ) (b : Body) (s : H
   images_hold replaced = weaker d.moment d.images_since old now _ _
       (λ image one. (
         one.0,
-        either_holds (d.content old) u n b s least longer room has c holds sound more image
-            (subst (λ (w : List ℕ). (length image ≡ length (d.content old)) × (Has image (body_spelling b) claims ⊎ Has image w claims)) is one),
+        either_holds (d.content old) u n b s g.least g.longer g.room g.has c holds g.sound g.more image
+            (subst (λ (w : List ℕ). (length image ≡ length (d.content old)) × (Has image (body_spelling b) claims ⊎ Has image w claims)) g.is one),
       ))
       (replaced (body_spelling b) claims claims held next)
 
   module _ (long : length (d.content now) ≡ length (d.content old)) (replaced : (old_body : List ℕ) (claims new_claims : List Claim) → IsHeld (d.content old) (d.is_open old) s old_body claims → IsNext s (places []) P claims new_claims
       → IsHeld (d.content now) (d.is_open now) (other s) written new_claims) where
     new_held : IsHeld (d.content now) (d.is_open now) (other s) (body_spelling (grown n b)) claims
-    new_held = subst (λ (w : List ℕ). IsHeld (d.content now) (d.is_open now) (other s) w claims) is (replaced (body_spelling b) claims claims held next)
+    new_held = subst (λ (w : List ℕ). IsHeld (d.content now) (d.is_open now) (other s) w claims) g.is (replaced (body_spelling b) claims claims held next)
 
     pub now_holds : Holds (store_bytes n (d.content now)) c
-    now_holds = new_holds (d.content old) u n b s least longer room has c holds sound more (d.content now) long
+    now_holds = new_holds (d.content old) u n b s g.least g.longer g.room g.has c holds g.sound g.more (d.content now) long
         (held_now (d.content now) (d.is_open now) (other s) (body_spelling (grown n b)) claims new_held)
 
     pub now_has : HasBody (store_bytes n (d.content now)) s (grown n b)
     now_has =
-        let new_is : IsBody n (grown n b) = new_sound (d.content old) u n b s least longer room has c holds sound more in
-        has_first (d.content now) n s (grown n b) (omega (arith, least, longer)) (subst (λ (m : ℕ). n ≤ units_in m) (sym long) room)
+        let new_is : IsBody n (grown n b) = new_sound (d.content old) u n b s g.least g.longer g.room g.has c holds g.sound g.more in
+        has_first (d.content now) n s (grown n b) (omega (arith, g.least, g.longer)) (subst (λ (m : ℕ). n ≤ units_in m) (sym long) g.room)
         (record {
           in_force = new_held.firm.in_force ∙ ap (λ (h : Half). Some h) (other_other s);
           spelled = ap (body_of (d.content now)) (sym (other_other s)) ∙ new_held.has_body;
@@ -254,36 +265,29 @@ either_stores moment images_since old now bytes u n c least longer room only =
     (λ new. opened_holds image n c (omega (arith, least, longer)) (omega (arith, room, few)) (omega (arith, room, size, one.0)) new)
     one.1) only
 
-module _ {D : Type 0} (d : Ghosts D) (old mid : D) (b : Body) (half : Half) (read : IsOnlyRead d.content d.is_open d.moment d.images_since old mid)
-    (least : 64 ≤ b.units) (has : HasBodyOf (session_units (d.content old)) (d.content old) half b) where
-  pub same_units : b.units ≡ session_units (d.content old)
-  same_units = units_of_sound (session_units (d.content old)) b has.sound
+-- the body in force was read, of fewer units than its store is to have
+pub record IsShorter {D : Type 0} (d : Ghosts D) (units : ℕ) (old mid : D) (half : Half) (b : Body) : Type 0 where
+  pub has : HasBodyOf (session_units (d.content old)) (d.content old) half b
+  pub fewer : session_units (d.content old) < units
+  pub least : 64 ≤ b.units
+  pub read : IsOnlyRead d.content d.is_open d.moment d.images_since old mid
 
-  has_room : b.units ≤ units_of_disk (d.content old)
-  has_room = subst (λ (m : ℕ). m ≤ units_of_disk (d.content old)) (sym same_units) (fits_disk (units_of_disk (d.content old)) (said_units (d.content old)))
+module _ {D : Type 0} {d : Ghosts D} {units : ℕ} {old mid : D} {half : Half} {b : Body} (is : IsShorter d units old mid half b) where
+  start : take (length (d.content old)) (d.content mid) ≡ d.content old
+  start = ap (take (length (d.content old))) is.read.bytes ∙ take_all (length (d.content old)) (d.content old) (omega arith)
 
   pub read_has : (s : Half) → s ≡ other half → HasBody (store_bytes b.units (d.content mid)) (other s) b
-  read_has s is =
-      subst (λ (bytes : List ℕ). HasBody (store_bytes b.units bytes) (other s) b) (sym read.bytes)
-      (subst (λ (h : Half). HasBody (store_bytes b.units (d.content old)) h b) (sym (ap other is ∙ other_other half))
-      (has_first (d.content old) b.units half b (omega (arith, least)) has_room (subst (λ (m : ℕ). HasBodyOf m (d.content old) half b) (sym same_units) has)))
+  read_has = has_longer (d.content old) (d.content mid) start b half is.least is.has
 
-  module _ (c : Collection) (holds : HoldsStore (d.content old) c) where
-    pub read_holds : Holds (store_bytes b.units (d.content mid)) c
-    read_holds = subst (λ (bytes : List ℕ). Holds (store_bytes b.units bytes) c) (sym read.bytes)
-        (subst (λ (m : ℕ). Holds (store_bytes m (d.content old)) c) (sym same_units) holds)
+  pub read_holds : (c : Collection) → HoldsStore (d.content old) c → Holds (store_bytes b.units (d.content mid)) c
+  read_holds = holds_longer (d.content old) (d.content mid) start b half is.least is.has
 
-    pub grew : (now : D) (n : ℕ) → b.units < n → n ≤ units_of_disk (d.content old)
-        → OnlyNew d.moment d.images_since mid now (λ image. (length image ≡ length (d.content mid)) × HoldsEither b.units n c image)
-        → OnlyNew d.moment d.images_since old now (λ image. HoldsStore image c)
-    grew now n fewer room only = read_then_only d.content d.is_open d.moment d.images_since old mid now _ read
-        (either_stores d.moment d.images_since mid now (d.content mid) b.units n c least (omega (arith, fewer)) (subst (λ (bytes : List ℕ). n ≤ units_of_disk bytes) (sym read.bytes) room) only)
-
--- a store that was as long holds what it held
-pub as_it_was : {D : Type 0} (d : Ghosts D) (old mid : D) (n : ℕ) (c : Collection) → IsOnlyRead d.content d.is_open d.moment d.images_since old mid → session_units (d.content old) ≡ n
-    → HoldsStore (d.content old) c → Holds (store_bytes n (d.content mid)) c
-as_it_was d old mid n c read same holds = subst (λ (bytes : List ℕ). Holds (store_bytes n bytes) c) (sym read.bytes)
-    (subst (λ (m : ℕ). Holds (store_bytes m (d.content old)) c) same holds)
+  pub grew : (now : D) (c : Collection) → units ≤ units_of_disk (d.content old) → HoldsStore (d.content old) c
+      → (Holds (store_bytes b.units (d.content mid)) c → OnlyNew d.moment d.images_since mid now (λ image. (length image ≡ length (d.content mid)) × HoldsEither b.units units c image))
+      → OnlyNew d.moment d.images_since old now (λ image. HoldsStore image c)
+  grew now c room holds only = read_then_only d.content d.is_open d.moment d.images_since old mid now _ is.read
+      (either_stores d.moment d.images_since mid now (d.content mid) b.units units c is.least (omega (arith, is.fewer, units_of_sound (session_units (d.content old)) b is.has.sound))
+      (subst (λ (bytes : List ℕ). units ≤ units_of_disk bytes) (sym is.read.bytes) room) (only (read_holds c holds)))
 
 -- ---- what a refusal tells
 

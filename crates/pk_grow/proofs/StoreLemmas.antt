@@ -3,7 +3,7 @@ use Rattle.std.proofs.Common.{◌≡◌, Result, Ok, Err, IfErr, IfOk, ◌⊎◌
 use Rattle.std.specs.Prelude.{if◌then◌else◌}
 use Rattle.std.proofs.lemmas.Bool.{and_from, and_parts, leb-true, le-leb}
 use Rattle.std.proofs.lemmas.Bool.Decides.{nat_tests}
-use Rattle.std.proofs.lemmas.List.{drop-take, length-take-le, get_or-take, take-take}
+use Rattle.std.proofs.lemmas.List.{drop-take, length-take, length-take-le, get_or-take, take-take}
 use Rattle.pk_disk.specs.Units.{start_of, units_in}
 use Rattle.pk_disk.specs.declared.units.Extent.{Extent}
 use Rattle.pk_manifest.specs.declared.fault.ManifestFault.{ManifestFault}
@@ -11,12 +11,13 @@ use Rattle.pk_manifest.specs.declared.fault.ManifestFault.TheVariants.{NotAStore
 use Rattle.pk_manifest.specs.declared.half.Half.{Half}
 use Rattle.pk_manifest.specs.declared.half.Half.TheVariants.{A, B}
 use Rattle.pk_manifest.specs.declared.manifest.Manifest.{Manifest}
-use Rattle.pk_manifest.specs.Bodies.{IsCurrent, bodies_end, body_of, body_place, gate_place, generation_of, half_in_force, half_of, has_open_gate}
+use Rattle.pk_manifest.specs.Bodies.{IsCurrent, bodies_end, body_of, body_place, gate_place, generation_of, half_in_force, half_of, has_open_gate, other}
 use Rattle.pk_manifest.specs.Current.{AnswersOf, HasBody, HasBodyOf, units_of_disk}
 use Rattle.pk_manifest.specs.Said.{said_by, said_units, store_units, units_said_in}
 use Rattle.pk_manifest.specs.Sound.{IsBody, is_extent, is_table}
 use Rattle.pk_manifest.specs.Spelling.{Body, table_size}
 use Rattle.pk_manifest.proofs.Fields.{no_table, table_extent, zero_or_not}
+use Rattle.pk_manifest.proofs.Firm.{other_other}
 use Rattle.pk_manifest.proofs.Said.{said_sound}
 use Rattle.pk_manifest.proofs.Sound.{says_sound}
 use Rattle.pk_model.specs.Collection.{Collection}
@@ -190,3 +191,40 @@ pub undamaged_read : (bytes now : List ℕ) (said_now : ℕ) (c : Collection) (r
 undamaged_read bytes now said_now c r same units least holds answer =
     undamaged bytes (session_units bytes) c r (least_store (units_of_disk bytes) (said_units bytes) least) (fits_disk (units_of_disk bytes) (said_units bytes)) holds
     (subst (λ (n : ℕ). AnswersOf n bytes r) units (subst (λ (b : List ℕ). AnswersOf said_now b r) same answer))
+
+-- ---- a disk that begins with these bytes
+
+module _ (bytes more : List ℕ) (start : take (length bytes) more ≡ bytes) where
+  pub no_shorter : length bytes ≤ length more
+  no_shorter = omega (arith, ap length start, length-take (length bytes) more)
+
+  -- what lies in the first bytes
+  pub first_same : (size : ℕ) → size ≤ length bytes → take size bytes ≡ take size more
+  first_same size le = ap (take size) (sym start) ∙ take-take size (length bytes) more le
+
+  pub starts_hold : (c : Collection) → 64 ≤ units_of_disk bytes → HoldsStore bytes c → HoldsStore more c
+  starts_hold c least holds =
+      let u = session_units bytes in
+      let fits : 512 * u ≤ length bytes = store_fits (length bytes) (said_units bytes) in
+      opened_holds more u c (least_store (units_of_disk bytes) (said_units bytes) least) (most_store (length bytes) (said_units bytes)) (omega (arith, fits, no_shorter))
+      (subst (λ (b : List ℕ). Holds b c) (first_same (512 * u) fits) holds)
+
+-- the body in force of a store is that of the same units of what begins with it
+module _ (bytes more : List ℕ) (start : take (length bytes) more ≡ bytes) (b : Body) (half : Half) (least : 64 ≤ b.units) (has : HasBodyOf (session_units bytes) bytes half b) where
+  same_units : b.units ≡ session_units bytes
+  same_units = units_of_sound (session_units bytes) b has.sound
+
+  has_room : b.units ≤ units_of_disk bytes
+  has_room = subst (λ (m : ℕ). m ≤ units_of_disk bytes) (sym same_units) (fits_disk (units_of_disk bytes) (said_units bytes))
+
+  first_units : store_bytes b.units bytes ≡ store_bytes b.units more
+  first_units = first_same bytes more start (512 * b.units) (omega (arith, has_room, units_room (length bytes)))
+
+  pub has_longer : (s : Half) → s ≡ other half → HasBody (store_bytes b.units more) (other s) b
+  has_longer s is =
+      subst (λ (first : List ℕ). HasBody first (other s) b) first_units
+      (subst (λ (h : Half). HasBody (store_bytes b.units bytes) h b) (sym (ap other is ∙ other_other half))
+      (has_first bytes b.units half b (omega (arith, least)) has_room (subst (λ (m : ℕ). HasBodyOf m bytes half b) (sym same_units) has)))
+
+  pub holds_longer : (c : Collection) → HoldsStore bytes c → Holds (store_bytes b.units more) c
+  holds_longer c holds = subst (λ (first : List ℕ). Holds first c) first_units (subst (λ (m : ℕ). Holds (store_bytes m bytes) c) (sym same_units) holds)

@@ -1,4 +1,4 @@
 -- The lemma pages.
 pub mod Front
-pub mod Joined
 pub mod LengthLemmas
+pub mod Steps

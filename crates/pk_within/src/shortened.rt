@@ -71,9 +71,12 @@ impl<D: Disk> Disk for Shortened<D> {
         self.disk.sync()
     }
 
-    ghost counts_now = { λ d t image honest le now. first_now d.len (D.content d.disk) (D.is_open d.disk)
-        (D.images_since d.disk t) image d.fits (λ whole is. D.counts_now d.disk t whole honest le is) now };
+    ghost counts_now = { λ d t image honest le now.
+        first_now d.len (D.content d.disk) (D.is_open d.disk) (D.images_since d.disk t) image
+        d.fits (λ whole is. D.counts_now d.disk t whole honest le is) now };
 
-    ghost only_now = { λ d image honest since. now_first d.len (D.content d.disk) (D.is_open d.disk)
-        (D.images_since d.disk (D.moment d.disk)) image (λ whole is. D.only_now d.disk whole honest is) since };
+    ghost only_now = { λ d image honest since.
+        now_first d.len (D.content d.disk) (D.is_open d.disk)
+        (D.images_since d.disk (D.moment d.disk)) image
+        (λ whole is. D.only_now d.disk whole honest is) since };
 }

@@ -1,7 +1,7 @@
 -- The body that was read says the units of the store.
-use Rattle.std.proofs.Common.{◌≡◌, IfErr, arith, subst, sym}
+use Rattle.std.proofs.Common.{IfErr, arith, subst, sym}
 use Rattle.pk_manifest.specs.Spelling.{view}
-use Rattle.pk_grow.specs.Growth.{IsSoundGrowFault, session_units}
+use Rattle.pk_grow.specs.Growth.{IsSoundGrowFault}
 use Rattle.pk_grow.proofs.GrowthLemmas.{of_err}
 use Rattle.pk_grow.proofs.StoreLemmas.{units_of_sound}
 use Rattle.pk_grow.proofs.store.body_due.Goals as goal
@@ -14,17 +14,14 @@ returns-in_err-found-clause-fault g c = λ honest col holds.
 pub returns-then-units-found-clause-answer : goal.returns-then-units-found-clause-answer
 returns-then-units-found-clause-answer g c = λ honest.
     let has = c.in_ok-found.ensures.answer honest in
-    let same : c.in_ok-found.found.0.units ≡ session_units (g.D.Disk.content c.args.disk.now) = units_of_sound _ _ has.sound in
-    (record { half = c.in_ok-found.found.1; body = view c.in_ok-found.found.0; is = has }, omega (arith, same, c.if-units-found.true))
+    (record { half = c.in_ok-found.found.1; body = view c.in_ok-found.found.0; is = has }, omega (arith, units_of_sound _ _ has.sound, c.if-units-found.true))
 
 pub returns-then-units-found-2-clause-answer : goal.returns-then-units-found-2-clause-answer
 returns-then-units-found-2-clause-answer g c = λ honest.
     let has = c.in_ok-found.ensures.answer honest in
-    let same : c.in_ok-found.found.0.units ≡ session_units (g.D.Disk.content c.args.disk.now) = units_of_sound _ _ has.sound in
-    (record { half = c.in_ok-found.found.1; body = view c.in_ok-found.found.0; is = has }, omega (arith, same, c.if-units-found-2.true))
+    (record { half = c.in_ok-found.found.1; body = view c.in_ok-found.found.0; is = has }, omega (arith, units_of_sound _ _ has.sound, c.if-units-found-2.true))
 
 pub returns-clause-answer : goal.returns-clause-answer
 returns-clause-answer g c = λ honest.
     let has = c.in_ok-found.ensures.answer honest in
-    let same : c.in_ok-found.found.0.units ≡ session_units (g.D.Disk.content c.args.disk.now) = units_of_sound _ _ has.sound in
-    (has, omega (arith, same, c.if-units-found.false, c.if-units-found-2.false))
+    (has, omega (arith, units_of_sound _ _ has.sound, c.if-units-found.false, c.if-units-found-2.false))
