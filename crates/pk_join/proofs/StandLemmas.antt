@@ -32,7 +32,7 @@ use Rattle.pk_join.proofs.NoteLemmas.{noted_have}
 use Rattle.pk_join.proofs.WalkLemmas.{found_within}
 use Rattle.pk_join.proofs.WordLemmas.{same_word}
 
-found_word : (w : List ℕ) (o : Option (List ℕ)) → is_word w o ≡ true → o ≡ Some w
+pub found_word : (w : List ℕ) (o : Option (List ℕ)) → is_word w o ≡ true → o ≡ Some w
 found_word w None is = absurd (let k : false ≡ true = is in cc)
 found_word w (Some v) is = ap (λ (u : List ℕ). Some u) ((bytes_eq-Decides v w).0 is)
 

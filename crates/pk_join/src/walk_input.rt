@@ -1,7 +1,7 @@
 //! An input of a walk: a segment's words with their lists, and how far the walk has come in them.
 
 ghost use Rattle.std.specs.Prelude.{◌≡◌, ◌≤◌, ◌<◌, ◌+◌, ◌++◌, ℕ, List, Some, length, slice_get};
-ghost use Rattle.std.specs.Prelude.{IfOk, MatchResult};
+ghost use Rattle.std.specs.Prelude.{IfOk, MatchResult, OnOk};
 ghost use Rattle.std.specs.Option.{option_map};
 ghost use Rattle.pk_disk.specs.Units.{extent_bytes, start_of};
 ghost use Rattle.pk_join.specs.Ahead.{HoldsNone, HoldsOf, ahead_room, bytes_ahead};
@@ -43,6 +43,7 @@ pub struct Input {
 }
 
 impl Input {
+    ghost use Rattle.pk_join.specs.Inside.{HeadLiesWithin};
     ghost use Rattle.pk_join.specs.WalkInput.{StandsAs, passed_of};
 
     /// One of so many inputs, before its first word. Nothing is read of it yet, and where its lists
@@ -131,6 +132,8 @@ impl Input {
             → MayJoin list.old.joined (list_with w (live_of s)) → MatchResult result
             (λ _. joined_in list.new.joined
             ≡ joined_in list.old.joined ++ list_with w (live_of s)) (λ e. e ≡ SourceFault.Disk) }
+        // Whatever the bytes are, a list that goes past the extent is not joined.
+        ensures inside { OnOk result (HeadLiesWithin self.old) }
         ensures holds { D.honest
             → HoldsOf (extent_bytes (D.content disk.old) self.old.extent) self.old.ahead
             → HoldsOf (extent_bytes (D.content disk.new) self.new.extent) self.new.ahead }

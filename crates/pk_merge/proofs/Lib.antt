@@ -4,6 +4,7 @@ pub mod FaultLemmas
 pub mod GatherLemmas
 pub mod GivenLemmas
 pub mod InputLemmas
+pub mod InsideLemmas
 pub mod KeepLemmas
 pub mod LiveLemmas
 pub mod OpenLemmas

@@ -1,6 +1,7 @@
 //! The index of a merge, planned by going through the words of all inputs.
 
 ghost use Rattle.std.specs.Prelude.{◌≡◌, [], List, length, IfOk, OnOk};
+ghost use Rattle.pk_join.specs.Inside.{WalkedWithin};
 ghost use Rattle.pk_join.specs.Walk.{HasCome, IsSameWalk, WalksWithin, words_to_come};
 ghost use Rattle.pk_join.specs.declared.input.MergeInput.{MergeInput};
 ghost use Rattle.pk_merge.specs.Merging.{CountsMerge};
@@ -33,6 +34,8 @@ pub(crate) fn plan_words<D: Disk>(
     ensures same { IsSameWalk walk.old walk.new }
     // Whatever the bytes are, each word of each input was passed.
     ensures ended { OnOk result (words_to_come walk.new ≡ 0) }
+    // And no list that goes past its segment.
+    ensures inside { OnOk result (WalkedWithin walk.old → WalkedWithin walk.new) }
     ensures left { ReadsDisk D.Disk CountsMerge result disk.old disk.new }
 {
     let mut index = IndexWriter::new(alloc, MOST_KEPT_LISTS);

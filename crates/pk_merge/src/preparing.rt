@@ -1,8 +1,9 @@
 //! A merge prepared: everything is known and all memory is taken before the first write.
 
-ghost use Rattle.std.specs.Prelude.{◌≡◌, ◌⊎◌, ◌<◌, ℕ, List, length, All, IfErr, IfOk};
+ghost use Rattle.std.specs.Prelude.{◌≡◌, ◌⊎◌, ◌<◌, ℕ, List, length, All, IfErr, IfOk, OnOk};
 ghost use Rattle.std.specs.List.Sorted.{IsStrictlyIncreasing};
 ghost use Rattle.pk_join.specs.Inputs.{HasKind, LiesInside, SpellsInputs};
+ghost use Rattle.pk_join.specs.Inside.{AllWithin};
 ghost use Rattle.pk_join.specs.Walk.{walk_lists, walk_room};
 ghost use Rattle.pk_join.specs.WalkInput.{HaveExtentsOf, IsBefore, IsWithin, lists_of};
 ghost use Rattle.pk_join.specs.Walking.{AreListed, CanHold};
@@ -92,6 +93,8 @@ fn prepare_left<D: Disk>(
     ensures disk_bytes { IfOk result (λ p. p.disk_bytes ≡ left.disk_bytes) }
     ensures inputs { (inputs : List MergeInput) → HaveExtentsOf inputs read.items
         → IfOk result (λ p. AreOfInputs inputs p.lists) }
+    // Whatever the bytes are, each list that an input names lies within its segment.
+    ensures inside { OnOk result (All AllWithin read.items) }
     ensures left { ReadsDisk D.Disk CountsMerge result disk.old disk.new }
 {
     let mut walk = Walk::new(alloc, read, left.documents.len())?;

@@ -2,6 +2,7 @@ pub mod BeginningLemmas
 pub mod FoundLemmas
 pub mod OperationLemmas
 pub mod OrderLemmas
+pub mod RowLemmas
 pub mod TakingLemmas
 pub mod TextLemmas
 pub mod WordLemmas

@@ -4,12 +4,15 @@ use Rattle.std.specs.Global.{Box, Vec}
 use Rattle.pk_plan.specs.declared.plans.Plan.{Plan}
 use Rattle.pk_plan.specs.declared.plans.Plan.TheOpen.{Plan-F}
 use Rattle.pk_plan.specs.declared.plans.Plan.TheFolds.{fold-roll-Plan}
-use Rattle.pk_plan.specs.declared.plans.Plan.TheVariants.{Term, Prefix, Unite, Intersect, Exclude, Phrase, rolls-Term, rolls-Prefix, rolls-Unite, rolls-Intersect, rolls-Exclude, rolls-Phrase}
+use Rattle.pk_plan.specs.declared.plans.Plan.TheVariants.{All, Term, Prefix, Unite, Intersect, Exclude, Phrase, rolls-All, rolls-Term, rolls-Prefix, rolls-Unite, rolls-Intersect, rolls-Exclude, rolls-Phrase}
 use Rattle.pk_plan.specs.Order.{Standing, is_ordered, standing, standing_step}
-use Rattle.pk_plan.specs.Plans.{Operation, Both, Without, beginning_at, both_all, either_all, operation_of, operation_step, row_at, word_at}
+use Rattle.pk_plan.specs.Plans.{Operation, Both, Everything, Without, beginning_at, both_all, either_all, operation_of, operation_step, row_at, word_at}
 
 pub of_term : (asked : List (List ℕ)) (place : ℕ) → operation_of asked (Term place) ≡ word_at asked place
 of_term asked place = ap (operation_of asked) (sym (rolls-Term place)) ∙ fold-roll-Plan Operation (operation_step asked) (Plan-F.Term place)
+
+pub of_all : (asked : List (List ℕ)) → operation_of asked All ≡ Everything
+of_all asked = ap (operation_of asked) (sym rolls-All) ∙ fold-roll-Plan Operation (operation_step asked) Plan-F.All
 
 pub of_unite : (asked : List (List ℕ)) (parts : Vec Plan) → operation_of asked (Unite parts) ≡ either_all (map (operation_of asked) parts.items)
 of_unite asked parts = ap (operation_of asked) (sym (rolls-Unite parts)) ∙ fold-roll-Plan Operation (operation_step asked) (Plan-F.Unite parts)

@@ -1,8 +1,9 @@
 //! The operands of a chain of `AND`, and the plans of operands.
 
-ghost use Rattle.std.specs.Prelude.{◌≡◌, ◌&&◌, ◌+◌, ◌<◌, ◌≤◌, ℕ, List, length, not, slice_index};
+ghost use Rattle.std.specs.Prelude.{◌≡◌, ◌&&◌, ◌+◌, ◌<◌, ◌≤◌, ℕ, List, length, map, not, slice_index, string_bytes};
 ghost use Rattle.std.specs.Prelude.{◌||◌, ◌^◌, IfOk, OnOk, false, true};
 ghost use Rattle.std.specs.List.{list_any};
+ghost use Rattle.std.specs.Simd.Lanes.{Each1};
 ghost use Rattle.pk_plan.specs.Operands.{
   IsInOrder,
   all_take,
@@ -12,6 +13,17 @@ ghost use Rattle.pk_plan.specs.Operands.{
   phrases_take,
 };
 ghost use Rattle.pk_plan.specs.Order.{all_ordered, all_parts, frequency_of, in_order, is_ordered, standing};
+ghost use Rattle.pk_plan.specs.Rows.{
+  AllRest,
+  HasEach,
+  IsNarrowed,
+  IsPutOnce,
+  OperandsRest,
+  RestsOnWords,
+  StandAt,
+  has_each,
+  row_of,
+};
 ghost use Rattle.pk_plan.specs.Texts.{reads_texts};
 ghost use Rattle.pk_plan.specs.Plans.{Without, operation_of, row_at, takes, word_at};
 
@@ -42,6 +54,7 @@ impl Operands {
         ensures all { (asked words : List (List ℕ)) → operands_take asked words result ≡ true }
         ensures order { (table : _) (from : ℕ) → IsInOrder table from result }
         ensures texts { operands_read result ≡ false }
+        ensures rows { (asked : List (List ℕ)) → OperandsRest asked result }
     {
         Operands {
             places: SmallVec::new(alloc),
@@ -60,6 +73,10 @@ impl Operands {
             ≡ (takes (word_at asked place) words && operands_take asked words self.old)) }
         ensures order { OnOk result (IsInOrder table.now place self.new) }
         ensures texts { OnOk result (operands_read self.new ≡ operands_read self.old) }
+        ensures narrowed { OnOk result (IsNarrowed self.old self.new) }
+        ensures held { OnOk result ((asked words : List (List ℕ))
+            → all_take asked words self.new.places.items self.new.parts.items ≡ true
+            → takes (word_at asked place) words ≡ true) }
     {
         let before = rank_of(table, self.places.as_slice(), frequency_at(table, place));
         self.places.insert(before, place)?;
@@ -81,6 +98,9 @@ impl Operands {
             ≡ (takes (row_at asked first (length row.now)) words
             && operands_take asked words self.old)) }
         ensures order { OnOk result (IsInOrder table.now first self.new) }
+        ensures rows { OnOk result ((asked : List (List ℕ))
+            → StandAt asked first (map string_bytes row.now) → OperandsRest asked self.old
+            → OperandsRest asked self.new) }
     {
         self.put_words(table, first, row)?;
         self.phrases.push(PhrasePlaces {
@@ -99,6 +119,10 @@ impl Operands {
             → takes (row_at asked first (length row.now)) words ≡ true
             → operands_take asked words self.new ≡ operands_take asked words self.old) }
         ensures order { OnOk result (IsInOrder table.now first self.new) }
+        ensures narrowed { OnOk result (IsNarrowed self.old self.new) }
+        ensures held { OnOk result ((asked : List (List ℕ))
+            → StandAt asked first (map string_bytes row.now)
+            → HasEach asked self.new (map string_bytes row.now)) }
     {
         let mut left = row.len();
         'words: while left > 0 {
@@ -123,6 +147,10 @@ impl Operands {
             → takes (row_at asked first (length row.now)) words ≡ true
             → operands_take asked words self.new ≡ operands_take asked words self.old) }
         ensures order { OnOk result (IsInOrder table.now (first + i) self.new) }
+        ensures narrowed { OnOk result (IsNarrowed self.old self.new) }
+        ensures held { OnOk result ((asked : List (List ℕ))
+            → StandAt asked first (map string_bytes row.now)
+            → IsPutOnce asked self.new (map string_bytes row.now) i) }
     {
         if row[..i].contains(&row[i]) {
             return Ok(());
@@ -141,6 +169,9 @@ impl Operands {
             → IsInOrder table from self.new) }
         ensures texts { OnOk result (reads_texts part ≡ false → operands_read self.old ≡ false
             → operands_read self.new ≡ false) }
+        ensures rows { OnOk result ((asked : List (List ℕ))
+            → RestsOnWords (operation_of asked part) → OperandsRest asked self.old
+            → OperandsRest asked self.new) }
     {
         self.parts.insert(0, part)?;
         Ok(())
@@ -155,6 +186,9 @@ impl Operands {
             → IsInOrder table from self.old → IsInOrder table from self.new) }
         ensures texts { OnOk result (reads_texts part ≡ false → operands_read self.old ≡ false
             → operands_read self.new ≡ false) }
+        ensures rows { OnOk result ((asked : List (List ℕ))
+            → RestsOnWords (operation_of asked part) → OperandsRest asked self.old
+            → OperandsRest asked self.new) }
     {
         self.excluded.insert(0, part)?;
         Ok(())
@@ -168,6 +202,8 @@ impl Operands {
             → is_ordered table plan ≡ true) }
         ensures texts { IfOk result (λ plan. operands_read self ≡ false
             → reads_texts plan ≡ false) }
+        ensures rows { IfOk result (λ plan. (asked : List (List ℕ)) → OperandsRest asked self
+            → RestsOnWords (operation_of asked plan)) }
     {
         let Operands {
             places,
@@ -189,6 +225,8 @@ fn intersected(mut places: SmallVec<usize, 4>, mut parts: Vec<Plan>) -> Plan
     ensures order { (table : _) → in_order table places.items ≡ true
         → all_parts table parts.items ≡ true → is_ordered table result ≡ true }
     ensures texts { list_any reads_texts parts.items ≡ false → reads_texts result ≡ false }
+    ensures rows { (asked : List (List ℕ)) → AllRest asked parts.items
+        → RestsOnWords (operation_of asked result) }
 {
     if parts.is_empty() && places.len() < 2 {
         return match places.pop() {
@@ -213,6 +251,8 @@ pub(crate) fn united(mut plans: Vec<Plan>) -> Plan
         → is_ordered table result ≡ true }
     ensures union { (table : _) → 1 < length plans.items → (standing table result).union ≡ true }
     ensures texts { list_any reads_texts plans.items ≡ false → reads_texts result ≡ false }
+    ensures rows { (asked : List (List ℕ)) → AllRest asked plans.items
+        → RestsOnWords (operation_of asked result) }
 {
     if plans.len() == 1 {
         return match plans.pop() {
@@ -232,6 +272,9 @@ fn remaining(alloc: Global, all: Plan, excluded: Vec<Plan>) -> Result<Plan, Allo
         → all_ordered table excluded.items ≡ true → is_ordered table plan ≡ true) }
     ensures texts { IfOk result (λ plan. reads_texts all ≡ false
         → list_any reads_texts excluded.items ≡ false → reads_texts plan ≡ false) }
+    ensures rows { IfOk result (λ plan. (asked : List (List ℕ))
+        → RestsOnWords (operation_of asked all) → AllRest asked excluded.items
+        → RestsOnWords (operation_of asked plan)) }
 {
     if excluded.is_empty() {
         return Ok(all);
@@ -249,6 +292,11 @@ fn with_phrases(alloc: Global, all: Plan, phrases: &[PhrasePlaces]) -> Result<Pl
         ≡ is_ordered table all) }
     ensures texts { IfOk result (λ plan. length phrases.now ≡ 0
         → reads_texts plan ≡ reads_texts all) }
+    ensures rows { IfOk result (λ plan. (asked : List (List ℕ))
+        → RestsOnWords (operation_of asked all)
+        → Each1 (λ p. (words : List (List ℕ)) → takes (operation_of asked all) words ≡ true
+        → has_each (row_of asked p) words ≡ true) phrases.now
+        → RestsOnWords (operation_of asked plan)) }
 {
     let mut plan = all;
     'phrases: for i in 0..phrases.len() {

@@ -4,7 +4,8 @@ ghost use Rattle.std.specs.Prelude.{◌≡◌, ◌≤◌, length, IfOk, OnOk, fa
 ghost use Rattle.pk_model.specs.Tree.{tree_of};
 ghost use Rattle.pk_plan.specs.Operands.{IsGathered, IsInOrder, IsJoined, IsPassed, IsPlanOf};
 ghost use Rattle.pk_plan.specs.Order.{is_ordered};
-ghost use Rattle.pk_plan.specs.Plans.{IsPlanFor};
+ghost use Rattle.pk_plan.specs.Plans.{IsPlanFor, operation_of};
+ghost use Rattle.pk_plan.specs.Rows.{GathersRest, JoinsRest, RestsFrom, RestsOnWords};
 ghost use Rattle.pk_plan.specs.Texts.{has_phrase, reads_texts};
 ghost use Rattle.pk_plan.specs.Words.{leaves, texts};
 
@@ -29,6 +30,9 @@ pub fn plan<'a>(
     // Texts are read for phrases alone.
     ensures texts { IfOk result (λ planned. has_phrase (tree_of query.now) ≡ false
         → reads_texts planned.plan ≡ false) }
+    // A text is read only of a document that holds each word of the phrase.
+    ensures rows { IfOk result (λ planned.
+        RestsOnWords (operation_of (texts planned.words.items) planned.plan)) }
 {
     let words = words_of(alloc, query)?;
     let mut place = words.len();
@@ -48,6 +52,7 @@ fn plan_of(
 ) -> Result<Plan, AllocError>
     requires { length (leaves (tree_of query.now)) ≤ place.old }
     ensures plan { IfOk result (IsPlanOf table.now (tree_of query.now) place.new) }
+    ensures rows { IfOk result (RestsFrom (tree_of query.now) place.new) }
     ensures passed { OnOk result (IsPassed (tree_of query.now) place.old place.new) }
 {
     if let Query::Term(_) = query {
@@ -71,6 +76,8 @@ fn join(
     requires { length (leaves (tree_of query.now)) ≤ place.old }
     ensures plans { OnOk result
         (IsJoined table.now (tree_of query.now) place.new plans.old.items plans.new.items) }
+    ensures rows { OnOk result
+        (JoinsRest (tree_of query.now) place.new plans.old.items plans.new.items) }
     ensures passed { OnOk result (IsPassed (tree_of query.now) place.old place.new) }
 {
     let mut rest = query;
@@ -93,6 +100,7 @@ fn conjunction(
 ) -> Result<Plan, AllocError>
     requires { length (leaves (tree_of query.now)) ≤ place.old }
     ensures plan { IfOk result (IsPlanOf table.now (tree_of query.now) place.new) }
+    ensures rows { IfOk result (RestsFrom (tree_of query.now) place.new) }
     ensures passed { OnOk result (IsPassed (tree_of query.now) place.old place.new) }
 {
     let mut operands = Operands::new(alloc);
@@ -114,6 +122,8 @@ fn gather(
     requires order { IsInOrder table.now place.old operands.old }
     ensures operands { OnOk result
         (IsGathered table.now (tree_of query.now) place.old place.new operands.old operands.new) }
+    ensures rows { OnOk result
+        (GathersRest (tree_of query.now) place.new operands.old operands.new) }
     ensures passed { OnOk result (IsPassed (tree_of query.now) place.old place.new) }
 {
     let mut rest = query;
@@ -138,6 +148,8 @@ fn put(
     requires order { IsInOrder table.now place.old operands.old }
     ensures operands { OnOk result
         (IsGathered table.now (tree_of query.now) place.old place.new operands.old operands.new) }
+    ensures rows { OnOk result
+        (GathersRest (tree_of query.now) place.new operands.old operands.new) }
     ensures passed { OnOk result (IsPassed (tree_of query.now) place.old place.new) }
 {
     match query {

@@ -1,8 +1,9 @@
 -- Up to each place before which just the first of those noted lie, what the inputs leave is joined.
-use Rattle.std.proofs.Common.{◌≡◌, ℕ, List, Ok, Some, length, take}
+use Rattle.std.proofs.Common.{◌≡◌, ◌<◌, ℕ, List, Ok, Some, get_or, length, slice_index, take}
 use Rattle.std.specs.Prelude.{All}
 use Rattle.pk_join.specs.declared.input.MergeInput.{MergeInput}
 use Rattle.pk_join.specs.Inputs.{SpellsInputs}
+use Rattle.pk_join.specs.Inside.{HeadLiesWithin}
 use Rattle.pk_join.specs.Joining.{joined_in}
 use Rattle.pk_join.specs.WalkInput.{HaveExtentsOf, Holds, StandAs, heads_of, lists_of}
 use Rattle.pk_join.specs.Walking.{AreListed, CanHold, IsAtHeads, least_of}
@@ -12,6 +13,7 @@ use Rattle.pk_segment.specs.OnlyRead.{ReadsDisk}
 use Rattle.pk_state.specs.Committed.{Stored, live_in}
 use Rattle.pk_join.proofs.JoinNoted.{IsGap}
 use Rattle.pk_join.proofs.StandLemmas.{AllNotedWithin}
+use Rattle.pk_join.specs.declared.walk_input.Input.{Input}
 use Rattle.pk_join.proofs.walking.join_noted.Given as goal
 
 abbrev pub invariant-loop-k : goal.invariant-loop-k
@@ -23,6 +25,7 @@ invariant-loop-k g l =
       made : length l.list.made.items ≡ length l.fn.list.made.items;
       within : AllNotedWithin l.found l.inputs;
       stand : StandAs l.fn.inputs l.inputs;
+      inside : (j : ℕ) (d : Input) → j < l.k → HeadLiesWithin (get_or l.fn.inputs (slice_index l.found j) d);
       hold : disk.honest → All (Holds (disk.content l.fn.disk)) l.fn.inputs
           → All (Holds (disk.content l.disk)) l.inputs;
       joined : disk.honest → (given : List MergeInput) (stored : List Stored) (w : List ℕ)

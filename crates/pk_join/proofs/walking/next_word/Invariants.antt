@@ -3,6 +3,7 @@ use Rattle.std.proofs.Common.{◌≡◌, ◌≤◌, List, ℕ, Ok, length}
 use Rattle.std.specs.Prelude.{All}
 use Rattle.pk_join.specs.declared.input.MergeInput.{MergeInput}
 use Rattle.pk_join.specs.Inputs.{SpellsInputs}
+use Rattle.pk_join.specs.Inside.{PassedWithin}
 use Rattle.pk_join.specs.Joining.{room_in}
 use Rattle.pk_join.specs.WalkInput.{HaveExtentsOf, Holds, extents_of, heads_of, keys_of, lists_of}
 use Rattle.pk_join.specs.Walking.{AreListed, CanHold, Walks, to_come}
@@ -28,6 +29,7 @@ invariant-words g l =
       keys : l.keys ≡ keys_of l.inputs;
       fewer : to_come (lists_of l.fn.inputs) (heads_of l.inputs) (length (lists_of l.fn.inputs))
           ≤ to_come (lists_of l.fn.inputs) (heads_of l.fn.inputs) (length (lists_of l.fn.inputs));
+      inside : All PassedWithin l.fn.inputs → All PassedWithin l.inputs;
       hold : disk.honest → All (Holds (disk.content l.fn.disk)) l.fn.inputs
           → All (Holds (disk.content l.disk)) l.inputs;
       walks : disk.honest → (given : List MergeInput) (stored : List Stored) (xs ys : List (List ℕ))

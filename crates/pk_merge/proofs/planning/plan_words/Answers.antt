@@ -10,6 +10,7 @@ pub words-init : goal.words-init
 words-init g c = record {
   left = search rules;
   same = same_walk_none c.args.walk.now;
+  inside = λ all. all;
   entries = c.new-index.ensures.entries;
   most_kept = c.new-index.ensures.most_kept;
   come =

@@ -19,6 +19,7 @@ use Rattle.pk_merge.specs.Keeping.{AreKept}
 use Rattle.pk_merge.specs.Left.{kept_in}
 use Rattle.pk_merge.specs.Prepared.{PreparesOneAs}
 use Rattle.pk_merge.proofs.FaultLemmas.{passed_on}
+use Rattle.pk_merge.proofs.InsideLemmas.{all_within, start_within}
 use Rattle.pk_merge.proofs.KeepLemmas.{kept_long, kept_size}
 use Rattle.pk_merge.proofs.preparing.prepare_left.Goals as goal
 
@@ -88,3 +89,15 @@ pub returns-clause-inputs : goal.returns-clause-inputs
 returns-clause-inputs g c = λ inputs extents. c.in_ok-prepared.ensures.inputs inputs
     (extents ∙ sym (ap (λ (v : Vec Input). extents_of v.items) c.in_ok-walk.ensures.inputs)
     ∙ sym c.plan_words.ensures.same.extents)
+
+pub returns-clause-inside : goal.returns-clause-inside
+returns-clause-inside g c =
+    let walk = c.in_ok-walk.walk in
+    let is = sym c.in_ok-walk.ensures.inputs in
+    let start = subst (λ (v : Vec Input). All IsBefore v.items) is c.requires.before in
+    let new = c.plan_words.new.walk in
+    let same = c.plan_words.ensures.same in
+    all_within c.args.read.items new.inputs.items
+    (same.lists ∙ ap (λ (v : Vec Input). lists_of v.items) (sym is))
+    (same.extents ∙ ap (λ (v : Vec Input). extents_of v.items) (sym is))
+    c.in_ok-index.ensures.ended (c.in_ok-index.ensures.inside (start_within walk start))

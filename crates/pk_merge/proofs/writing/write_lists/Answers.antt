@@ -50,6 +50,7 @@ words-preserved g c =
       given = is_given_then d c.args.disk.now c.go_on.new.disk c.write_list.new.disk c.args.output.now
           c.words.output c.write_list.new.output tt read c.in_ok-write_list.ensures.given;
       same = same_walk_then c.args.walk.now c.words.walk c.go_on.new.walk inv.same c.go_on.ensures.same;
+      inside = λ all. c.in_ok-go_on.ensures.inside (inv.inside all);
       encoded = omega (arith, c.write_list.auto.encoded, inv.encoded);
       come = λ honest inputs stored start apart enough room.
           let docs = live_in stored in

@@ -2,6 +2,7 @@
 use Rattle.std.proofs.Common.{◌≡◌, ◌≤◌, ◌+◌, List, ℕ, [], Ok, length}
 use Rattle.std.specs.Prelude.{All, Result}
 use Rattle.pk_join.specs.declared.input.MergeInput.{MergeInput}
+use Rattle.pk_join.specs.Inside.{WalkedWithin}
 use Rattle.pk_join.specs.Walk.{HasCome, IsSameWalk, words_to_come}
 use Rattle.pk_model.specs.Terms.{terms_of}
 use Rattle.pk_posting.specs.Spelling.{spelling as list_spelling}
@@ -24,6 +25,7 @@ invariant-words g l =
     record {
       given : IsGiven disk l.fn.disk l.disk l.fn.output l.output went_well;
       same : IsSameWalk l.fn.walk l.walk;
+      inside : WalkedWithin l.fn.walk → WalkedWithin l.walk;
       encoded : length l.encoded ≡ length l.fn.encoded;
       come : disk.honest → (inputs : List MergeInput) (stored : List Stored)
           → HasCome (disk.content l.fn.disk) inputs stored l.fn.walk [] (terms_of (live_in stored))

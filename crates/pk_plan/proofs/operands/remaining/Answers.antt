@@ -1,4 +1,4 @@
-use Rattle.std.proofs.Common.{◌∙◌, ◌≡◌, ◌&&◌, List, [], not, sym, ap}
+use Rattle.std.proofs.Common.{◌∙◌, ◌≡◌, ◌&&◌, List, [], not, sym, ap, subst}
 use Rattle.std.proofs.lemmas.Bool.{eqb-true}
 use Rattle.std.proofs.lemmas.List.{nil_from_length}
 use Rattle.pk_plan.specs.declared.plans.Plan.{Plan}
@@ -7,6 +7,7 @@ use Rattle.pk_plan.specs.Order.{is_ordered}
 use Rattle.pk_plan.specs.Plans.{operation_of, takes}
 use Rattle.pk_plan.proofs.OrderLemmas.{both_true}
 use Rattle.pk_plan.proofs.TakingLemmas.{and_true}
+use Rattle.pk_plan.specs.Rows.{RestsOnWords}
 use Rattle.pk_plan.proofs.operands.remaining.Goals as goal
 
 pub returns-then-is_empty-clause-same : goal.returns-then-is_empty-clause-same
@@ -23,3 +24,7 @@ returns-clause-same c asked words =
 pub returns-clause-order : goal.returns-clause-order
 returns-clause-order c table all excluded = c.in_ok-plan.ensures.order table
     ∙ both_true (is_ordered table c.args.all) (is_ordered table c.united.result) all (c.united.ensures.order table excluded)
+
+pub returns-clause-rows : goal.returns-clause-rows
+returns-clause-rows c asked all excluded =
+    subst RestsOnWords (sym (c.in_ok-plan.ensures.same asked)) (all, c.united.ensures.rows asked excluded)

@@ -5,6 +5,7 @@ use Rattle.pk_model.specs.Tree.{tree_of}
 use Rattle.pk_plan.specs.Operands.{IsInOrder, any_takes, operands_read, operands_take, query_takes}
 use Rattle.pk_plan.specs.Order.{all_ordered}
 use Rattle.std.specs.List.{list_any}
+use Rattle.pk_plan.proofs.RowLemmas.{StillGathers, StillJoins}
 use Rattle.pk_plan.specs.Texts.{has_phrase, reads_texts}
 use Rattle.pk_plan.specs.Words.{leaves}
 use Rattle.pk_plan.proofs.planning.+planning.Given as goal
@@ -20,6 +21,7 @@ invariant-gather-loop-rest l = record {
       ≡ (query_takes asked words from (tree_of l.rest) && operands_take asked words l.operands);
   texts : has_phrase (tree_of l.query) ≡ false → operands_read l.fn.operands ≡ false
       → (has_phrase (tree_of l.rest) ≡ false) × (operands_read l.operands ≡ false);
+  rows : StillGathers (tree_of l.query) (tree_of l.rest) l.place l.fn.operands l.operands;
 }
 
 abbrev pub invariant-join-loop-rest : goal.invariant-join-loop-rest
@@ -34,4 +36,5 @@ invariant-join-loop-rest l = record {
       ≡ (query_takes asked words from (tree_of l.rest) || any_takes asked words l.plans.items);
   texts : has_phrase (tree_of l.query) ≡ false → list_any reads_texts l.fn.plans.items ≡ false
       → (has_phrase (tree_of l.rest) ≡ false) × (list_any reads_texts l.plans.items ≡ false);
+  rows : StillJoins (tree_of l.query) (tree_of l.rest) l.place l.fn.plans.items l.plans.items;
 }

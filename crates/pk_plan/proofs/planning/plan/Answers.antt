@@ -1,4 +1,4 @@
-use Rattle.std.proofs.Common.{arith, ◌≡◌, ◌∙◌, ℕ, List, length, ap}
+use Rattle.std.proofs.Common.{arith, ◌≡◌, ◌∙◌, ℕ, List, [], length, append-nil, sym, ap}
 use Rattle.std.proofs.lemmas.List.{length-map}
 use Rattle.std.specs.Borrow.{Bor}
 use Rattle.pk_model.specs.Tree.{tree_of}
@@ -22,3 +22,13 @@ returns-clause-means c docs rises =
     ∙ ap (λ (all : List (List ℕ)). query_takes all ws 0 query) is
     ∙ by_its_words query ws)
     docs rises
+
+pub returns-clause-rows : goal.returns-clause-rows
+returns-clause-rows c =
+    let query = tree_of c.args.query.now in
+    let words = texts c.in_ok-words.words.items in
+    let is = c.in_ok-words.ensures in
+    let many : length words ≡ length (leaves query) = ap length is in
+    let first : c.plan_of.new.place ≡ 0 = omega (arith, c.in_ok-plan.ensures.passed, many, length-map c.in_ok-words.words.items (λ (w : Bor (List ℕ)). w.now)) in
+    c.in_ok-plan.ensures.rows words
+    (record { before = []; behind = []; place = sym first; all = is ∙ sym (append-nil (leaves query)) })

@@ -1,10 +1,14 @@
-use Rattle.std.proofs.Common.{◌∙◌, ◌&&◌, ◌≡◌, ◌||◌, nat_lt, List, length, not, rules, ap, arith}
+use Rattle.std.proofs.Common.{◌∙◌, ◌&&◌, ◌≡◌, ◌||◌, nat_lt, ℕ, true, List, length, not, rules, sym, ap, subst, arith}
 use Rattle.std.specs.List.{list_any}
 use Rattle.std.proofs.lemmas.Bool.{ltb-false}
 use Rattle.pk_plan.specs.declared.operands.PhrasePlaces.{PhrasePlaces}
 use Rattle.pk_plan.specs.Operands.{all_take, any_takes, phrases_take}
 use Rattle.pk_plan.specs.Texts.{reads_texts}
 use Rattle.pk_plan.proofs.TextLemmas.{none_left, none_right}
+use Rattle.std.specs.Simd.Lanes.{Each1}
+use Rattle.pk_plan.specs.Plans.{operation_of, takes}
+use Rattle.pk_plan.specs.Rows.{HasEach, has_each, row_of}
+use Rattle.pk_plan.proofs.RowLemmas.{and_left, each_so}
 use Rattle.pk_plan.proofs.operands.Operands.plan.Goals as goal
 
 pub returns-clause-same : goal.returns-clause-same
@@ -32,3 +36,18 @@ returns-clause-texts c none =
     let empty : length c.as_slice.result.now ≡ 0 = ap length is ∙ omega (arith, few) in
     c.in_ok-plan.ensures.texts empty
     ∙ c.in_ok-left.ensures.texts (c.intersected-all.ensures.texts (none_left parts excluded first)) (none_right parts excluded first)
+
+pub returns-clause-rows : goal.returns-clause-rows
+returns-clause-rows c asked rest =
+    let o = c.args.self in
+    let is : c.as_slice.result.now ≡ o.phrases.items = search rules in
+    let left = c.in_ok-left.left in
+    let beside : PhrasePlaces → Type 0 = λ p. (words : List (List ℕ)) → takes (operation_of asked left) words ≡ true
+    → has_each (row_of asked p) words ≡ true in
+    c.in_ok-plan.ensures.rows asked
+    (c.in_ok-left.ensures.rows asked (c.intersected-all.ensures.rows asked rest.parts) rest.excluded)
+    (subst (λ (ps : List PhrasePlaces). Each1 beside ps) (sym is)
+    (each_so (λ (p : PhrasePlaces). HasEach asked o (row_of asked p)) beside o.phrases.items
+    (λ p has words held. has words (sym (c.intersected-all.ensures.same asked words)
+    ∙ and_left _ (not (any_takes asked words o.excluded.items)) (sym (c.in_ok-left.ensures.same asked words) ∙ held)))
+    rest.phrases))

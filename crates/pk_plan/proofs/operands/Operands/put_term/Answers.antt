@@ -1,10 +1,11 @@
-use Rattle.std.proofs.Common.{◌∙◌, ◌&&◌, ◌+◌, ◌≤◌, ◌<◌, List, ℕ, not, map, insert, slice_index, sym, ap, subst}
+use Rattle.std.proofs.Common.{◌∙◌, ◌&&◌, ◌+◌, ◌≤◌, ◌<◌, List, ℕ, not, map, insert, slice_index, refl, sym, ap, subst}
 use Rattle.std.specs.Simd.Lanes.{Each1}
 use Rattle.pk_plan.specs.Order.{frequency_of, in_order}
 use Rattle.pk_plan.specs.Plans.{operation_of, takes, word_at}
 use Rattle.pk_plan.specs.Operands.{all_take, any_takes, phrases_take}
 use Rattle.pk_plan.proofs.TakingLemmas.{and_assoc, takes_term}
 use Rattle.pk_plan.proofs.OrderLemmas.{insert_above, insert_ordered}
+use Rattle.pk_plan.proofs.RowLemmas.{and_left, and_right}
 use Rattle.pk_plan.proofs.operands.Operands.put_term.Goals as goal
 
 pub returns-clause-same : goal.returns-clause-same
@@ -34,3 +35,18 @@ returns-clause-order c =
       parts = c.requires.order.parts;
       excluded = c.requires.order.excluded;
     }
+
+pub returns-clause-narrowed : goal.returns-clause-narrowed
+returns-clause-narrowed c = record {
+  parts = refl;
+  excluded = refl;
+  phrases = refl;
+  takes = λ asked words is. and_right (takes (word_at asked c.args.place) words) _
+      (sym (takes_term (word_at asked) words c.args.place c.rank_of-before.result c.args.self.now.places.items (map (operation_of asked) c.args.self.now.parts.items))
+      ∙ ap (λ (ps : List ℕ). all_take asked words ps c.args.self.now.parts.items) (sym c.in_ok-insert.ensures.ok) ∙ is);
+}
+
+pub returns-clause-held : goal.returns-clause-held
+returns-clause-held c asked words is = and_left (takes (word_at asked c.args.place) words) _
+    (sym (takes_term (word_at asked) words c.args.place c.rank_of-before.result c.args.self.now.places.items (map (operation_of asked) c.args.self.now.parts.items))
+    ∙ ap (λ (ps : List ℕ). all_take asked words ps c.args.self.now.parts.items) (sym c.in_ok-insert.ensures.ok) ∙ is)
