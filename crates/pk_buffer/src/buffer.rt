@@ -41,6 +41,7 @@ ghost use Rattle.pk_model.specs.Views.{doc_of, numbers_in};
 ghost use Rattle.pk_plan.specs.Plans.{means};
 
 use pk_index::Index;
+use pk_live::{find, find_planned};
 use pk_model::{DocNo, Document, Query};
 use pk_plan::Planned;
 use std::alloc::{AllocError, Global};
@@ -153,9 +154,7 @@ impl Buffer {
         ensures none { (word : List ℕ) → tree_of query.now ≡ Term word
             → answer (Term word) self.now ≡ [] → IsOk result }
     {
-        let hits = self
-            .index
-            .find(alloc, query, &self.numbers, &self.documents)?;
+        let hits = find(alloc, &self.index, query, &self.numbers, &self.documents)?;
         doc_numbers(alloc, &hits)
     }
 
@@ -167,9 +166,7 @@ impl Buffer {
         ensures none { (place : ℕ) → planned.now.plan ≡ Plan.Term place
             → means planned.now self.now ≡ [] → IsOk result }
     {
-        let found = self
-            .index
-            .find_planned(alloc, planned, &self.numbers, &self.documents)?;
+        let found = find_planned(alloc, &self.index, planned, &self.numbers, &self.documents)?;
         doc_numbers(alloc, &found)
     }
 

@@ -19,8 +19,8 @@
 //! the one of them that the fewest documents of the segment hold: one text at a time, one of 4,096
 //! bytes or less where the source lends it. Where one document of 64 or more is left, the directory
 //! is read whole, and gone through from each number to the next. A segment of kind 1 has no lists:
-//! its documents are read, and the plan carried out over an index of the words of each (`hits`). The
-//! plan is answered, so that other documents are found by it too.
+//! its documents are read, and the plan carried out over an index of the words of each (pk_live, by
+//! `hits`). The plan is answered, so that other documents are found by it too.
 //!
 //! The answer is exact whatever the frequencies are: they choose the way alone.
 //!

@@ -2,6 +2,7 @@
 
 use crate::checks::{equal, equal_of};
 use pk_index::{Index, Row, both_into};
+use pk_live::find;
 use pk_model::{DocNo, Document};
 use pk_query::parse;
 use pk_sets::is_rising;
@@ -74,7 +75,7 @@ impl Kept {
         if !is_rising(live) {
             return Ok(Vec::new(alloc));
         }
-        Ok(self.index.find(alloc, &query, live, &self.documents)?)
+        Ok(find(alloc, &self.index, &query, live, &self.documents)?)
     }
 }
 

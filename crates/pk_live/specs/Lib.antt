@@ -1,0 +1,4 @@
+-- The definitions of the crate.
+pub mod Live
+pub mod Begun
+pub mod InRow
