@@ -13,6 +13,7 @@ ghost use Rattle.pk_plan.specs.Texts.{has_phrase};
 ghost use Rattle.pk_replace.specs.Cause.{IsUndamaged};
 ghost use Rattle.pk_search.specs.Answering.{AnswersEntries};
 ghost use Rattle.pk_search.specs.Finding.{FoundAs};
+ghost use Rattle.pk_search.specs.Whole.{AreWhole};
 ghost use Rattle.pk_open.specs.Seeking.{IsUnreached, SeeksText};
 ghost use Rattle.pk_open.specs.Showing.{LooksUpAs};
 ghost use Rattle.pk_open.specs.Opened.{AreOpenOf, pends, present};
@@ -171,6 +172,7 @@ impl<D: Disk> Volume<D> {
             self.old.body.entries stored → AreOpenOf self.old.opened stored → self.old.reopen ≡ false
             → FoundAs (tree_of query.now) (live_in (present self.old.opened stored)) found.old.items
             found.new.items result }
+        ensures whole { OnOk result (AreWhole self.old.body.entries self.old.opened) }
         ensures keeps { KeepsVolume D.Disk self.old self.new }
         ensures reads { CountsReads (D.failed_reads self.old.disk) (D.failed_reads self.new.disk)
             result }
