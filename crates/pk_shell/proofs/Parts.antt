@@ -46,7 +46,7 @@ stopped w0 w1 w2 n bytes short h k = stopped_with w0 w2 n bytes short (keeps_the
 pub stopped_at : (w0 w1 w2 : Option (List ℕ)) (n m : ℕ) (bytes more : List ℕ) → n < length bytes → Appends w0 w1 (take n bytes) → Appends w1 w2 (take m more) → m ≡ 0 → SentPart w0 w2 bytes
 stopped_at w0 w1 w2 n m bytes more short h k z = stopped_with w0 w2 n bytes short (rw (append-nil (take n bytes)) at (appends_then w0 w1 w2 _ [] h (rw z at k)))
 
-pub rest_whole : (done : ℕ) (bytes : List ℕ) → take (length bytes - done) (drop done bytes) ≡ drop done bytes
+pub rest_whole : {X : Type 0} (done : ℕ) (bytes : List X) → take (length bytes - done) (drop done bytes) ≡ drop done bytes
 rest_whole done bytes = rw (← length-drop done bytes) (take-length (drop done bytes))
 
 -- the writer took n more bytes
@@ -63,9 +63,6 @@ stopped_before w0 w1 a b s = record {
   whole = ap (λ t. t ++ b) s.whole ∙ append_assoc s.part s.missing b;
   written = s.written;
 }
-
-pub put_none : (o : List ℕ) (w : Option (List ℕ)) → HasPut o w o w []
-put_none o w w0 before u = subst (IsUnderWay w0 w o) (sym (append-nil before)) u
 
 pub put_then : (o o1 o2 : List ℕ) (w w1 w2 : Option (List ℕ)) (a b : List ℕ) → HasPut o w o1 w1 a → HasPut o1 w1 o2 w2 b → HasPut o w o2 w2 (a ++ b)
 put_then o o1 o2 w w1 w2 a b first second w0 before u = subst (IsUnderWay w0 w2 o2) (append_assoc before a b) (second w0 (before ++ a) (first w0 before u))
@@ -170,7 +167,7 @@ each_cut f xs i d h =
     ∙ ap (λ t. flat_map f (t ++ drop (i + 1) xs)) (sym front)
     ∙ ap (flat_map f) whole
 
-one_more : {X : Type 0} (f : X → List ℕ) (xs : List X) (i : ℕ) (d : X) → i < length xs → flat_map f (take i xs) ++ f (get_or xs i d) ≡ flat_map f (take (i + 1) xs)
+pub one_more : {X : Type 0} (f : X → List ℕ) (xs : List X) (i : ℕ) (d : X) → i < length xs → flat_map f (take i xs) ++ f (get_or xs i d) ≡ flat_map f (take (i + 1) xs)
 one_more f xs i d h =
     let one : flat_map f (get_or xs i d ∷ []) ≡ f (get_or xs i d) = append-nil (f (get_or xs i d)) in
     ap (λ t. flat_map f (take i xs) ++ t) (sym one) ∙ sym (flat_map-append f (take i xs) (get_or xs i d ∷ [])) ∙ ap (flat_map f) (sym (take_more xs i d h))
@@ -189,3 +186,15 @@ item_stops o o1 w w1 w2 f xs i d h so_far one =
 pub flat_map-map : {X : Type 0} (f : ℕ → List ℕ) (g : X → ℕ) (xs : List X) → flat_map f (map g xs) ≡ flat_map (λ x. f (g x)) xs
 flat_map-map f g [] = refl
 flat_map-map f g (x ∷ xs) = ap (λ t. f (g x) ++ t) (flat_map-map f g xs)
+
+-- the texts of items are put behind what waits
+pub put_front : {X : Type 0} (o o1 : List ℕ) (w : Option (List ℕ)) (f : ℕ → List ℕ) (g : X → ℕ) (xs : List X)
+    → o1 ≡ o ++ flat_map f (map g xs) → HasPut o w o1 w (flat_map (λ x. f (g x)) xs)
+put_front o o1 w f g xs e = put_behind o o1 w _ (e ∙ ap (λ t. o ++ t) (flat_map-map f g xs))
+
+-- the texts of the items so far are put, and those of n more
+pub put_items : {X : Type 0} (o o1 o2 : List ℕ) (w w1 : Option (List ℕ)) (f : ℕ → List ℕ) (g : X → ℕ) (xs : List X) (i n : ℕ)
+    → HasPut o w o1 w1 (flat_map (λ x. f (g x)) (take i xs)) → o2 ≡ o1 ++ flat_map f (map g (take n (take (length xs - i) (drop i xs))))
+    → HasPut o w o2 w1 (flat_map (λ x. f (g x)) (take (i + n) xs))
+put_items o o1 o2 w w1 f g xs i n so_far e =
+    rw (take-add i n xs, flat_map-append) (put_then o o1 o2 w w1 w1 _ _ so_far (put_front o1 o2 w1 f g (take n (drop i xs)) (rw (rest_whole i xs) at e)))

@@ -107,21 +107,8 @@ fn put_full<W: Write>(
     put_number(outbox, writer, b" largest ", u64::from(largest))
 }
 
-/// Puts a number in decimal behind a space.
-fn put_spaced<W: Write>(outbox: &mut Outbox, writer: &mut W, number: u32) -> Result<(), Unwritten>
-    ensures { Puts outbox.old (W.contents writer.old) result outbox.new (W.contents writer.new)
-        (spaced number) }
-{
-    let mut buffer = Buffer::new();
-    let digits = buffer.format(number).as_bytes();
-    if outbox.fill_spaced(digits) {
-        return Ok(());
-    }
-    put(outbox, writer, b" ")?;
-    put(outbox, writer, digits)
-}
-
-/// Puts the numbers, each behind a space.
+/// Puts the numbers, each behind a space: as many as there is room for at once, and the one that
+/// fills the outbox in parts.
 fn put_numbers<W: Write>(
     outbox: &mut Outbox,
     writer: &mut W,
@@ -130,8 +117,11 @@ fn put_numbers<W: Write>(
     ensures { Puts outbox.old (W.contents writer.old) result outbox.new (W.contents writer.new)
         (flat_map spaced (numbers_in numbers.now)) }
 {
-    for number in numbers {
-        put_spaced(outbox, writer, number.0)?;
+    let mut done = outbox.fill_numbers(numbers);
+    while done < numbers.len() {
+        put_number(outbox, writer, b" ", u64::from(numbers[done].0))?;
+        done += 1;
+        done += outbox.fill_numbers(&numbers[done..]);
     }
     Ok(())
 }

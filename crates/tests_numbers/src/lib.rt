@@ -13,6 +13,8 @@ mod dead;
 #[cfg(test)]
 mod dict;
 #[cfg(test)]
+mod digits;
+#[cfg(test)]
 mod failing;
 #[cfg(test)]
 mod keys;

@@ -1,0 +1,2 @@
+-- Lemmas of decimal digits.
+pub mod DecimalLemmas

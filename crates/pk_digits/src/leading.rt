@@ -1,0 +1,86 @@
+//! The leading digits that numbers share, and numbers written by them.
+
+ghost use Rattle.std.specs.Prelude.{◌≡◌, ◌+◌, ◌/◌, ◌<◌, ◌≤◌, ◌++◌, length, take, codes, decimal};
+ghost use Rattle.pk_digits.specs.declared.leading.TheConstants.{SPACED_BYTES};
+
+use crate::digits::{write_four, write_short, write_six};
+use std::marker::Model;
+use std::simd::prelude::*;
+
+/// The most bytes of a number behind a space: ten digits.
+pub const SPACED_BYTES: usize = 11;
+
+/// The digits before the last four of a number from 10,000 on, behind a space. A contract sees them
+/// as the number that they are of.
+#[derive(Drop)]
+pub struct LeadingDigits {
+    // The number that they are of.
+    number: u32,
+    // A space and its digits, and spaces.
+    text: u8x8,
+    // Where its digits end.
+    end: usize,
+}
+
+impl Model for LeadingDigits {
+    ghost use Rattle.std.specs.Prelude.{◌≡◌, ℕ, ◌+◌, ◌<◌, ◌++◌, length, take, codes, decimal};
+
+    ghost Value = { ℕ };
+
+    ghost view = { λ l. l.number };
+
+    ghost invariant = { λ l. (l.number < 1000000) × (l.end ≡ 1 + length (decimal l.number))
+        × (take l.end l.text ≡ codes " " ++ decimal l.number) };
+}
+
+impl LeadingDigits {
+    /// Those of 10,000.
+    pub fn new() -> LeadingDigits
+        ensures { result ≡ 1 }
+    {
+        LeadingDigits::of(1)
+    }
+
+    // Those of a number that is `number` without its last four digits.
+    fn of(number: u32) -> LeadingDigits
+        requires { number < 1000000 }
+        ensures { result ≡ number }
+    {
+        let mut text = [b' '; 8];
+        let end = write_six(number, &mut text, 1);
+        let text = u8x8::from_array(text);
+        LeadingDigits { number, text, end }
+    }
+
+    // Keeps those of a number that is `number` without its last four digits.
+    #[inline(always)]
+    fn keep(&mut self, number: u32)
+        requires { number < 1000000 }
+        ensures { self.new ≡ number }
+    {
+        if number != self.number {
+            *self = LeadingDigits::of(number);
+        }
+    }
+
+    /// Writes a space and a number in decimal at the beginning of the bytes, and returns where they
+    /// end. What lies behind, up to `SPACED_BYTES`, may be other bytes than before.
+    #[inline(always)]
+    pub fn write_spaced(&mut self, number: u32, out: &mut [u8]) -> usize
+        requires { SPACED_BYTES ≤ length out.old }
+        ensures end { result ≡ 1 + length (decimal number) }
+        ensures within { result ≤ SPACED_BYTES }
+        ensures written { take result out.new ≡ codes " " ++ decimal number }
+        ensures size { length out.new ≡ length out.old }
+        ensures kept { number < 10000 → self.new ≡ self.old }
+        ensures next { 10000 ≤ number → self.new ≡ number / 10000 }
+    {
+        if number < 10_000 {
+            out[0] = b' ';
+            return write_short(number, out, 1);
+        }
+        self.keep(number / 10_000);
+        self.text.copy_to_slice(out);
+        write_four(number % 10_000, out, self.end)
+    }
+}
