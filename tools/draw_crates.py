@@ -6,7 +6,7 @@ usage: tools/draw_crates.py      at the top of the repository
 A crate's row is right below the lowest crate that stands on it. A line is drawn for each crate of
 crates.txt that another one names, but where other lines lead there already; lines that lead to the
 same crate run together. A box grows with the lines of code in `src/`, which are rounded, so that
-few changes draw another picture. The group of the tests is left out. The same files give the same
+few changes draw another picture. The layer of the tests is left out. The same files give the same
 bytes: all is reckoned in whole numbers, and nothing depends on the order of a set.
 
 The rows and their order are found as Sugiyama, Tagawa and Toda (1981) do it.
@@ -19,6 +19,8 @@ PICTURE = "docs/crates.svg"
 LEFT_OUT = "tests"
 # A line that is a comment alone.
 COMMENT = re.compile(r"\s*//")
+# The line of crates.txt with which a layer begins.
+LAYER = re.compile(r"# (\w+)")
 
 # Pixels: the height of a box's head, between rows, beside boxes, between the lines that leave one.
 HEAD, BETWEEN, BESIDE, APART, MARGIN = 22, 30, 14, 10, 24
@@ -26,21 +28,24 @@ LINES_TO_A_PIXEL = 40  # Lines of code, of the lower part of a box.
 LETTER = 73  # The width of a letter in a box, in tenths of a pixel, where the font is a wide one.
 SWEEPS = 60  # How often the rows are gone through for better places.
 
-# The groups from left to right at first, before knots change their places: the order from which
-# fewest lines cross.
-COLUMNS = ("meaning", "engine", "numbers", "disk", "program")
+# The layers from left to right at first, before knots change their places: an order from which few
+# lines cross.
+COLUMNS = ("meaning", "numbers", "engine", "format", "disk", "program")
 
-# The colours of a group, for light and dark: the head of its boxes, their lower part, lines.
+# The colours of each layer, the lowest first, for light and dark: the head of its boxes, their lower
+# part, lines.
 COLOURS = {
-    "meaning": (("#bfe3c6", "#e6f5e9", "#2f8a4b"), ("#24573a", "#1b3527", "#5fbf83")),
     "numbers": (("#f6d9a8", "#fcf1dd", "#b0741a"), ("#66481a", "#3b2d17", "#dba64e")),
+    "meaning": (("#bfe3c6", "#e6f5e9", "#2f8a4b"), ("#24573a", "#1b3527", "#5fbf83")),
     "disk": (("#c3d7f3", "#e7effb", "#3a6fbd"), ("#27477a", "#1c2d49", "#78a6ea")),
+    "format": (("#b9e0e0", "#e3f3f3", "#1f7f80"), ("#1f5152", "#18302f", "#55b7b8")),
     "engine": (("#e3c9ec", "#f5eaf8", "#93479f"), ("#5a3366", "#36233d", "#cd8bda")),
     "program": (("#f3c4c4", "#fbe8e8", "#b8433f"), ("#6e2f2f", "#402222", "#ec8681")),
 }
 PAPER = (("#ffffff", "#1f2328", "#57606a"), ("#0d1117", "#e6edf3", "#9aa4af"))
 
 LEGEND = (
+    "Colours are layers, lowest first: a crate stands on those of its own layer and of lower ones.",
     "Lines lead down, from a crate to those that it stands on; lines to the same crate run "
     "together, in its colour.",
     "There is none where others lead there already, through a third crate: crates.txt has all that "
@@ -52,15 +57,16 @@ LEGEND = (
 )
 
 
-def groups(top):
-    """The crates of crates.txt by their groups, and the libraries that each names."""
-    found, libraries, group = {}, {}, None
+def layers(top):
+    """The crates of crates.txt by their layers, the lowest first, and the libraries that each
+    names."""
+    found, libraries, layer = {}, {}, None
     for line in top.joinpath("crates.txt").read_text("utf-8").splitlines():
-        if line.startswith("# "):
-            group = found.setdefault(line[2:], [])
-        elif line:
+        if head := LAYER.fullmatch(line):
+            layer = found.setdefault(head[1], [])
+        elif line and not line.startswith("#"):
             name, _, named = line.partition(":")
-            group.append(name)
+            layer.append(name)
             libraries[name] = named.split()
     return found, libraries
 
@@ -224,10 +230,10 @@ def style():
     def rules(mode):
         paper, ink, faint = PAPER[mode]
         yield f".paper {{ fill: {paper} }} text {{ fill: {ink} }} .faint {{ fill: {faint} }}"
-        for group, colours in COLOURS.items():
+        for layer, colours in COLOURS.items():
             head, body, line = colours[mode]
-            yield (f".{group} .head {{ fill: {head} }} .{group} .body {{ fill: {body} }} "
-                   f".{group} rect, .{group} path {{ stroke: {line} }}")
+            yield (f".{layer} .head {{ fill: {head} }} .{layer} .body {{ fill: {body} }} "
+                   f".{layer} rect, .{layer} path {{ stroke: {line} }}")
     light, dark = ("\n".join(rules(mode)) for mode in (0, 1))
     return (f"text {{ font: 12px system-ui, sans-serif }}\n"
             f"text.name, text.lines {{ font-family: ui-monospace, Menlo, 'DejaVu Sans Mono', "
@@ -250,11 +256,11 @@ class Picture:
     """The picture of the repository below a folder."""
 
     def __init__(self, top):
-        found, libraries = groups(top)
-        self.group = {name: group for group, names in found.items() for name in names
-                      if group != LEFT_OUT}
-        names = sorted(self.group, key=lambda name: COLUMNS.index(self.group[name]))
-        self.stands_on = reduced({name: [low for low in libraries[name] if low in self.group]
+        found, libraries = layers(top)
+        self.layer = {name: layer for layer, names in found.items() for name in names
+                      if layer != LEFT_OUT}
+        names = sorted(self.layer, key=lambda name: COLUMNS.index(self.layer[name]))
+        self.stands_on = reduced({name: [low for low in libraries[name] if low in self.layer]
                                   for name in names})
         self.lines = {name: rounded(lines_of(top / "crates" / name)) for name in names}
         letters = max(len(f"{name} {lines:,}") for name, lines in self.lines.items())
@@ -288,22 +294,22 @@ class Picture:
         """All lines that lead to a crate."""
         knots = [knot for row in self.layout.rows for knot in row if knot[0] == name]
         path = "".join(self.line(high, knot) for knot in knots for high in self.layout.up[knot])
-        return f'<g class="{self.group[name]}"><path d="{path}"/></g>' if path else ""
+        return f'<g class="{self.layer[name]}"><path d="{path}"/></g>' if path else ""
 
     def box_of(self, name):
         knot, width = (name, self.layout.row[name]), self.layout.box_width
         lows = ", ".join(self.stands_on[name])
-        told = f"{name}, {self.group[name]}" + (f": lines lead to {lows}" if lows else "")
+        told = f"{name}, {self.layer[name]}" + (f": lines lead to {lows}" if lows else "")
         place = self.layout.x[knot] - width // 2, self.tops[knot[1]]
-        return (f'<g class="{self.group[name]}">'
+        return (f'<g class="{self.layer[name]}">'
                 f"{box(*place, width, name, self.lines[name], told)}</g>")
 
     def legend(self):
-        """The groups with their colours, then what lines and boxes mean."""
-        for place, group in enumerate(COLOURS):
+        """The layers with their colours, then what lines and boxes mean."""
+        for place, layer in enumerate(COLOURS):
             x = MARGIN + 100 * place
-            yield (f'<g class="{group}"><rect class="head" x="{x}" y="{MARGIN}" width="14" '
-                   f'height="14"/><text x="{x + 20}" y="{MARGIN + 12}">{group}</text></g>')
+            yield (f'<g class="{layer}"><rect class="head" x="{x}" y="{MARGIN}" width="14" '
+                   f'height="14"/><text x="{x + 20}" y="{MARGIN + 12}">{layer}</text></g>')
         for place, words in enumerate(LEGEND):
             y = 2 * MARGIN + 16 + 18 * place
             yield f'<text class="faint" x="{MARGIN}" y="{y}">{words}</text>'

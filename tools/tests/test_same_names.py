@@ -1,4 +1,4 @@
-"""Names in documents are those of the code: crates and their groups, trusted crates, named wrong
+"""Names in documents are those of the code: crates and their layers, trusted crates, named wrong
 bodies, laws, words of contracts, targets."""
 import pathlib
 import re
@@ -8,7 +8,7 @@ import unittest
 TOP = pathlib.Path(__file__).resolve().parents[2]
 sys.path.insert(0, str(TOP / "tools"))
 
-from draw_crates import groups  # noqa: E402
+from draw_crates import layers  # noqa: E402
 
 QUOTED = re.compile(r"`([^`]+)`")
 DOCUMENTS = sorted([*TOP.glob("*.md"), *TOP.glob("docs/*.md")])
@@ -48,18 +48,14 @@ def rows(text):
 class Crates(unittest.TestCase):
     """crates.txt, the crates and what documents say of them."""
 
-    GROUPS, LIBRARIES = groups(TOP)
-    OWN = {name for names in GROUPS.values() for name in names}
+    LAYERS, LIBRARIES = layers(TOP)
+    OWN = {name for names in LAYERS.values() for name in names}
 
-    def test_each_crate_is_listed(self):
-        folders = {file.parents[1].name for file in TOP.glob("crates/*/src/*.rt")}
-        self.assertEqual(folders, self.OWN)
-
-    def test_architecture_has_the_groups(self):
+    def test_architecture_has_the_layers(self):
         text = text_of("docs/ARCHITECTURE.md")
-        for group, names in self.GROUPS.items():
-            with self.subTest(group=group):
-                told = re.findall(r"\*\*(\w+)\*\*", section(text, group.capitalize()))
+        for layer, names in self.LAYERS.items():
+            with self.subTest(layer=layer):
+                told = re.findall(r"\*\*(\w+)\*\*", section(text, layer.capitalize()))
                 self.assertEqual(sorted(told), sorted(names))
 
     def test_the_trusted_crates(self):
@@ -96,7 +92,7 @@ class Names(unittest.TestCase):
                 self.assertEqual(told - there, set())
 
     def test_what_carries_each_claim(self):
-        libraries = groups(TOP)[1]
+        libraries = layers(TOP)[1]
         crate, there, count = None, set(), 0
         for line in re.sub(r"\n +(?!- )", " ", text_of("docs/PROVED.md")).splitlines():
             head = re.fullmatch(r"\*\*`(\w+)`\*\*(?:, where .*)?", line)
@@ -113,7 +109,7 @@ class Names(unittest.TestCase):
         self.assertGreater(count, 500)
 
     def test_names_in_prose(self):
-        there = words_of(groups(TOP)[1]) | set(groups(TOP)[1]) | CALLS
+        there = words_of(layers(TOP)[1]) | set(layers(TOP)[1]) | CALLS
         for page in ("ARCHITECTURE", "CRASHES", "GLOSSARY", "LIMITS", "MEANING",
                      "READING_CONTRACTS"):
             text = re.sub(r"```.*?```", "", text_of(f"docs/{page}.md"), flags=re.S)
