@@ -6,7 +6,7 @@ import os
 import sys
 
 from . import queries, searching
-from .errors import Failed, Misused, NoSuchDocument, StoreError, tell, waits
+from .errors import Failed, Misused, NoSuchDocument, Refused, StoreError, tell, waits
 from .layout import split
 from .results import FORMATS, Choice, Results
 from .store import LEAST_UNITS, MOST_NUMBER, MOST_UNITS, UNIT, Reader, Store
@@ -134,9 +134,9 @@ def show(given: Given) -> int:
         for one in numbers:
             try:
                 texts.append(store.show(one))
-            except NoSuchDocument as refused:
+            except Refused as refused:  # Of a damaged store the others are shown.
                 tell(f"{one}: {refused}")
-                status = 1
+                status = max(status, 1 if isinstance(refused, NoSuchDocument) else 2)
     _put_paged(given, (queries.plain(split(text)[0]).removesuffix("\n") for text in texts))
     return status
 

@@ -92,6 +92,11 @@ def begin(size: int, attempt: int = 0) -> None:
         _CLOCK.noted[:] = _CLOCK.at, attempt
 
 
+def end() -> None:
+    """Ends the time of a document: what is done between two is none of theirs."""
+    _CLOCK.left = float("inf")
+
+
 @contextmanager
 def timed() -> Iterator[None]:
     """Within it documents have their time: `begin` gives it to each. It is told by a signal, which
@@ -113,18 +118,44 @@ def timed() -> Iterator[None]:
 
 def limit_process(noted: Any = None, harmful: frozenset[tuple[int, int]] = frozenset()) -> None:
     """Lets this process, which decodes, have MEMORY more than it has, and be ended where a document
-    takes too long. The system refuses more memory, where it heeds that; so the clock looks, too.
-    The attempts to read a document are `noted`, by its place and theirs; those `harmful` are not
-    made."""
+    takes too long. The attempts to read a document are `noted`, by its place and theirs; those
+    `harmful` are not made."""
     _CLOCK.noted, _CLOCK.harmful = noted, harmful
     with suppress(ImportError, OSError, ValueError):  # Not every system tells.
         import resource
         resource.setrlimit(resource.RLIMIT_CORE, (0, resource.getrlimit(resource.RLIMIT_CORE)[1]))
         _CLOCK.is_ended = True
-        asked, has = _taken()
+    _limit_memory()
+
+
+def _limit_memory() -> tuple[int, int] | None:
+    """Lets this process have MEMORY more than it has; gives the limits of before, or None where the
+    system tells none. It refuses more, where it heeds that; so the clock looks, too."""
+    with suppress(ImportError, OSError, ValueError):  # Not every system tells.
+        import resource
+        before, (asked, has) = resource.getrlimit(resource.RLIMIT_AS), _taken()
+        most = asked + MEMORY
+        if before[0] != resource.RLIM_INFINITY:
+            most = min(most, before[0])
+        resource.setrlimit(resource.RLIMIT_AS, (most, before[1]))
         _CLOCK.most = has + MEMORY
-        resource.setrlimit(resource.RLIMIT_AS, (asked + MEMORY,
-                                                resource.getrlimit(resource.RLIMIT_AS)[1]))
+        return before
+    return None
+
+
+@contextmanager
+def _limited() -> Iterator[None]:
+    """Within it this process, which does not decode alone, has no more memory; as with the time,
+    that is so in its first thread."""
+    is_first = threading.current_thread() is threading.main_thread()
+    before = _limit_memory() if is_first else None
+    try:
+        yield
+    finally:
+        if before:
+            import resource
+            _CLOCK.most = float("inf")
+            resource.setrlimit(resource.RLIMIT_AS, before)
 
 
 def _begin_decoding(own: documents.Extras, *limited: Any) -> None:
@@ -163,7 +194,7 @@ def in_order(tasks: Iterator[Task], jobs: int) -> Iterator[list[Entry]]:
     first = list(islice(tasks, 2))
     if len(first) < 2 and all(_bytes_of(task) <= CHUNK_BYTES for task in first):
         for function, *given in first:
-            with timed():
+            with timed(), _limited():
                 entries = function(*given)
             yield entries
         return

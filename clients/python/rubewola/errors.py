@@ -49,6 +49,10 @@ class InUse(Failed):
         super().__init__("in use")
 
 
+class Overtaken(StoreError):
+    """Another program has loaded the same meanwhile: the load is to be run again."""
+
+
 class Refused(StoreError):
     """A command was refused, and changed no document."""
 

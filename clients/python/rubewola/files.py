@@ -34,6 +34,7 @@ _NO_TEXT = {
     b"\xfe\xff": "UTF-16: make it UTF-8, as by `iconv`",
 }
 _TAR_AT, _TAR = 257, b"ustar"
+_STORE_AT, _STORE = 1_024, b"PKSRCH"
 _LOOKED_AT = 65_536
 # Bytes that texts have few of. Of NUL a log that was cut in place may have many.
 _ODD = bytes([*range(1, 8), *range(14, 27), *range(28, 32), 127])
@@ -148,6 +149,8 @@ class Input:
         told = next((told for magic, told in _NO_TEXT.items() if head.startswith(magic)), None)
         if head[_TAR_AT:].startswith(_TAR):
             told = "an archive: unpack it first"
+        if head[_STORE_AT:].startswith(_STORE):
+            told = "a store"
         odd = len(head) - len(head.translate(None, _ODD))
         if not told and odd * 50 > len(head):
             told = "no text"

@@ -13,8 +13,9 @@ import tempfile
 import time
 
 from . import loading
-from .errors import InUse, InputRefused, Misused, tell
+from .errors import InUse, InputRefused, Misused, Overtaken, tell
 from .files import STANDARD_INPUT
+from .jsonlines import LONGEST_OBJECT
 from .places import FOLDERS
 
 TYPE_CHECKING = False
@@ -33,27 +34,31 @@ class _Follower:
     def __init__(self, given: Given) -> None:
         self._given, self._told, self._is_first = given, set(), True
 
-    def load(self, words: list[str]) -> float:
-        """Loads what is new; the seconds that it took. What was told before is not told again."""
+    def load(self, words: list[str]) -> bool:
+        """Loads what is new, and answers whether that is done; else it is to be tried again. What
+        was told before is not told again."""
         begin = time.monotonic()
         try:
             source, loaded = loading.once(self._given, words)
-        except InUse as error:
-            tell(f"{error}; it is tried again")
-            return time.monotonic() - begin
-        except InputRefused as error:
+        except (InUse, Overtaken) as error:
+            self._tell(f"{error}; it is tried again")
+            return False
+        except (InputRefused, OSError) as error:
             if self._is_first:
                 raise
-            tell(str(error))
-            return time.monotonic() - begin
+            self._tell(str(error))  # A log may be gone for a moment, as it is rotated.
+            return isinstance(error, InputRefused)
         for note in loading.notes_of(source):
-            if note not in self._told:
-                tell(note)
-                self._told.add(note)
+            self._tell(note)
         if self._is_first or loaded.documents or loaded.pruned:
             loading.tell_of(loaded, begin)
         self._is_first = False
-        return time.monotonic() - begin
+        return True
+
+    def _tell(self, note: str) -> None:
+        if note not in self._told:
+            tell(note)
+            self._told.add(note)
 
 
 def follow(given: Given) -> int:
@@ -65,10 +70,10 @@ def follow(given: Given) -> int:
         return _follow_input(follower)
     seen: Any = None
     while True:
-        now, spent = _signs(given.words), 0.0
+        now, begin = _signs(given.words), time.monotonic()
         if now != seen:
-            spent, seen = follower.load(given.words), now
-        time.sleep(min(max(EACH, SHARE * spent), LONGEST))
+            seen = now if follower.load(given.words) else None
+        time.sleep(min(max(EACH, SHARE * (time.monotonic() - begin)), LONGEST))
 
 
 def _signs(words: list[str]) -> list[Any]:
@@ -82,10 +87,13 @@ def _folders(top: str) -> list[str]:
     found, waiting, seen = [], [top], set()
     while waiting:
         folder = waiting.pop()
-        known = os.path.realpath(folder)
-        if known in seen:
+        try:
+            told = os.stat(folder)
+        except OSError:
             continue
-        seen.add(known)
+        if (told.st_dev, told.st_ino) in seen:
+            continue
+        seen.add((told.st_dev, told.st_ino))
         found.append(folder)
         if os.path.basename(folder) not in FOLDERS:
             try:
@@ -108,20 +116,56 @@ def _follow_input(follower: _Follower) -> int:
     """Loads whole lines of standard input as they come, and at its end the rest."""
     if sys.stdin is None:
         raise Misused("standard input is closed")
-    held, first, has_more = b"", 0.0, True
+    held, first, has_more = _Held(), 0.0, True
     poll = select.poll()
     poll.register(0, select.POLLIN)
     while has_more:
         if poll.poll(EACH * 1_000):
             piece = os.read(0, 1_048_576)
             has_more = bool(piece)
-            first = first if held else time.monotonic()
-            held += piece
-        end = held.rfind(b"\n") + 1 if has_more else len(held)
-        if end and (not has_more or len(held) > AT_ONCE or time.monotonic() - first > EACH):
+            first = first if held.size else time.monotonic()
+            held.put(piece)
+        has_lines = held.has_end or not has_more and held.size
+        if has_lines and (not has_more or held.size > AT_ONCE or time.monotonic() - first > EACH):
             with tempfile.NamedTemporaryFile(prefix="rubewola-") as file:
-                file.write(held[:end])
+                file.writelines(held.taken(not has_more))
                 file.flush()
-                follower.load([file.name])
-            held, first = held[end:], time.monotonic()
+                while not follower.load([file.name]):
+                    time.sleep(EACH)
+            first = time.monotonic()
     return 0
+
+
+class _Held:
+    """What came of standard input and waits to be loaded. Of a line that is too long the rest is
+    passed over."""
+
+    def __init__(self) -> None:
+        self._lines: list[bytes] = []
+        self._rest: list[bytes] = []  # Of the last line, which has no end yet.
+        self._size_of_rest = self.size = 0
+
+    @property
+    def has_end(self) -> bool:
+        """Whether it has a whole line."""
+        return bool(self._lines)
+
+    def put(self, piece: bytes) -> None:
+        """Takes what comes next."""
+        end = piece.rfind(b"\n") + 1
+        if end:
+            self._lines += [*self._rest, piece[:end]]
+            self._rest, self._size_of_rest = [], 0
+            self.size += end
+        if self._size_of_rest <= LONGEST_OBJECT:
+            self._rest.append(piece[end:])
+            self._size_of_rest += len(piece) - end
+            self.size += len(piece) - end
+
+    def taken(self, is_all: bool) -> list[bytes]:
+        """Takes the whole lines away, or all that there is."""
+        lines, self._lines = self._lines, []
+        if is_all:
+            lines, self._rest, self._size_of_rest = [*lines, *self._rest], [], 0
+        self.size = self._size_of_rest
+        return lines

@@ -5,7 +5,6 @@ from __future__ import annotations
 import os
 from collections import Counter
 from collections.abc import Iterator
-from itertools import islice
 
 from .documents import OTHER, judged
 from .errors import Refused
@@ -56,16 +55,19 @@ def _bytes_of(reply: str) -> bytes:
 
 def _replies(store: Reader, numbers: list[int]) -> Iterator[tuple[int, str]]:
     """The documents of these numbers, each with the reply to its `show`; an empty one where it is
-    refused or is no text."""
-    at = 0
+    refused or is no text. Behind that few are asked for at once, and then more, for what was asked
+    behind a refused one is asked again."""
+    at, count = 0, len(numbers)
     while at < len(numbers):
+        asked = numbers[at:at + count]
         try:
-            for reply in store.ask_all(f"show {number}" for number in islice(numbers, at, None)):
+            for reply in store.ask_all(f"show {number}" for number in asked):
                 yield numbers[at], reply
                 at += 1
+            count *= 2
         except (Refused, UnicodeDecodeError):
             yield numbers[at], ""
-            at += 1
+            at, count = at + 1, 1
 
 
 class Compared(Counter):

@@ -10,6 +10,7 @@ from datetime import date
 from typing import Any
 
 from . import days, documents, letters, stamps
+from .documents import MOST_BYTES
 from .errors import InputRefused
 from .fields import level_of
 from .files import Input, inputs
@@ -27,6 +28,7 @@ BYTE_ORDER = "\ufeff"  # Some programs begin a file with it.
 _UNITS = ("_SYSTEMD_UNIT", "UNIT", "_SYSTEMD_USER_UNIT", "USER_UNIT")
 _DEEPEST = 32
 LONGEST_OBJECT = 16_777_216  # Bytes of a line of JSON that are read; of a longer one no value is.
+LONGEST_OUTER = 256  # Characters of a name that stand before those of the values in it.
 MOST_VALUES = 16_384  # Of an object, that are found by their names; more are words of its text.
 
 
@@ -36,15 +38,34 @@ def _told(value: object) -> str:
 
 
 def _flat(value: object, name: str = "", depth: int = 0) -> Iterator[tuple[str, object]]:
-    """The values of an object, each with its name: that in another has the names of both."""
+    """The values of an object, each with its name: that in another has the names of both, of the
+    outer one LONGEST_OUTER characters."""
+    before = name[:LONGEST_OUTER]
     if isinstance(value, dict) and value and depth < _DEEPEST:
         for key, inner in value.items():
-            yield from _flat(inner, f"{name}.{key}" if name else key, depth + 1)
+            yield from _flat(inner, f"{before}.{key}" if name else key, depth + 1)
     elif isinstance(value, list) and depth < _DEEPEST:
         for inner in value:
-            yield from _flat(inner, name, depth + 1)
+            yield from _flat(inner, before, depth + 1)
     else:
         yield name, value
+
+
+def _as_text(value: dict[str, Any]) -> tuple[list[tuple[str, object]], str]:
+    """The values of an object that are found by their names, and its text, or what of that a
+    document has room for, and more."""
+    flat: list[tuple[str, object]] = []
+    lines: list[str] = []
+    size = 0
+    for name, told in _flat(value):
+        if len(flat) < MOST_VALUES:
+            flat.append((name, told))
+        elif size > MOST_BYTES:
+            break
+        if size <= MOST_BYTES:
+            lines.append(f"{name}: {_told(told)}")
+            size += len(lines[-1]) + 1
+    return flat, "\n".join(lines)
 
 
 def _object(line: bytes) -> dict[str, Any] | None:
@@ -71,7 +92,10 @@ class _Fields:
         field, told = field_name(name[:LONGEST_NAME]), _told(value)[:LONGEST_FIELD]
         if not field:
             return []
-        words = named(field, told) if field in ("id", "path") else field_words(field, told)
+        if field in ("id", "path"):  # JSON may have half of a pair, which is no character.
+            words = named(field, told.encode("utf-8", "replace"))
+        else:
+            words = field_words(field, told)
         if documents.chosen().accents and field not in ("id", "path"):
             words += letters.bare_field_words(field, told)
         if field not in self._met:
@@ -84,16 +108,15 @@ class _Fields:
         value = _object(line)
         if value is None:
             return decoded(line), [], bool(line.strip())
-        flat = [(name, told) for name, told in _flat(value)]
-        by_name = {name.lower(): told for name, told in reversed(flat[:MOST_VALUES])}
+        flat, text = _as_text(value)
+        by_name = {name.lower(): told for name, told in reversed(flat)}
         when = next(filter(None, (stamps.of_value(by_name.get(name)) for name in _TIMES)), None)
         words: list[str] = []
         before = None
-        for name, told in flat[:MOST_VALUES]:
+        for name, told in flat:
             if name.lower() != "date" and (own := self._words(name, told)):
                 words += [APART, *own] if name == before else own
                 before = name
-        text = "\n".join(f"{name}: {_told(told)}" for name, told in flat)
         return text, [*days.words_of(when), *words], False
 
 
@@ -141,7 +164,7 @@ def _journal_entry(line: bytes, _: date) -> Line:
         return f"[not read: no time]\n{decoded(line)}", [], True
     message = entry.get("MESSAGE") or ""
     if isinstance(message, list):  # So is what is no UTF-8, by its bytes.
-        with suppress(TypeError, ValueError):
+        with suppress(OverflowError, TypeError, ValueError):
             message = decoded(bytes(map(int, message)))
     name = entry.get("SYSLOG_IDENTIFIER") or entry.get("_COMM") or "-"
     pid = f"[{entry['_PID']}]" if entry.get("_PID") else ""

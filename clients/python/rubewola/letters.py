@@ -14,10 +14,10 @@ from unicodedata import category, combining, normalize
 
 from .words import APART, clean, field_words
 
-# Signs that nobody sees and that would be part of a word: soft hyphens, signs of direction, joiners
-# at a word's end.
-_UNSEEN = re.compile("[\xad\u061c\u180e\u200e\u200f\u202a-\u202e\u2060-\u206f\ufeff\ufff9-\ufffb]+"
-                     r"|(?<=\w)[\u034f\u200c\u200d]+(?!\w)")
+# Signs that nobody sees and that would be part of a word: soft hyphens, signs of direction; and
+# joiners at a word's end.
+_UNSEEN = re.compile("[\xad\u061c\u180e\u200e\u200f\u202a-\u202e\u2060-\u206f\ufeff\ufff9-\ufffb]+")
+_LOOSE = re.compile(r"(?<=\w)[\u034f\u200c\u200d]+(?!\w)")
 _MAYBE_UNSEEN = re.compile("[\xad\u034f\u061c\u180e\u200c-\u200f\u202a-\u202e\u2060-\u206f"
                            "\ufeff\ufff9-\ufffb]")
 # Letters that `_` joins to nothing: ideographs, hiragana, and writing without spaces as Thai.
@@ -50,8 +50,11 @@ def clean(text: str) -> str:
     """A text in Unicode's form NFC and without signs that nobody sees. Of the marks on one letter
     there are at most MOST_MARKS, as in Unicode's texts that are safe to stream: more are no
     writing, and the time to order them grows with their square."""
+    has_unseen = _MAYBE_UNSEEN.search(text)
+    if has_unseen:  # Before marks are counted: what is between them goes, and they are in a row.
+        text = _UNSEEN.sub("", text)
     text = normalize("NFC", _MARKS.sub(_few_marks, text))
-    return _UNSEEN.sub("", text) if _MAYBE_UNSEEN.search(text) else text
+    return _LOOSE.sub("", text) if has_unseen else text
 
 
 class _Spelling(dict):

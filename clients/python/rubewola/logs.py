@@ -19,7 +19,7 @@ from typing import NamedTuple
 
 from . import days, decoding, stamps
 from .documents import MOST_BYTES, document
-from .errors import NoSuchDocument, StoreError
+from .errors import NoSuchDocument, Overtaken
 from .files import Input, Stream, inputs
 from .layout import earlier, lines_words, split
 from .sources import CHUNK_BYTES, CHUNK_ITEMS, Entry, Task, has_kind
@@ -159,11 +159,22 @@ def entry(kind: str, line: bytes, parsed: Callable[[bytes, date], Line], written
     for attempt, read_as in enumerate((parsed, _bare)):
         with suppress(decoding.Slow, MemoryError):
             decoding.begin(len(line), attempt)
-            text, words, is_unreadable = read_as(line, written)
+            text, words, is_unreadable = _read_by(read_as, line, written)
             data, is_cut = document(kind, text, [*marks, *words],
                                     with_parts and read_as is parsed)
+            decoding.end()
             return Entry(data, asked_by, 0, is_cut, is_unreadable, read_as is not parsed)
     raise MemoryError
+
+
+def _read_by(parsed: Callable[[bytes, date], Line], line: bytes, written: date) -> Line:
+    """What a line is read as. One that cannot be read stands as it is."""
+    try:
+        return parsed(line, written)
+    except MemoryError:
+        raise
+    except Exception as error:  # Lines are broken in more ways than anybody knows.
+        return f"[not read: {type(error).__name__}]\n{decoded(line[:MOST_BYTES])}", [], True
 
 
 def _bare(line: bytes, _: date) -> Line:
@@ -291,6 +302,8 @@ class Logs:
             number += last.count(_LINE_END)
         begin, name = digests.size, os.path.basename(file.source.name)
         for lines in self._whole_lines(stream, file.source, digests):
+            if not file.first:  # Its first line has got its end since it was looked at.
+                file.first = _first_of(file.source)
             if file.note:
                 self.notes.append(file.note)
             file.note = ""
@@ -338,8 +351,8 @@ class Logs:
             for marks in _marks(store, self.kind, asked("first", file.first)):
                 new = [mark for mark in marks if mark.size > begins[file.first]]
                 if new and _begins_with(file.source, new):
-                    raise StoreError(f"another program has loaded lines of {file.source.path} "
-                                     "meanwhile: run it again")
+                    raise Overtaken(f"another program has loaded lines of {file.source.path} "
+                                    "meanwhile: run it again")
         return entries
 
 
@@ -347,7 +360,14 @@ def _rotated(source: Input) -> list[Input]:
     """The files that a log may have been rotated to, the oldest first."""
     numbered = re.compile(re.escape(source.path) + r"[.-](?:\d[\d-]*|old)(?:\.(?:gz|xz|bz2))?")
     paths = filter(numbered.fullmatch, glob.glob(glob.escape(source.path) + "[.-]*"))
-    return inputs(sorted(filter(os.path.isfile, paths), key=os.path.getmtime))[0]
+    return inputs(sorted(filter(os.path.isfile, paths), key=_changed))[0]
+
+
+def _changed(path: str) -> float:
+    """When a file was changed last; one that has gone just now is passed over as it is opened."""
+    with suppress(OSError):
+        return os.path.getmtime(path)
+    return 0
 
 
 def _behind_line(stream: Stream, digests: _Digests) -> bytes:

@@ -13,6 +13,7 @@ from .store import Store
 
 _READ, _LOOKED_AT, _SUM_DIGITS = 4_194_304, 1_024, 16
 _BEGIN = b"From "
+_LONGEST_LINE = 65_536  # Bytes of a line that begins a mail.
 _BEHIND = 4  # Bytes before a line `From ` that tell whether it stands behind an empty line.
 _TIME, _YEAR = re.compile(rb" \d\d:\d\d(?::\d\d)? "), re.compile(rb"\d{4}")
 _YEAR_AND_TIME = re.compile(rb" \d{4} \d\d:\d\d")
@@ -57,8 +58,11 @@ class _Box:
         """The mails."""
         while True:
             at = self.data.find(b"\n" + _BEGIN, self._searched)
-            end = self.data.find(b"\n", at + 1) if at >= 0 else -1
-            if end < 0:  # The line `From ` may not be read whole yet.
+            last = at + _LONGEST_LINE
+            end = self.data.find(b"\n", at + 1, last) if at >= 0 else -1
+            if at >= 0 and end < 0 and len(self.data) >= last:
+                self._searched = last
+            elif end < 0:  # The line `From ` may not be read whole yet.
                 if not self._more(at if at >= 0 else len(self.data) - len(_BEGIN)):
                     break
             elif self._begins(at, end):

@@ -65,6 +65,12 @@ def _is_loose(path: str) -> bool:
     return os.path.basename(os.path.dirname(path)) not in FOLDERS
 
 
+def _is_folder(entry: os.DirEntry[str]) -> bool:
+    with suppress(OSError):  # A link that leads to itself is told as no file.
+        return entry.is_dir()
+    return False
+
+
 def _mails_of(folder: str, names: list[str]) -> list[str]:
     """Of the files of a folder those that are mails: all of `cur` and `new`, none of `tmp`, of
     another the numbered files of MH, and those that end with `.eml`."""
@@ -117,23 +123,18 @@ class Maildirs(Named):
         self.readable = len(self.paths)
         count = Counter(map(base_name, self.paths))
         self._twice = {name for name, files in count.items() if files > 1}
-        self._taken: dict[str, list[str]] = {}
+        self._taken: dict[str, set[str]] = {}
         self._replaced: set[int] = set()
 
     def _files(self, top: str) -> Iterator[str]:
         """The files of mails below a folder; of folders that are linked, each once."""
-        top, seen, is_maildir = os.path.abspath(top), set(), False
+        top, is_maildir = os.path.abspath(top), False
         try:
             os.stat(top)
         except OSError as error:
             self.passed.append(f"{top}: {error.strerror}")
             return
-        for folder, below, names in os.walk(top, onerror=self._pass, followlinks=True):
-            known = os.path.realpath(folder)
-            if known in seen:
-                below.clear()
-                continue
-            seen.add(known)
+        for folder, names in self._walked(top):
             is_own = os.path.basename(folder) in FOLDERS
             own = os.path.dirname(folder) if is_own else folder
             self._folders[folder] = (os.path.relpath(own, top) if own != top
@@ -144,6 +145,24 @@ class Maildirs(Named):
         if not is_maildir and not self.passed:
             raise InputRefused(f"no maildir in {top}: neither `cur` nor `new` is there, nor in a "
                                f"folder below, nor numbered files of MH, nor any with {_EML}")
+
+    def _walked(self, top: str) -> Iterator[tuple[str, list[str]]]:
+        """A folder and those below it, however deep, each once, with the names of other files."""
+        waiting, seen = [top], set()
+        while waiting:
+            folder = waiting.pop()
+            try:
+                told = os.stat(folder)
+                with os.scandir(folder) as entries:
+                    is_folder = {one.name: _is_folder(one) for one in entries}
+            except OSError as error:
+                self._pass(error)
+                continue
+            if (told.st_dev, told.st_ino) not in seen:
+                seen.add((told.st_dev, told.st_ino))
+                yield folder, [name for name, is_one in is_folder.items() if not is_one]
+                below = sorted(name for name, is_one in is_folder.items() if is_one)
+                waiting.extend(os.path.join(folder, name) for name in reversed(below))
 
     def _is_mail(self, path: str) -> bool:
         """Whether a file is there; what cannot be looked at is passed over."""
@@ -203,11 +222,11 @@ class Maildirs(Named):
         name = base_name(path)
         if name not in self._twice:
             return False
-        own, before = _sum(path), self._taken.setdefault(name, [])
+        own, before = _sum(path), self._taken.setdefault(name, set())
         if own is None:
             return False
         is_copy = own in before
-        before.append(own)
+        before.add(own)
         return is_copy
 
     def prune(self, store: Store) -> int:

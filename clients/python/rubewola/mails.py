@@ -270,6 +270,7 @@ def entry(kind: str, raw: bytes, names: list[str], asked_by: str, with_parts: bo
             decoding.begin(len(raw), attempt)
             parsed = read_as(raw)
             data, is_cut = document(kind, parsed.text, [*names, *parsed.words], with_parts)
+            decoding.end()
             return Entry(data, asked_by, replaces, is_cut or parsed.cut, parsed.unreadable,
                          parsed.slow, unfiltered=parsed.unfiltered)
     raise MemoryError

@@ -36,9 +36,10 @@ def _lines() -> Iterator[str]:
             readline.set_completer(
                 lambda text, n: [*(word for word in TYPED if word.startswith(text)), None][n])
             readline.parse_and_bind("tab: complete")
-            history = os.path.expanduser(HISTORY)
-            open(history, "a").close()
-            readline.read_history_file(history)
+            path = os.path.expanduser(HISTORY)
+            open(path, "a").close()
+            readline.read_history_file(path)
+            history = path
     try:
         while (line := input("rubewola> ").strip()) != "quit":
             yield line
@@ -46,7 +47,8 @@ def _lines() -> Iterator[str]:
         pass
     finally:
         if history:
-            readline.write_history_file(history)
+            with suppress(OSError):  # What was added is committed all the same.
+                readline.write_history_file(history)
 
 
 def answer(store: Store, line: str) -> str:

@@ -87,7 +87,7 @@ def _has_clock(lines: list[str]) -> bool:
 
 def _of_clock(line: str) -> float:
     """The seconds of a mail's time, whose zone is written as mails write it: `-0600`."""
-    day = _days(line[:10].replace("-", ""))
+    day = _days(line[:4] + line[5:7] + line[8:10])
     hour, minute, second = (int(line[at:at + 2]) for at in _CLOCK[-3:])
     sign, zone = line[20:21], line[21:25]
     east = 0

@@ -62,6 +62,8 @@ def answer(store: Reader, typed: str, tell: Callable[[str], None] = _untold) -> 
     query = read(store, typed)
     try:
         numbers = store.find(query.text)
+    except UnicodeEncodeError:
+        raise QueryRefused("the query is not text: some of it is no UTF-8") from None
     except QueryRefused as refusal:
         told = queries.why(refusal.reason, query.text, refusal.place)
         if refusal.place is not None:

@@ -30,6 +30,8 @@ SHAPES = {
     "references": _filled("&amp;"), "references that do not end": _filled("&a"),
     "numbers of characters": _filled("1", "&#"), "percent signs": _filled("%41"),
     "combining marks": _filled("\u0301", "a"), "marks in two orders": _filled("\u0301\u0323", "a"),
+    "marks and soft hyphens": _filled("\u0301\u0316" * 15 + "\xad", "a"),
+    "marks and joiners": _filled("\u0301\u0316" * 15 + "\u034f", "a"),
     "letters with marks": _filled("a\u0301"), "sharp s": _filled("ß"), "ideographs": _filled("日"),
     "hangul": _filled("\u1100\u1161"), "katakana": _filled("カ"), "Thai": _filled("ก"),
     "signs of loaders": _filled("\u01bb"), "emoji": _filled("\U0001f600"), "NULs": _filled("\0"),

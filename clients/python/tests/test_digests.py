@@ -4,7 +4,7 @@ import random
 import unittest
 import zlib
 
-from rubewola import Store, documents
+from rubewola import Refused, Store, documents, inspecting
 from rubewola.commits import COMMIT
 from rubewola.words import NAMING, SIGN, named
 
@@ -57,6 +57,29 @@ class Digests(unittest.TestCase):
         self.assertEqual(documents.judged(data), documents.SOUND)
 
 
+class Asked(unittest.TestCase):
+    """How many documents a check asks for."""
+
+    def test_a_store_of_which_much_is_damaged(self):
+        class Damaged:
+            """A store of which the first few of each thousand documents are refused."""
+            asked = 0
+
+            def ask_all(self, commands):
+                commands = [*commands]
+                self.asked += len(commands)
+                for command in commands:
+                    if int(command.split()[1]) % 1_000 < bad:
+                        raise Refused("damaged")
+                    yield "text "
+        for bad in (1_000, 1, 0):
+            store = Damaged()
+            replies = [*inspecting._replies(store, [*range(1, 3_001)])]
+            self.assertEqual([number for number, _ in replies], [*range(1, 3_001)])
+            self.assertEqual(sum(not reply for _, reply in replies), bad * 3)
+            self.assertLessEqual(store.asked, 9_000)
+
+
 class Checks(Stores):
     """Stores of which a hand has changed a byte."""
 
@@ -83,6 +106,13 @@ class Checks(Stores):
         self.loaded(1, "load-mbox", self.write("box", mbox(mail("eins\nzwei"))))
         self.change(b"eins\vzwei", b"eins\nzwei")
         self.run_line(rf"\Arubewola: 1: {documents.OTHER}\n\Z", "check", status=1)
+
+    def test_a_text_that_is_none_any_more(self):
+        self.loaded(2, "load-mbox", self.write("box", mbox(mail("eins, zwei"), mail("drei"))))
+        self.change(b"eins, zwei", b"eins\xff zwei")
+        ran = self.run_line("1: .*damaged", "show", "1", "2", "9", status=2)
+        self.assertIn("drei", ran.stdout)
+        self.assertIn("9: no such document", ran.stderr)
 
     def test_a_word_and_a_comma(self):
         self.loaded(1, "load-mbox", self.write("box", mbox(mail("eins, zwei"))))

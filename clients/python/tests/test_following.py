@@ -1,14 +1,20 @@
 """Loads that go on as files grow."""
 
+import io
 import json
 import os
 import signal
 import subprocess
 import time
 import unittest
+from contextlib import redirect_stderr
+from unittest import mock
 
-from rubewola import Store
+from rubewola import InUse, Store, following, loading
+from rubewola.commands import COMMANDS, Given
+from rubewola.errors import Overtaken
 from rubewola.following import _signs
+from rubewola.logs import Logs
 
 from support import LONG, RUBEWOLA, Stores, mail
 
@@ -93,6 +99,32 @@ class Following(Stores):
         loader.communicate()
         self.assertEqual(loader.returncode, 0)
         self.assert_found({"w1 OR w2 OR w3": [1, 2, 3]})
+
+    def test_a_line_of_any_length_at_standard_input(self):
+        held = following._Held()
+        with mock.patch.object(following, "LONGEST_OBJECT", 1_000):
+            for _ in range(99):
+                held.put(b"x" * 500)
+                self.assertLess(held.size, 2_000)
+            self.assertFalse(held.has_end)
+            held.put(b"y\nne")
+            self.assertTrue(held.has_end)
+            self.assertRegex(b"".join(held.taken(False)), rb"\Ax{1000,2000}y\n\Z")
+            held.put(b"u")
+            self.assertEqual((held.has_end, held.size), (False, 3))
+            self.assertEqual((b"".join(held.taken(True)), held.size), (b"neu", 0))
+
+    def test_what_is_in_the_way_is_tried_again(self):
+        log = self.write("log", "eins\n")
+        given = Given(COMMANDS["load-log"], ["--follow", str(self.store), str(log)])
+        for error in (InUse(), Overtaken("meanwhile"), FileNotFoundError(2, "gone", "log")):
+            done = [(Logs(str(log)), loading.Loaded(1)), error, KeyboardInterrupt]
+            with mock.patch.object(loading, "once", side_effect=done) as once, \
+                    mock.patch.object(following, "_signs", side_effect=[1, 2, 2, 2, 2]), \
+                    mock.patch.object(time, "sleep"), redirect_stderr(io.StringIO()):
+                # What is tried no more comes to the end of the signs.
+                self.assertRaises(KeyboardInterrupt, following.follow, given)
+            self.assertEqual(once.call_count, 3)
 
     def test_what_cannot_be_followed(self):
         self.run_line("--follow wants files", "load-log", "--follow", "-", status=2)

@@ -2,10 +2,12 @@
 
 import gzip
 import os
+import resource
 import signal
 import stat
 import subprocess
 import unittest
+from datetime import date
 from functools import partial
 from unittest import mock
 
@@ -56,6 +58,25 @@ class Limits(Stores):
                 mock.patch.object(decoding, "MEMORY", 100_000_000):
             done = loading.load(str(self.store), mailboxes.Mailboxes(str(self.box())), jobs=2)
         self.assertEqual(str(done), "3 documents (1 slow)")
+
+    def test_the_memory_of_a_load_that_starts_no_process(self):
+        def read(raw, whole=mime.read):
+            held = []
+            while b"zaeh" in raw and len(held) < 400:
+                held.append(b"%09d" % len(held) * 100_000)
+            return whole(raw)
+        before = resource.getrlimit(resource.RLIMIT_AS)
+        with mock.patch.object(mails, "read", read), \
+                mock.patch.object(decoding, "MEMORY", 100_000_000):
+            done = loading.load(str(self.store), mailboxes.Mailboxes(str(self.box())), jobs=1)
+        self.assertEqual(str(done), "3 documents (1 slow)")
+        self.assertEqual(resource.getrlimit(resource.RLIMIT_AS), before)
+
+    def test_what_is_between_two_documents_takes_no_time_of_theirs(self):
+        mails.entry("mbox", mail("eins").encode(), [], "x")
+        self.assertEqual(decoding._CLOCK.left, float("inf"))
+        logs.entry("log", b"eins", logs._parsed, date.max, [], "x", True)
+        self.assertEqual(decoding._CLOCK.left, float("inf"))
 
     def ended(self, read, jobs=2):
         """What a load did of a box, each mail by itself, whose processes may be ended."""
@@ -267,6 +288,17 @@ class Lines(Stores):
             told = other.stderr.read().decode()
         self.assertIn("not committed, and so lost: 1 added and 1 deleted documents", told)
 
+    def test_a_home_that_cannot_be_written(self):
+        terminal, other = os.openpty()
+        with subprocess.Popen([*RUBEWOLA, "shell", self.store], stdin=other, stdout=subprocess.DEVNULL,
+                              stderr=subprocess.PIPE, env={**os.environ, "HOME": "/proc/none"}) as ran:
+            os.close(other)
+            os.write(terminal, b"add eins\nquit\n")
+            told = ran.stderr.read().decode()
+        os.close(terminal)
+        self.assertEqual((ran.returncode, told), (0, ""))
+        self.assert_found({"eins": [1]})
+
     def test_numbers_of_thousands_of_digits(self):
         nines = "9" * 5_000
         for words in (["search", "--limit", nines, "x"], ["show", nines], ["show", "99999999999"],
@@ -303,7 +335,8 @@ class Lines(Stores):
                             ('a "b', "nothing closes this quotation mark"),
                             ("(" * 65 + "a", "64 brackets"), ("a " * 2_100, "4,096 bytes"),
                             ("x" * 100_000, "4,096 bytes|query too long"),
-                            ("from:ada )", "a closing bracket without")):
+                            ("from:ada )", "a closing bracket without"),
+                            ("w\udcff", "rubewola: the query is not text")):
             self.run_line(told, "search", "--", query, status=2)
 
 

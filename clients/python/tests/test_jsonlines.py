@@ -1,7 +1,9 @@
 """Lines of JSON and journals."""
 
 import json
+from unittest import mock
 
+from rubewola import jsonlines
 from rubewola.jsonlines import JsonLines
 from rubewola.words import field_name
 
@@ -58,6 +60,21 @@ class Json(Stores):
         self.run_line(r"loaded 5 documents \(3 unreadable\)", "load-json", log)
         self.assert_found({"a:eins": [1], "kaputt": [2]})
 
+    def test_halves_of_pairs(self):
+        log = self.write("log", b'{"id": "\\ud800", "path": "a\\udfff"}\n{"id": "b", "x": 1e999}\n')
+        self.run_line(r"^loaded 2 documents in", "load-json", log)
+        self.assert_found({"id:b": [2]})
+
+    def test_a_line_that_ends_its_reader(self):
+        def as_text(value, whole=jsonlines._as_text):
+            if "zwei" in value:
+                raise KeyError(value)
+            return whole(value)
+        log = self.write("log", b'{"eins": 1}\n{"zwei": 2}\n{"drei": 3}\n')
+        with mock.patch.object(jsonlines, "_as_text", as_text):
+            self.run_line(r"^loaded 3 documents \(1 unreadable\)", "load-json", log)
+        self.assert_found({"drei:3": [3], "zwei": [2], '"not read" KeyError': [2]})
+
     def test_what_is_no_json(self):
         for data in (b"Nov 26 11:15:56 host x\n", b'[{"a": 1},\n', b'"text"\n'):
             self.run_line("no lines of JSON", "load-json", self.write("log", data), status=2)
@@ -86,6 +103,11 @@ class Journals(Stores):
         for taken, new in [(lines[1:3], 2), (lines[:4], 2), (lines[4:], 1), (lines, 0)]:
             self.loaded(new, "load-journal", self.write("j", b"".join(taken)))
         self.assert_found({"login": [3], "hé": [1], "date:2010-05": [1, 3, 4, 5], "new": [5]})
+
+    def test_bytes_that_are_none(self):
+        lines = [ENTRY % numbered for numbered in enumerate((b"[1e999]", b"[NaN]", b"[-1]", b'"wort"'))]
+        self.loaded(4, "load-journal", self.write("j", b"".join(lines)))
+        self.assert_found({"wort": [4], "date:2010": [1, 2, 3, 4]})
 
     def test_two_journals_and_standard_input(self):
         one, two = (self.write(name, ENTRY % (number, b'"gleich"')) for number, name in

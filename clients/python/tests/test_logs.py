@@ -12,7 +12,7 @@ from datetime import date
 from pathlib import Path
 from unittest import mock
 
-from rubewola import commits, logs, stamps, store
+from rubewola import commits, loading, logs, stamps, store
 from rubewola.store import Store
 
 from support import Stores
@@ -58,6 +58,17 @@ class Logs(Stores):
         self.loaded(0, "load-log", self.log)
         self.append("ns\n")
         self.loaded(1, "load-log", self.log)
+
+    def test_a_first_line_that_comes_as_it_is_loaded(self):
+        self.append("")
+        source = logs.Logs(str(self.log))
+
+        def begin(known, whole=source.begin):
+            whole(known)
+            self.append("eins\nzwei\n")
+        with mock.patch.object(source, "begin", begin):
+            self.assertEqual(loading.load(str(self.store), source, jobs=1).documents, 2)
+        self.loaded(0, "load-log", self.log)
 
     def test_rotation_is_followed(self):
         self.append("a1\na2\n")
@@ -180,6 +191,7 @@ class Logs(Stores):
                 ("x.tar", b"\0" * 257 + b"ustar" + b"\0" * 300, "an archive"),
                 ("x.zst", b"\x28\xb5\x2f\xfdxyz", "packed by zstd"),
                 ("x.zip", b"PK\x03\x04xyz", "a zip archive"),
+                ("x", b"\xa7" + b"\0" * 1_023 + b"PKSRCH02" + b"\0" * 99, "a store"),
                 ("x.journal", b"LPKSHHRH", "journalctl -o json"),
                 ("x.txt", "\ufefftext\n".encode("utf-16"), "UTF-16"),
                 ("x.bin", random.Random(1).randbytes(9_999), "no text")]:

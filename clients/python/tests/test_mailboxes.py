@@ -7,7 +7,9 @@ import lzma
 import mailbox
 import random
 from pathlib import Path
+from unittest import mock
 
+from rubewola import mailboxes
 from rubewola.mailboxes import boxed
 
 from support import Stores, mail, mbox
@@ -36,6 +38,21 @@ class Boxes(Stores):
                 ("body OR naïf --limit 1", 0, r"4: .*\n"), ("naïf", 0, r"3:   Bo   \[2J  3\n"),
                 ("NOT large --count", 0, "5\n"), ("green --count", 1, "0\n"), ("green", 1, "")]:
             self.run_line(rf"^{told}\Z", "search", *line.split(), status=status)
+
+    def test_a_line_from_that_has_no_end(self):
+        class Stream(io.BytesIO):
+            """What is read, and how much is held of it."""
+            held = 0
+
+            def read(self, size):
+                self.held = max(self.held, len(box.data)) if self.tell() else 0
+                return super().read(size)
+        stream = Stream(b"From x 00:00 2010\nx\n\nFrom " + b"x" * 9_000_000 + b"\n")
+        with mock.patch.object(mailboxes, "_READ", 4_096), \
+                mock.patch.object(mailboxes, "LONGEST_MAIL", 100_000):
+            box = mailboxes._Box(stream)
+            self.assertEqual([raw[:8] for raw in box.mails()], [b"x\n\nFrom "])
+        self.assertLess(stream.held, 1_000_000)
 
     def test_mails_in_any_order_and_from_any_box(self):
         mails = [mail(f"wort{number}", Message_ID=f"<{number}@x>") for number in range(9)]

@@ -4,7 +4,9 @@ import json
 import os
 import random
 import shutil
+import subprocess
 import unittest
+from pathlib import Path
 from unittest import mock
 
 from rubewola import loading, maildirs, places
@@ -159,6 +161,21 @@ class Maildirs(Stores):
         self.run_line("No such file", "load-maildir", self.folder / "none", status=2)
         self.run_line("Not a directory", "load-maildir", self.folder / "mh/brief", status=2)
         self.assertFalse(self.store.exists())
+
+    def test_folders_in_one_another(self):
+        self.deliver("1000.a.h", "eins")
+        deep = str(self.top)
+        for _ in range(1_100):  # More than functions of Python may call one another.
+            deep += "/d"
+            os.mkdir(deep)
+        self.addCleanup(subprocess.run, ["rm", "-rf", self.top], check=True)
+        os.mkdir(f"{deep}/cur")
+        Path(f"{deep}/cur/1001.a.h").write_text(mail("zwei"))
+        os.symlink(self.top, self.top / "again")
+        os.symlink("self", self.top / "new/self")
+        self.run_line(r"(?m)new/self: Too many levels(?s:.*)^loaded 2 documents \(1 not readable\)",
+                      "load-maildir", self.top)
+        self.assert_found({"eins": [1], "zwei": [2]})
 
     def test_an_empty_maildir(self):
         (self.top / "new").mkdir(parents=True)

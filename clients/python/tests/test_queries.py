@@ -79,6 +79,7 @@ class Fields(unittest.TestCase):
     def test_what_no_text_may_write(self):
         self.assertEqual(read(f"{SIGN}from_ada {NAMING}id_x"), "$\u200bfrom_ada $\u200b$\u200bid_x")
         self.assertEqual(read("cafe\u0301 un\xadseen"), "café unseen")
+        self.assertEqual(read("cafe\xad\u0301 a\xad\u200d"), "café a")
         self.assertEqual(read(f"{SIGN}* {NAMING}-* {SIGN}a* x{SIGN}*"),
                          "$\u200b $\u200b$\u200b $\u200ba* x$\u200b*")
         self.assertEqual(read(f'"{SIGN}from_ada"'), '"$\u200bfrom_ada"')

@@ -74,6 +74,7 @@ class Shapes(unittest.TestCase):
     def test_json(self):
         values = {"values": '{"a":[' + "1," * 499_000 + "1]}", "digits": f'{{"a":{"1" * 999_000}}}',
                   "names": "{" + "".join(f'"a{at}":1,' for at in range(90_000)) + '"b":1}',
+                  "long names": f'{{"{"k" * 500_000}":[{"1," * 240_000}1]}}',
                   "values in one another": '{"a":' * 30 + "[" * 400_000, "braces": '{"a":' * 190_000}
         for name, value in values.items():
             self.assert_quick(by_json, value.encode(), name)

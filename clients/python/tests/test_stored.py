@@ -24,7 +24,7 @@ PIECES = [
     f" {SIGN}23", f" {SIGN}20100514 {SIGN}99", "23:5", "23:59:5x", "99:99:99", " !#$%&()*",
     f" {NAMING}first_x", f" {NAMING}file_x", f" {NAMING}sum_x", f" {NAMING}name__ZZ",
     "2010-05-14 23:30:00 +0000", "2010-05-14 23:30:00 -9x00", "9999-99-99 99:99:99 +9999",
-    "2010-05", "\v\v\v\v\v\v", "[cut]", "\v[cut]", "<", '"', "((((((", "\\", "\\n", "\0", "\ufffd",
+    "2010x05x14 23:30:00", "2010-05", "\v\v\v\v\v\v", "[cut]", "\v[cut]", "<", '"', "((((((", "\\", "\\n", "\0", "\ufffd",
     "\u202e", "\u0301", "<b@x>", "Ada <a@x>", "\x1b[31m", "\r", "é", "\U0010ffff", "id_x path_y",
 ]
 
@@ -38,6 +38,7 @@ class Shapes(Stores):
         texts = ["".join(self.draw.choices(PIECES, k=self.draw.randint(0, 14)))
                  for _ in range(TEXTS)]
         texts.append(f"{'(' * 3_000}\v\v\v\v2010-05-14\v\v\vwort\v\x1d{SIGN}mbox {SIGN}20100514")
+        texts.append(f"a\v\v\v\v2010x05x14 23:30:00\v\v\vwort\v\x1d{SIGN}mbox {SIGN}20100514")
         texts.append("\U0001f600" * 262_000 + f"\v[cut]\v\x1d{SIGN}mbox {SIGN}20100514")
         self.fill(texts)
 
