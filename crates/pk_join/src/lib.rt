@@ -34,16 +34,17 @@
 //! `Damaged` is a segment that is none, or numbers that don't rise, or are more than there is room
 //! for; `Disk` is answered exactly where a read failed, and then nothing of that input is held; and
 //! `Memory` where memory was refused, by `read_lists`, `Input::new`, `Walk::new` and `Ahead::new`
-//! alone. The disk is only read.
+//! alone. The disk is only read. Whatever the bytes are, the words of an input of kind 2 are all
+//! that its dictionary says, and no word is passed whose list goes past the segment.
 //!
 //! Where the words are: `specs/Ahead` says what is held of an extent, `specs/Inputs` has what
 //! inputs spell, `specs/Words` how words lie end to end, `specs/Ends` where they end and
 //! `specs/Places` where their lists lie, `specs/Listed` what the words and lists of an input are,
-//! `specs/Marks` what the marks of deleted numbers say, `specs/Joining` what is joined,
-//! `specs/Keys` the keys of words, `specs/Walking` the words side by side, `specs/Noted` which
-//! inputs have the least of them, `specs/WalkInput` the inputs of a walk, `specs/Walk` where it has
-//! come. Lemma pages: `TermWalkLemmas` on the walk, whose words are the terms of the documents that
-//! are left; `JoinLemmas` on one word's list.
+//! `specs/Said` what any bytes say they are, `specs/Marks` what the marks of deleted numbers say,
+//! `specs/Joining` what is joined, `specs/Keys` the keys of words, `specs/Walking` the words side
+//! by side, `specs/Noted` which inputs have the least of them, `specs/WalkInput` the inputs of a
+//! walk, `specs/Walk` where it has come. Lemma pages: `TermWalkLemmas` on the walk, whose words are
+//! the terms of the documents that are left; `JoinLemmas` on one word's list.
 #![tactic(auto)]
 
 mod ahead;

@@ -12,5 +12,6 @@ pub mod Planned
 pub mod Output
 pub mod Prepared
 pub mod ReadAll
+pub mod Said
 pub mod Spans
 pub mod Streaming

@@ -13,6 +13,7 @@ ghost use Rattle.pk_merge.specs.Left.{kept_in};
 ghost use Rattle.pk_merge.specs.Lists.{AreOfInputs};
 ghost use Rattle.pk_merge.specs.Merging.{CountsMerge};
 ghost use Rattle.pk_merge.specs.Prepared.{IsReady, PreparesAs, PreparesOneAs};
+ghost use Rattle.pk_merge.specs.Said.{NameWithin};
 ghost use Rattle.pk_model.specs.Collection.{numbers_of};
 ghost use Rattle.pk_model.specs.Terms.{terms_of};
 ghost use Rattle.pk_segment.specs.OnlyRead.{ReadsDisk};
@@ -108,7 +109,8 @@ fn prepare_left<D: Disk>(
 ///
 /// Answers `TooLarge` exactly where the segment would be too long, `Damaged` where an input is no
 /// segment or the numbers don't rise, `Disk` where a read failed, or `Memory`. Whatever the bytes
-/// are, of the documents that their headers say no more are left out than the lists have numbers.
+/// are, of the documents that their headers say no more are left out than the lists have numbers,
+/// and where any are left, the posting list of each word that a dictionary says lies in its extent.
 pub fn prepare<D: Disk>(
     alloc: Global,
     disk: &mut D,
@@ -122,6 +124,7 @@ pub fn prepare<D: Disk>(
         → PreparesAs (D.content disk.old) inputs.now stored result }
     ensures ready { IsReady (length (D.content disk.old)) inputs.now result }
     ensures enough { D.honest → LeavesEnough (D.content disk.old) inputs.now result }
+    ensures inside { D.honest → NameWithin (D.content disk.old) inputs.now result }
     ensures left { ReadsDisk D.Disk CountsMerge result disk.old disk.new }
 {
     let (read, left) = read_all(alloc, disk, inputs)?;

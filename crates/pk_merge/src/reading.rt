@@ -17,7 +17,8 @@ ghost use Rattle.std.specs.Prelude.{
 ghost use Rattle.std.specs.List.Sorted.{IsStrictlyIncreasing};
 ghost use Rattle.pk_disk.specs.Units.{extent_bytes, start_of};
 ghost use Rattle.pk_join.specs.Inputs.{HasKind, LiesInside, SpellsInputs};
-ghost use Rattle.pk_join.specs.WalkInput.{HaveExtentsOf, IsBefore};
+ghost use Rattle.pk_join.specs.Said.{AreSaidIn};
+ghost use Rattle.pk_join.specs.WalkInput.{HaveExtentsOf, IsBefore, lists_of};
 ghost use Rattle.pk_merge.specs.Counting.{count_said, counts_said, numbers_listed};
 ghost use Rattle.pk_merge.specs.Gathering.{RiseFrom};
 ghost use Rattle.pk_merge.specs.Inputs.{ReadsAs};
@@ -25,6 +26,7 @@ ghost use Rattle.pk_merge.specs.Keeping.{AreKept, KeepsBetween, StayApart};
 ghost use Rattle.pk_merge.specs.Left.{kept_in};
 ghost use Rattle.pk_merge.specs.Merging.{CountsMerge};
 ghost use Rattle.pk_merge.specs.ReadAll.{ReadsAllAs};
+ghost use Rattle.pk_merge.specs.Said.{AreAllSaid};
 ghost use Rattle.pk_model.specs.Collection.{Doc, numbers_of};
 ghost use Rattle.pk_segment.specs.OnlyRead.{ReadsDisk, ReadsSource};
 ghost use Rattle.pk_segment.specs.Spelling.{SegmentSpells};
@@ -60,6 +62,7 @@ fn read_from<S: ByteSource>(
     ensures enough { S.honest → OnOk result
         (count_said (S.content source.old) + length (kept_in left.old)
         ≤ length (kept_in left.new) + length input.now.dead.now) }
+    ensures said { S.honest → IfOk result (AreSaidIn (S.content source.old) input.now.kind) }
     ensures disk_bytes { left.new.disk_bytes ≡ left.old.disk_bytes }
     ensures left { ReadsSource S.ByteSource CountsMerge result source.old source.new }
 {
@@ -103,6 +106,8 @@ pub(crate) fn read_input<D: Disk>(
     ensures enough { D.honest → OnOk result
         (count_said (extent_bytes (D.content disk.old) input.now.extent)
         + length (kept_in left.old) ≤ length (kept_in left.new) + length input.now.dead.now) }
+    ensures said { D.honest → IfOk result
+        (AreSaidIn (extent_bytes (D.content disk.old) input.now.extent) input.now.kind) }
     ensures disk_bytes { left.new.disk_bytes ≡ left.old.disk_bytes }
     ensures left { ReadsDisk D.Disk CountsMerge result disk.old disk.new }
 {
@@ -127,6 +132,8 @@ pub(crate) fn read_all<D: Disk>(
     ensures apart { IfOk result (λ r. StayApart inputs.now (kept_in r.1)) }
     ensures enough { D.honest → IfOk result (λ r. counts_said (D.content disk.old) inputs.now
         ≤ length (kept_in r.1) + numbers_listed inputs.now) }
+    ensures said { D.honest → IfOk result
+        (λ r. AreAllSaid (D.content disk.old) inputs.now (lists_of r.0.items)) }
     ensures extents { IfOk result (λ r. HaveExtentsOf inputs.now r.0.items) }
     ensures before { IfOk result (λ r. All IsBefore r.0.items) }
     ensures disk_bytes { IfOk result (λ r. r.1.disk_bytes ≡ length (D.content disk.old)) }

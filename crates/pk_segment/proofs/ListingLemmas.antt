@@ -20,6 +20,7 @@ use Rattle.pk_segment.specs.Fields.{IsHeader, header_field}
 use Rattle.pk_segment.specs.Indexed.{dictionary, items_of, list_with, postings}
 use Rattle.pk_segment.specs.Listing.{IsEntryFor, LeadsTo, dictionary_place, postings_at, read_entries}
 use Rattle.pk_segment.specs.Reading.{IsNoDamage}
+use Rattle.pk_segment.specs.Said.{dictionary_said}
 use Rattle.pk_segment.specs.Spelling.{IndexSpells, SegmentSpells}
 use Rattle.pk_segment.proofs.DirectoryLemmas.{directory_of, header_in}
 use Rattle.pk_segment.proofs.IndexLemmas.{dictionary_spells, items_count, leads, list_posting}
@@ -85,15 +86,25 @@ list_there bytes docs word e is leads = (
       ∙ leads.list,
 )
 
+-- places whose parts are the same
+abbrev place : ℕ → ℕ → ℕ → DictPlace
+place at bytes terms = record { at = at; bytes = bytes; terms = terms }
+
+place_same : (a b : DictPlace) → a.at ≡ b.at → a.bytes ≡ b.bytes → a.terms ≡ b.terms → a ≡ b
+place_same a b at bytes terms =
+    ap (λ (n : ℕ). place n a.bytes a.terms) at ∙ ap (λ (n : ℕ). place b.at n a.terms) bytes ∙ ap (place b.at b.bytes) terms
+
 -- so the place that was read is the dictionary's
 pub place_is : (docs : List Doc) (h : Header) (at : ℕ) → Says docs h → at ≡ postings_at docs + length (postings docs)
     → record { at = at; bytes = h.dictionary; terms = h.terms } ≡ dictionary_place docs
 place_is docs h at read start =
-    ap (λ (n : ℕ). place n h.dictionary h.terms) start ∙ ap (λ (n : ℕ). place (postings_at docs + length (postings docs)) n h.terms) read.dictionary_is
-    ∙ ap (place (postings_at docs + length (postings docs)) (length (dictionary docs))) read.terms_is
-  where
-    place : ℕ → ℕ → ℕ → DictPlace
-    place at bytes terms = record { at = at; bytes = bytes; terms = terms }
+    place_same (place at h.dictionary h.terms) (dictionary_place docs) start read.dictionary_is read.terms_is
+
+-- and the one that the header says, whatever the bytes are
+pub place_said : (lists : ℕ) (bytes : List ℕ) (h : Header) (at : ℕ) → IsHeader (header_field bytes) h → at ≡ lists + h.postings
+    → record { at = at; bytes = h.dictionary; terms = h.terms } ≡ dictionary_said lists bytes
+place_said lists bytes h at read start =
+    place_same (place at h.dictionary h.terms) (dictionary_said lists bytes) (omega (arith, start, read.postings_is)) read.dictionary_is read.terms_is
 
 -- THE DICTIONARY at a place that was read: it is there, and says the items
 pub record IsThere (bytes : List ℕ) (docs : List Doc) (place : DictPlace) : Type 0 where

@@ -7,4 +7,5 @@ pub mod OnlyRead
 pub mod Opened
 pub mod Planning
 pub mod Reading
+pub mod Said
 pub mod Spelling

@@ -1,6 +1,7 @@
 //! What a segment of kind 2 says of its words: the dictionary, and where the posting lists are.
 
-ghost use Rattle.std.specs.Prelude.{◌≤◌, ◌+◌, ◌*◌, List, length};
+ghost use Rattle.std.specs.Prelude.{◌≡◌, ◌≤◌, ◌+◌, ◌*◌, [], List, length, Ok, IfOk};
+ghost use Rattle.pk_dict.specs.Entries.{items_from};
 ghost use Rattle.pk_model.specs.Collection.{Doc};
 ghost use Rattle.pk_posting.specs.Source.{IsRead};
 ghost use Rattle.pk_posting.specs.Limits.{asks_for};
@@ -8,6 +9,7 @@ ghost use Rattle.pk_segment.specs.Listing.{BegunAs, ListedAs, PlacedAs, TermsAs}
 ghost use Rattle.pk_segment.specs.OnlyRead.{ReadsSource};
 ghost use Rattle.pk_segment.specs.Opened.{IsSegmentOf};
 ghost use Rattle.pk_segment.specs.Reading.{CountsReads};
+ghost use Rattle.pk_segment.specs.Said.{dictionary_said, entries_said, lists_from};
 ghost use Rattle.pk_segment.specs.Spelling.{IndexSpells};
 
 use crate::fault::ReadFault;
@@ -22,6 +24,8 @@ impl Segment {
     pub fn dictionary<S: ByteSource>(&self, source: &mut S) -> Result<DictPlace, SourceFault>
         ensures place { S.honest → (docs : List Doc) → IndexSpells (S.content source.old) docs
             → IsSegmentOf self.now docs → PlacedAs docs result }
+        ensures said { S.honest → IfOk result
+            (λ place. place ≡ dictionary_said (lists_from self.now) (S.content source.old)) }
         ensures left { IsRead S.honest S.content S.asked S.failures S.keeps
             1 result source.old source.new }
     {
@@ -60,7 +64,8 @@ impl Segment {
     }
 
     /// All words of a segment of kind 2, rising by their bytes, each with its entry. It reads the
-    /// header and the dictionary, whatever the texts are.
+    /// header and the dictionary, whatever the texts are. What it answers is all that their bytes
+    /// say, also where they are those of no segment.
     pub fn terms<S: ByteSource>(
         &self,
         alloc: Global,
@@ -68,6 +73,8 @@ impl Segment {
     ) -> Result<Vec<(Vec<u8>, Entry)>, ReadFault>
         ensures terms { S.honest → (docs : List Doc) → IndexSpells (S.content source.old) docs
             → IsSegmentOf self.now docs → TermsAs docs result }
+        ensures said { S.honest → IfOk result (λ terms. entries_said (lists_from self.now)
+            (S.content source.old) [] ≡ Ok (items_from terms.items)) }
         ensures left { ReadsSource S.ByteSource CountsReads result source.old source.new }
     {
         self.entries_of(alloc, source, &[])
@@ -84,6 +91,8 @@ impl Segment {
     ) -> Result<Vec<(Vec<u8>, Entry)>, ReadFault>
         ensures entries { S.honest → (docs : List Doc) → IndexSpells (S.content source.old) docs
             → IsSegmentOf self.now docs → BegunAs docs prefix.now result }
+        ensures said { S.honest → IfOk result (λ entries. entries_said (lists_from self.now)
+            (S.content source.old) prefix.now ≡ Ok (items_from entries.items)) }
         ensures left { ReadsSource S.ByteSource CountsReads result source.old source.new }
     {
         let place = self.dictionary(source)?;

@@ -27,6 +27,8 @@ ghost use Rattle.pk_merge.specs.Choosing.{ChoosesAs};
 ghost use Rattle.pk_state.specs.Writing.{sizes_of};
 ghost use Rattle.pk_store.specs.Ways.{MergesAllAs};
 ghost use Rattle.pk_store.specs.Losing.{LosesNone};
+ghost use Rattle.pk_store.specs.Within.{AreWithin, InputsWithin};
+ghost use Rattle.pk_layout.specs.Merging.{run_of};
 ghost use Rattle.pk_store.specs.Merging.{AreInputsOf, MergesRun, PlansRun};
 ghost use Rattle.pk_layout.specs.Plan.{AreNext, GoesOn, IsPlan, LeavesRoom, PlansAs};
 ghost use Rattle.pk_layout.specs.Plan.{PromisesTable};
@@ -359,6 +361,9 @@ impl<D: Disk> Volume<D> {
         ensures plan { PlansRun D.Disk self.old from count inputs.now result self.new }
         // Whatever was read, no document is lost.
         ensures kept { IfOk result (λ r. LosesNone self.old.opened r.merge.plan.opened.items) }
+        // And where a document is left, no list goes past its segment.
+        ensures inside { D.honest → OnOk result (InputsWithin (D.content self.old.disk) inputs.now
+            (run_of from count self.old.opened)) }
     {
         let prepared = match prepare(alloc, &mut self.disk, inputs) {
             Ok(prepared) => prepared,
@@ -388,6 +393,8 @@ impl<D: Disk> Volume<D> {
         requires run { AreInputsOf self.old.body.entries self.old.opened from count inputs.now }
         ensures run { MergesRun D.Disk self.old from count result self.new }
         ensures kept { OnOk result (LosesNone self.old.opened self.new.opened) }
+        ensures inside { D.honest → OnOk result (InputsWithin (D.content self.old.disk) inputs.now
+            (run_of from count self.old.opened)) }
     {
         let RunPlan { merge, prepared } = self.plan_run(alloc, from, count, inputs)?;
         let MergePlan {
@@ -432,6 +439,8 @@ impl<D: Disk> Volume<D> {
         requires within { from + count ≤ length self.old.body.entries }
         ensures run { MergesRun D.Disk self.old from count result self.new }
         ensures kept { OnOk result (LosesNone self.old.opened self.new.opened) }
+        ensures inside { D.honest → OnOk result (AreWithin (D.content self.old.disk)
+            (run_of from count self.old.body.entries) (run_of from count self.old.opened)) }
     {
         // The inputs borrow their deletion lists, and the volume's own are going to change.
         let run = copy_of(alloc, &self.opened[from..from + count])?;

@@ -1,5 +1,5 @@
 -- The inputs of a merge, one for each entry and its open segment.
-use Rattle.std.proofs.Common.{◌≡◌, ℕ, ◌+◌, ◌<◌, ◌++◌, List, [], ◌∷◌, get_or, length, min, take, sym, ◌∙◌, subst, arith}
+use Rattle.std.proofs.Common.{◌≡◌, ℕ, ◌+◌, ◌<◌, ◌++◌, List, [], ◌∷◌, get_or, length, min, take, ap, sym, ◌∙◌, subst, arith}
 use Rattle.std.proofs.lemmas.List.{take_all, take_more}
 use Rattle.pk_disk.specs.declared.units.Extent.{Extent}
 use Rattle.pk_disk.specs.Units.{extent_bytes}
@@ -13,6 +13,7 @@ use Rattle.pk_segment.specs.Spelling.{IsKind, SegmentSpells}
 use Rattle.pk_state.specs.Committed.{Stored}
 use Rattle.pk_state.specs.Holds.{SpellsEntries}
 use Rattle.pk_state.specs.Kept.{HaveKinds}
+use Rattle.pk_tidy.specs.Of.{AreOf}
 
 pub inputs_push : (bytes : List ℕ) (is : List MergeInput) (ss : List Stored) (i : MergeInput) (s : Stored) → SpellsInputs bytes is ss → SpellsInput bytes i s → SpellsInputs bytes (is ++ i ∷ []) (ss ++ s ∷ [])
 inputs_push bytes [] [] i s so_far is = (is, tt)
@@ -41,3 +42,17 @@ pub inputs_all : (bytes : List ℕ) (es : List Entry) (os : List OpenSegment) (s
     → SpellsInputs bytes is (take n stored) → SpellsInputs bytes is stored
 inputs_all bytes es os stored n is spells are ends so_far =
     subst (SpellsInputs bytes is) (take_all n stored (omega (arith, ends, entries_long bytes es stored spells, opened_long os stored are))) so_far
+
+-- ---- each input is of the entry at its place
+
+of_push : (is : List MergeInput) (es : List Entry) (i : MergeInput) (e : Entry) → AreOf is es → i.extent ≡ e.extent → i.kind ≡ e.kind → AreOf (is ++ i ∷ []) (es ++ e ∷ [])
+of_push [] [] i e so_far extent kind = (extent, kind, tt)
+of_push [] (f ∷ es) i e so_far extent kind = absurd so_far
+of_push (j ∷ is) [] i e so_far extent kind = absurd so_far
+of_push (j ∷ is) (f ∷ es) i e so_far extent kind = (so_far.0, so_far.1, of_push is es i e so_far.2 extent kind)
+
+pub of_more : (es : List Entry) (n : ℕ) (e : Entry) (is now : List MergeInput) (i : MergeInput) (m : ℕ) → n < length es → e ≡ get_or es n e → now ≡ is ++ i ∷ [] → m ≡ n + 1 → i.extent ≡ e.extent → i.kind ≡ e.kind
+    → AreOf is (take n es) → AreOf now (take m es)
+of_more es n e is now i m lt at pushed next extent kind so_far =
+    let more : take m es ≡ take n es ++ e ∷ [] = ap (λ k. take k es) next ∙ take_more es n e lt ∙ ap (λ (x : Entry). take n es ++ x ∷ []) (sym at) in
+    subst (λ (js : List MergeInput). AreOf js (take m es)) (sym pushed) (subst (AreOf (is ++ i ∷ [])) (sym more) (of_push is (take n es) i e so_far extent kind))

@@ -1,5 +1,5 @@
 //! What a merge of a run of segments reads.
-ghost use Rattle.std.specs.Prelude.{List, ℕ, All, IfOk};
+ghost use Rattle.std.specs.Prelude.{◌≡◌, List, ℕ, All, IfOk, length};
 ghost use Rattle.pk_join.specs.Inputs.{HasKind, LiesInside, SpellsInputs};
 ghost use Rattle.pk_manifest.specs.Bodies.{bodies_end};
 ghost use Rattle.pk_merge.specs.Output.{LiesApart};
@@ -9,6 +9,7 @@ ghost use Rattle.pk_state.specs.Committed.{Stored};
 ghost use Rattle.pk_state.specs.Holds.{SpellsEntries};
 ghost use Rattle.pk_state.specs.Kept.{HaveKinds, LieInside};
 ghost use Rattle.pk_tidy.specs.Inputs.{BeginsFrom, EntryApart};
+ghost use Rattle.pk_tidy.specs.Of.{AreOf};
 
 use pk_manifest::Part;
 use pk_merge::MergeInput;
@@ -31,6 +32,8 @@ pub fn inputs_of<'a>(
         → All (LiesApart start end) v.items) }
     ensures behind { IfOk result (λ v. All (BeginsFrom bodies_end) entries.now
         → All LiesBehind v.items) }
+    ensures each { IfOk result (λ v. length opened.now ≡ length entries.now
+        → AreOf v.items entries.now) }
 {
     let mut inputs = Vec::with_capacity(alloc, entries.len())?;
     for (entry, segment) in entries.iter().zip(opened) {

@@ -14,8 +14,8 @@
 //! `NoSegment` comes only of what no merge has prepared, and becomes the refusal `Damaged`. No call
 //! touches a disk.
 //!
-//! In specs/: `Inputs` says where the entries lie whose segments are read, `Prepared` what is
-//! planned of what is prepared, `Refusing` which refusal is whose.
+//! In specs/: `Inputs` says where the entries lie whose segments are read, `Of` that each is read,
+//! `Prepared` what is planned of what is prepared, `Refusing` which refusal is whose.
 #![tactic(auto)]
 
 mod inputs;

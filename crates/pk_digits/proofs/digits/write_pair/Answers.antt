@@ -1,5 +1,4 @@
 -- The table has the digits of each number below 100.
-use Rattle.std.proofs.Common.{◌≡◌, ◌∙◌}
 use Rattle.pk_digits.proofs.DecimalLemmas.{pair_at, take_two}
 use Rattle.pk_digits.proofs.digits.write_pair.Goals as goal
 

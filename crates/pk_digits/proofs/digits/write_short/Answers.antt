@@ -1,5 +1,5 @@
 -- One digit, two, three or four.
-use Rattle.std.proofs.Common.{◌≡◌, arith, append_assoc}
+use Rattle.std.proofs.Common.{arith, append_assoc}
 use Rattle.std.proofs.lemmas.Fmt.{decimal_digit}
 use Rattle.pk_digits.proofs.DecimalLemmas.{decimal_two, decimal_three, decimal_whole_four, length_one, length_two, length_three, length_whole_four}
 use Rattle.pk_digits.proofs.digits.write_short.Goals as goal

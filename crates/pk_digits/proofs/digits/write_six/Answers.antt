@@ -1,5 +1,5 @@
 -- At most four digits, or at most two before four.
-use Rattle.std.proofs.Common.{◌≡◌, ◌/◌, arith, append_assoc}
+use Rattle.std.proofs.Common.{◌/◌, arith, append_assoc}
 use Rattle.std.proofs.lemmas.Fmt.{length-decimal-le}
 use Rattle.pk_digits.proofs.DecimalLemmas.{decimal_four, length_four}
 use Rattle.pk_digits.proofs.digits.write_six.Goals as goal

@@ -16,6 +16,7 @@ use Rattle.pk_merge.specs.Prepared.{IsPrepared, PreparesAs}
 use Rattle.pk_merge.proofs.FaultLemmas.{passed_on}
 use Rattle.pk_merge.proofs.GatherLemmas.{fails_in}
 use Rattle.pk_merge.proofs.InputLemmas.{rise_all}
+use Rattle.pk_merge.proofs.InsideLemmas.{all_name_within}
 use Rattle.pk_merge.proofs.KeepLemmas.{kept_long, none_kept}
 use Rattle.pk_merge.proofs.LiveLemmas.{live_are}
 use Rattle.pk_merge.proofs.preparing.prepare.Goals as goal
@@ -120,3 +121,8 @@ returns-clause-enough g c = λ honest. omega (
   c.in_ok-read.ensures.enough honest,
   ap length c.in_ok-prepared.ensures.documents,
 )
+
+pub returns-clause-inside : goal.returns-clause-inside
+returns-clause-inside g c = λ honest. all_name_within (g.D.Disk.content c.args.disk.now) c.args.inputs.now
+    c.in_ok-read.read.items c.requires.inside c.in_ok-read.ensures.extents (c.in_ok-read.ensures.said honest)
+    c.in_ok-prepared.ensures.inside

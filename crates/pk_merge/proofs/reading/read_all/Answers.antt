@@ -9,6 +9,7 @@ use Rattle.pk_join.specs.declared.lists.InputLists.{InputLists}
 use Rattle.pk_join.specs.declared.walk_input.Input.{Input}
 use Rattle.pk_join.specs.WalkInput.{HaveExtentsOf, IsBefore, extents_of, lists_of}
 use Rattle.pk_join.specs.Listed.{AreListsOf}
+use Rattle.pk_join.specs.Said.{AreSaidIn}
 use Rattle.pk_join.specs.Walking.{AreListed, stored_at}
 use Rattle.pk_join.proofs.InputLemmas.{inputs_long, live_append, take_stored}
 use Rattle.pk_join.proofs.WalkLemmas.{inputs_more, listed_snoc}
@@ -20,10 +21,12 @@ use Rattle.pk_merge.specs.Keeping.{AreKept, StayApart}
 use Rattle.pk_merge.specs.Left.{kept_in}
 use Rattle.pk_merge.specs.Output.{LiesApart}
 use Rattle.pk_merge.specs.ReadAll.{ReadsAllAs}
+use Rattle.pk_merge.specs.Said.{AreAllSaid}
 use Rattle.pk_merge.proofs.CountLemmas.{counts_next, numbers_next}
 use Rattle.pk_merge.proofs.FaultLemmas.{passed_on}
 use Rattle.pk_merge.proofs.GatherLemmas.{fails_on, left_next}
 use Rattle.pk_merge.proofs.InputLemmas.{live_here, next_of, rise_all}
+use Rattle.pk_merge.proofs.InsideLemmas.{said_snoc}
 use Rattle.pk_merge.proofs.ReadLemmas.{pushed_extents, pushed_lists}
 use Rattle.pk_merge.proofs.reading.read_all.Goals as goal
 
@@ -56,6 +59,8 @@ loop-input-init g c =
       disk_bytes = c.new-left.ensures.disk_bytes ∙ c.len.ensures;
       apart = subst (StayApart c.args.inputs.now) (sym none) (λ start end all k d within. absurd (omega (arith, within)));
       enough = λ honest. omega arith;
+      said = λ honest. subst (λ (is : List Input). AreAllSaid content [] (lists_of is))
+          (sym c.in_ok-read.ensures.items) tt;
       extents = ap extents_of (sym c.in_ok-read.ensures.items);
       before = subst (All IsBefore) (sym c.in_ok-read.ensures.items) (All-nil IsBefore);
       read = λ honest stored spells rising. (
@@ -93,6 +98,18 @@ loop-input-preserved g c =
                 ≤ length (kept_in c.read_input.new.left) + length x.dead.now) (inv.left.keeps.read honest).bytes
                 (c.in_ok-lists.ensures.enough honest),
           );
+      said = λ honest.
+          let bytes = content c.args.disk.now in
+          let before = take i c.args.inputs.now in
+          let l = c.in_ok-lists.lists in
+          let more = said_snoc bytes before (lists_of c.loop-input.read.items) x l (inv.said honest)
+          (subst (λ (b : List ℕ). AreSaidIn (extent_bytes b x.extent) x.kind l)
+          (inv.left.keeps.read honest).bytes (c.in_ok-lists.ensures.said honest)) in
+          subst (λ (is : List MergeInput). AreAllSaid bytes is (lists_of c.push.new.self.items))
+          (sym (inputs_more c.args.inputs.now i x c.loop-input-test.true c.input-item.is))
+          (subst (AreAllSaid bytes (before ++ x ∷ []))
+          (sym (pushed_lists c.loop-input.read.items c.push.new.self.items y l c.in-Ok.ensures.items
+          c.in_ok-before.ensures.lists)) more);
       extents = pushed_extents c.args.inputs.now i x c.loop-input.read.items c.push.new.self.items y
           c.loop-input-test.true c.input-item.is c.in-Ok.ensures.items c.in_ok-before.ensures.extent
           inv.extents;
@@ -162,3 +179,10 @@ returns-clause-enough g c = λ honest.
       ap (counts_said (g.D.Disk.content c.args.disk.now)) each,
       ap numbers_listed each,
     )
+
+pub returns-clause-said : goal.returns-clause-said
+returns-clause-said g c = λ honest.
+    subst (λ (is : List MergeInput). AreAllSaid (g.D.Disk.content c.args.disk.now) is
+    (lists_of c.loop-input.read.items))
+    (take_all c.loop-input.input-index c.args.inputs.now (omega (arith, c.loop-input-test.false)))
+    (c.loop-input.invariant.said honest)

@@ -13,6 +13,7 @@ use Rattle.pk_merge.specs.Gathering.{RiseFrom}
 use Rattle.pk_merge.specs.Keeping.{AreKept, StayApart}
 use Rattle.pk_merge.specs.Left.{kept_in}
 use Rattle.pk_merge.specs.Merging.{CountsMerge}
+use Rattle.pk_merge.specs.Said.{AreAllSaid}
 use Rattle.pk_merge.proofs.reading.read_all.Given as goal
 
 abbrev pub invariant-loop-input : goal.invariant-loop-input
@@ -24,6 +25,8 @@ invariant-loop-input g l =
       apart : StayApart l.inputs (kept_in l.left);
       enough : disk.honest → counts_said (disk.content l.fn.disk) (take l.input-index l.inputs)
           ≤ length (kept_in l.left) + numbers_listed (take l.input-index l.inputs);
+      said : disk.honest → AreAllSaid (disk.content l.fn.disk) (take l.input-index l.inputs)
+          (lists_of l.read.items);
       extents : HaveExtentsOf (take l.input-index l.inputs) l.read.items;
       before : All IsBefore l.read.items;
       read : disk.honest → (stored : List Stored) → SpellsInputs (disk.content l.fn.disk) l.inputs stored

@@ -1,9 +1,11 @@
 -- The directory tells the documents that are left, then the words are read.
 use Rattle.std.proofs.Common.{◌≡◌, ◌∙◌, ◌++◌, ◌+◌, ℕ, List, length, take, drop, sym, subst, arith}
+use Rattle.pk_join.specs.Said.{AreSaid}
 use Rattle.pk_model.specs.Collection.{Doc}
 use Rattle.pk_segment.specs.Directory.{IsDirectoryOf}
 use Rattle.pk_segment.specs.Opened.{IsSegmentOf}
 use Rattle.pk_segment.specs.Reading.{read_of}
+use Rattle.pk_segment.specs.Said.{lists_from, lists_said}
 use Rattle.pk_segment.specs.Spelling.{DirectorySpells, SegmentSpells}
 use Rattle.pk_segment.proofs.DirectoryLemmas.{directory_of}
 use Rattle.pk_segment.proofs.OpeningLemmas.{long_enough}
@@ -113,3 +115,17 @@ returns-clause-enough g c = λ honest.
       c.in_ok-directory.ensures.len,
       c.in_ok-take_all.ensures.enough,
     )
+
+pub returns-clause-said : goal.returns-clause-said
+returns-clause-said g c = λ honest.
+    let content = g.S.ByteSource.content c.args.source.now in
+    let kind = c.args.input.now.kind in
+    let segment = c.in_ok-segment.segment in
+    let lists = c.in_ok-lists.lists in
+    let opened = c.in_ok-segment.ensures.opened honest in
+    let at : lists_from segment ≡ lists_said content =
+    omega (arith, opened.count_is, opened.read.count_is, opened.texts_is, opened.read.texts_is) in
+    subst (λ (n : ℕ). AreSaid content n kind lists) at
+    (subst (λ (b : List ℕ). AreSaid b (lists_from segment) kind lists)
+    (c.in_ok-directory.ensures.left.same honest ∙ c.in_ok-segment.ensures.left.same honest)
+    (c.in_ok-lists.ensures.said honest))

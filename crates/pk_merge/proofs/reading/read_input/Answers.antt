@@ -1,8 +1,9 @@
 -- The source is the extent, which begins at its place.
 use Rattle.std.proofs.Common.{◌≡◌, ◌∙◌, ◌+◌, ◌*◌, ℕ, List, length, drop, take, ap, sym, subst, arith}
-use Rattle.std.specs.Prelude.{OnOk}
+use Rattle.std.specs.Prelude.{IfOk, OnOk}
 use Rattle.std.proofs.lemmas.List.{length-drop, length-take-le}
 use Rattle.pk_disk.specs.Units.{DiskExtent, extent_bytes, start_of}
+use Rattle.pk_join.specs.Said.{AreSaidIn}
 use Rattle.pk_merge.specs.Keeping.{KeepsBetween}
 use Rattle.pk_merge.specs.Left.{kept_in}
 use Rattle.pk_segment.specs.Spelling.{SegmentSpells}
@@ -43,3 +44,13 @@ returns-clause-read g c = λ honest so_far docs more spells rise kept.
     (same ∙ ap (λ (n : ℕ). take n (drop (start_of extent) bytes)) (sym long)
     ∙ ap (λ (n : ℕ). take (length own) (drop n bytes)) (sym start))
     (subst (λ (b : List ℕ). SegmentSpells b docs c.args.input.now.kind) (sym same) spells) rise kept
+
+pub returns-clause-said : goal.returns-clause-said
+returns-clause-said g c = λ honest.
+    let extent = c.args.input.now.extent in
+    let source = c.on-source.result in
+    let same = ap (λ (x : DiskExtent). extent_bytes (g.D.Disk.content source.disk.now) x)
+    c.on-source.ensures.extent
+    ∙ ap (λ (d : g.row.D.Denot). extent_bytes (g.D.Disk.content d) extent) c.on-source.ensures.disk in
+    subst (λ (b : List ℕ). IfOk c.read_from.result (AreSaidIn b c.args.input.now.kind)) same
+    (c.read_from.ensures.said honest)

@@ -10,6 +10,7 @@ use Rattle.pk_state.specs.Committed.{Stored}
 use Rattle.pk_state.specs.Holds.{SpellsEntries}
 use Rattle.pk_state.specs.Kept.{HaveKinds, LieInside}
 use Rattle.pk_tidy.specs.Inputs.{BeginsFrom, EntryApart}
+use Rattle.pk_tidy.specs.Of.{AreOf}
 use Rattle.pk_tidy.proofs.inputs.inputs_of.Given as goal
 
 abbrev pub invariant-loop-entry : goal.invariant-loop-entry
@@ -18,5 +19,6 @@ invariant-loop-entry l = record {
   inside : (size : ℕ) → LieInside size l.entries → All (LiesInside size) l.inputs.items;
   kinds : HaveKinds l.entries → All HasKind l.inputs.items;
   apart : (start end : ℕ) → All (EntryApart start end) l.entries → All (LiesApart start end) l.inputs.items;
+  each : AreOf l.inputs.items (take (length l.yielded) l.entries);
   behind : All (BeginsFrom bodies_end) l.entries → All LiesBehind l.inputs.items;
 }

@@ -4,7 +4,8 @@ use Rattle.std.proofs.lemmas.Result.{err_from_is_err_and}
 use Rattle.pk_dict.specs.declared.entry.DictPlace.{DictPlace}
 use Rattle.pk_posting.specs.declared.source.SourceFault.{SourceFault}
 use Rattle.pk_segment.specs.Listing.{PlacedAs}
-use Rattle.pk_segment.proofs.ListingLemmas.{most, place_is, says, size_of}
+use Rattle.pk_segment.specs.Said.{lists_from}
+use Rattle.pk_segment.proofs.ListingLemmas.{most, place_is, place_said, says, size_of}
 use Rattle.pk_segment.proofs.ReadLemmas.{cause_read}
 use Rattle.pk_segment.proofs.segment.Segment.dictionary.Goals as goal
 
@@ -27,3 +28,8 @@ returns-clause-place g c = λ honest docs is of.
     let read = says bytes docs c.in_ok-header.header is (c.in_ok-header.ensures.value honest) in
     let at = c.postings.ensures.documents docs of in
     place_is docs c.in_ok-header.header c.in-Some.at read (omega (arith, at, read.postings_is, c.in-Some.ensures.1))
+
+pub returns-clause-said : goal.returns-clause-said
+returns-clause-said g c = λ honest.
+    place_said (lists_from c.args.self.now) (g.S.ByteSource.content c.args.source.now) c.in_ok-header.header c.in-Some.at
+    (c.in_ok-header.ensures.value honest) (omega (arith, c.postings.ensures.value, c.in-Some.ensures.1))
