@@ -8,7 +8,7 @@ import sys
 from . import queries, searching
 from .errors import Failed, Misused, NoSuchDocument, Refused, StoreError, tell, waits
 from .layout import split
-from .results import FORMATS, Choice, Results
+from .results import FORMATS, Choice, Results, as_line
 from .store import LEAST_UNITS, MOST_NUMBER, MOST_UNITS, UNIT, Reader, Store
 
 TYPE_CHECKING = False
@@ -64,8 +64,10 @@ def search(given: Given) -> int:
         lines = [str(choice.count(results))]
     else:
         lines = _lines(given, _documents(given, results, choice), query)
+    for doc in results.damaged:  # The others are shown.
+        tell(as_line(doc))
     _put_paged(given, lines)
-    return 0 if count else 1
+    return 2 if results.damaged else 0 if count else 1
 
 
 def _put_paged(given: Given, lines: Iterable[str]) -> None:

@@ -16,7 +16,7 @@ import sys
 import threading
 import time
 from collections import deque
-from collections.abc import Callable, Iterator
+from collections.abc import Callable, Iterable, Iterator
 from concurrent.futures import BrokenExecutor, Future, ProcessPoolExecutor, TimeoutError
 from contextlib import contextmanager, suppress
 from itertools import chain, islice
@@ -33,6 +33,7 @@ MEMORY = 1_073_741_824  # Bytes of a process that decodes, beyond what it has as
 _TICK = 0.25
 WATCHED = 1  # Seconds after which it is seen whether the processes are still there.
 ENDED = "a process that decodes was ended: run it again"
+_STARTING = threading.Lock()  # What processes are whose is seen by one thread at a time.
 AHEAD, AHEAD_BYTES = 64, 134_217_728  # Chunks that are decoded while a batch is added.
 
 
@@ -198,111 +199,132 @@ def in_order(tasks: Iterator[Task], jobs: int) -> Iterator[list[Entry]]:
                 entries = function(*given)
             yield entries
         return
-    waiting, held, decoders = deque(), deque(), _Decoders(jobs)
-    try:
-        for task in chain(first, tasks):
-            waiting.append((task, decoders.begun(task)))
-            held.append(_bytes_of(task))
-            while len(waiting) > AHEAD or len(waiting) > 1 and sum(held) > AHEAD_BYTES:
-                held.popleft()
-                yield _next(waiting, decoders)
-        while waiting:
-            yield _next(waiting, decoders)
-    except BrokenExecutor:
-        decoders.kill()
-        raise
-    finally:
-        decoders.end()
+    with Decoders(jobs, "fork" if sys.platform == "linux" else None) as decoders:
+        yield from decoders.in_order(chain(first, tasks))
 
 
-class _Decoders:
-    """So many processes that decode."""
+class Decoders:
+    """So many processes that decode, started by a method of `multiprocessing`. A fork is quick, and
+    takes along what its process has: no store may be open, and no thread hold a lock."""
 
-    def __init__(self, jobs: int, *limited: Any) -> None:
-        self._jobs, self._given = jobs, (documents.chosen(), *limited)
+    def __init__(self, jobs: int, method: str | None, *limited: Any) -> None:
+        self._jobs, self._method = jobs, method
+        self._given, self._is_ended = (documents.chosen(), *limited), False
         self._begin()
 
     def _begin(self) -> None:
-        # A fork is quick. It comes while no store is open.
-        context = multiprocessing.get_context("fork" if sys.platform == "linux" else None)
+        context = multiprocessing.get_context(self._method)
         self._pool = ProcessPoolExecutor(self._jobs, context, _begin_decoding, self._given)
         self._own, self._is_killed = set[BaseProcess](), False
 
-    def begun(self, task: Task) -> Future[list[Any]]:
+    def __enter__(self) -> Decoders:
+        return self
+
+    def __exit__(self, kind: type[BaseException] | None, *_: object) -> None:
+        """Ends the processes; where something failed or was interrupted, at once."""
+        if kind:
+            self._kill()
+        self._shut_down()
+
+    def end(self) -> None:
+        """Ends the processes at once, also in the midst of a task."""
+        self._is_ended = True
+        self._kill()
+        self._shut_down()
+
+    def _kill(self) -> None:
+        self._is_killed = True
+        for process in [*self._own]:
+            process.kill()
+        with suppress(AttributeError):  # A thread of the library reads, and would wait for ever.
+            self._pool._result_queue._writer.close()
+
+    def _shut_down(self) -> None:
+        self._pool.shutdown(wait=not self._is_killed, cancel_futures=True)
+
+    def _begin_anew(self) -> None:
+        """Takes other processes."""
+        self._kill()
+        self._shut_down()
+        if self._is_ended:
+            raise BrokenExecutor(ENDED)
+        self._begin()
+
+    def in_order(self, tasks: Iterable[Task]) -> Iterator[list[Entry]]:
+        """What each task gives, in their order."""
+        waiting, held = deque(), deque()
+        for task in tasks:
+            waiting.append((task, self._begun(task)))
+            held.append(_bytes_of(task))
+            while len(waiting) > AHEAD or len(waiting) > 1 and sum(held) > AHEAD_BYTES:
+                held.popleft()
+                yield self._next(waiting)
+        while waiting:
+            yield self._next(waiting)
+
+    def _begun(self, task: Task) -> Future[list[Any]]:
         """What will have what a task gives, or that a process was ended before."""
-        others = set(active_children())
-        with _no_interrupt():
+        with _STARTING, _no_interrupt():
+            others = set(active_children())
             try:
                 future = self._pool.submit(_columns, *task)
             except BrokenExecutor as error:
                 future = Future()
                 future.set_exception(error)
-        self._own.update(set(active_children()) - others)
+            self._own.update(set(active_children()) - others)
+            self._let_read_alone()
         return future
 
-    def result(self, future: Future[list[Any]]) -> list[Entry]:
+    def _let_read_alone(self) -> None:
+        """Leaves the end at which tasks are read to the processes, once all have begun: else the
+        thread of the library that writes them would wait for ever where these are ended. Since
+        3.11.5 the library sees to that. Later is too late: it may just close the same end."""
+        if sys.version_info < (3, 11, 5) and len(self._own) == self._jobs:
+            with suppress(AttributeError):
+                self._pool._call_queue._reader.close()
+
+    def _result(self, future: Future[list[Any]]) -> list[Entry]:
         """What a task gives. Where a process was ended, `BrokenExecutor` is raised: the library
         waits for ever where that was while it handed its result over, so now and then they are
         looked at."""
         while True:
             with suppress(TimeoutError):
                 return [*map(Entry._make, zip(*future.result(WATCHED)))]
-            if not all(process.is_alive() for process in self._own):
+            if not all(process.is_alive() for process in [*self._own]):
                 raise BrokenExecutor(ENDED)
 
-    def kill(self) -> None:
-        """Ends all processes at once."""
-        self._is_killed = True
-        for process in self._own:
-            process.kill()
+    def _next(self, waiting: deque[tuple[Task, Future[list[Any]]]]) -> list[Entry]:
+        """What the first of the tasks gives that wait. Where a process was ended, it is done alone,
+        and those behind it are begun anew."""
+        task, future = waiting.popleft()
+        try:
+            return self._result(future)
+        except BrokenExecutor:
+            pass
+        self._begin_anew()
+        entries = self._alone(task)
+        kept = [(one, future if _is_done(future) else self._begun(one)) for one, future in waiting]
+        waiting.clear()
+        waiting.extend(kept)
+        return entries
 
-    def end(self) -> None:
-        """Ends the processes."""
-        self._pool.shutdown(wait=not self._is_killed, cancel_futures=True)
-
-    def begin_anew(self) -> None:
-        """Takes other processes."""
-        self.kill()
-        self.end()
-        self._begin()
-
-
-def _next(waiting: deque[tuple[Task, Future[list[Any]]]], decoders: _Decoders) -> list[Entry]:
-    """What the first of the tasks gives that wait. Where a process was ended, it is done alone, and
-    those behind it are begun anew."""
-    task, future = waiting.popleft()
-    try:
-        return decoders.result(future)
-    except BrokenExecutor:
-        pass
-    decoders.begin_anew()
-    entries = _alone(task)
-    kept = [(one, future if _is_done(future) else decoders.begun(one)) for one, future in waiting]
-    waiting.clear()
-    waiting.extend(kept)
-    return entries
+    def _alone(self, task: Task) -> list[Entry]:
+        """What a task gives of which a document may have ended a process: in a process for it
+        alone, and once more without each attempt that ends one."""
+        noted, harmful = multiprocessing.RawArray("q", 2), set()
+        while True:
+            with Decoders(1, self._method, noted, frozenset(harmful)) as decoder:
+                with suppress(BrokenExecutor):
+                    return decoder._result(decoder._begun(task))
+                decoder._kill()
+            if self._is_ended or tuple(noted) in (*harmful, (0, 0)):
+                raise BrokenExecutor(ENDED)
+            harmful.add(tuple(noted))
 
 
 def _is_done(future: Future[list[Any]]) -> bool:
     """Whether a task was done, and its process not ended."""
     return future.done() and not future.cancelled() and future.exception() is None
-
-
-def _alone(task: Task) -> list[Entry]:
-    """What a task gives of which a document may have ended a process: in a process for it alone,
-    and once more without each attempt that ends one."""
-    noted, harmful = multiprocessing.RawArray("q", 2), set()
-    while True:
-        decoder = _Decoders(1, noted, frozenset(harmful))
-        try:
-            return decoder.result(decoder.begun(task))
-        except BrokenExecutor:
-            decoder.kill()
-            if tuple(noted) in (*harmful, (0, 0)):
-                raise
-            harmful.add(tuple(noted))
-        finally:
-            decoder.end()
 
 
 def _bytes_of(task: Task) -> int:

@@ -61,6 +61,10 @@ class NoSuchDocument(Refused):
     """No live document has the number."""
 
 
+class Damaged(Refused):
+    """What is asked for has another byte than was written."""
+
+
 class BufferFull(Refused):
     """Too much is uncommitted: `commit`, then add again."""
 
@@ -88,8 +92,8 @@ class QueryRefused(Refused):
 
 
 # The exceptions by the words that their reasons begin with.
-REFUSALS = {"no such document": NoSuchDocument, "buffer full": BufferFull, "full": Full,
-            "too many segments": TooManySegments, "query": QueryRefused, "": Refused}
+REFUSALS = {"no such document": NoSuchDocument, "damaged": Damaged, "buffer full": BufferFull,
+            "full": Full, "too many segments": TooManySegments, "query": QueryRefused, "": Refused}
 
 
 def numbers_in(told: str) -> list[int]:

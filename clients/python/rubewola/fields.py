@@ -12,11 +12,11 @@ from __future__ import annotations
 from collections.abc import Callable, Iterator
 from itertools import product
 
-from .errors import QueryRefused
+from .errors import Damaged, QueryRefused
 from .layout import MAILS, line_words, split
 from .places import FOLDERS, Places
 from .searching import Found
-from .store import shown
+from .store import DAMAGED, shown
 from .words import ABSENT, NAMING, SIGN, asked, field_words
 
 LEVELS = ("emerg", "alert", "crit", "err", "warning", "notice", "info", "debug")
@@ -133,8 +133,9 @@ class FlaggedFound(Found):
         return [number for number in self.store.find(self.words_of(span)) if number in held]
 
 
-def found_with_flags(plain: Found) -> Found:
-    """What satisfies a query with flags, of which it was seen that the program reads it."""
+def found_with_flags(plain: Found, tell: Callable[[str], None]) -> Found:
+    """What satisfies a query with flags, of which it was seen that the program reads it. `tell` is
+    given which mails cannot be read: their flags are not known, and they are left out."""
     store, query = plain.store, plain.query
     names = sorted({piece[len(_WORD):] for _, piece in query.pieces if piece.startswith(_WORD)})
     if len(names) > MOST_FLAGS:
@@ -148,6 +149,9 @@ def found_with_flags(plain: Found) -> Found:
     hits = sure | ((unsure & sets[ways[0]]) - set(mails))
     places = Places()
     for number, reply in zip(mails, store.replies(mails)):
+        if reply == DAMAGED:
+            tell(f"{number}: {Damaged('damaged').of(store.path)}")
+            continue
         path = places.path_at(split(shown(reply))[1].get("path", "")) or ""
         if reply and number in sets[tuple(map(_flags_of(path).__contains__, names))]:
             hits.add(number)

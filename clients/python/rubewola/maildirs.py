@@ -18,7 +18,7 @@ from .layout import MAILS, split
 from .mails import LONGEST_MAIL, entry, identity
 from .places import FOLDERS, Places, base_name, place_of
 from .sources import Entry, Named, bytes_of
-from .store import Store
+from .store import Store, shown
 from .words import SIGN, asked, field_words, named
 
 _EML, _MH, _UNSENT = ".eml", ".mh_sequences", "tmp"
@@ -32,13 +32,13 @@ class Wanted(NamedTuple):
     folder: str = ""
 
 
-def _raw(path: str) -> bytes | None:
+def _raw(path: str, here: Places) -> bytes | None:
     """The bytes of a mail, whose flags may have changed since its folder was looked at; None where
     it is gone."""
     with suppress(FileNotFoundError):
         return _begin_of(path)
     with suppress(FileNotFoundError):
-        now = Places().path_at(place_of(path))
+        now = here.path_at(place_of(path))
         return _begin_of(now) if now else None
     return None
 
@@ -48,16 +48,17 @@ def _begin_of(path: str) -> bytes:
         return file.read(LONGEST_MAIL)
 
 
-def _sum(path: str) -> str | None:
+def _sum(path: str, here: Places) -> str | None:
     """The checksum of a mail; None where it is gone or cannot be read."""
     with suppress(OSError):
-        raw = _raw(path)
+        raw = _raw(path, here)
         return None if raw is None else identity(raw)[1]
     return None
 
 
 def _read(wanted: list[Wanted], with_parts: bool) -> list[Entry]:
-    return [one for each in wanted for one in _entries(*each, with_parts)]
+    here = Places()
+    return [one for each in wanted for one in _entries(each, with_parts, here)]
 
 
 def _is_loose(path: str) -> bool:
@@ -87,24 +88,26 @@ def _is_number(name: str) -> bool:
     return name.isascii() and name.isdecimal()
 
 
-def _query(path: str) -> str:
+def _query(path: str, here: Places) -> str:
     """What finds a mail that is stored, by its place; a loose one by its checksum, too."""
-    known = _sum(path) if _is_loose(path) else None
+    known = _sum(path, here) if _is_loose(path) else None
     return asked("path", place_of(path)) + (f" {asked('sum', known)}" if known else "")
 
 
-def _entries(path: str, replaces: int, folder: str, with_parts: bool) -> Iterator[Entry]:
+def _entries(wanted: Wanted, with_parts: bool, here: Places) -> Iterator[Entry]:
     """A mail; none where it is gone; why, where it cannot be read."""
+    path = wanted.path
     place = named("path", place_of(path))
     try:
-        raw = _raw(path)
+        raw = _raw(path, here)
     except OSError as error:
         yield Entry(b"", place[0], passed=f"{path}: {error.strerror}")
         return
     if raw is not None:
-        names = [*place, *named("name", base_name(path)), *field_words("folder", folder)]
+        names = [*place, *named("name", base_name(path)),
+                 *field_words("folder", wanted.folder)]
         known = f" {asked('sum', identity(raw)[1])}" if _is_loose(path) else ""
-        yield entry(Maildirs.kind, raw, names, place[0] + known, with_parts, replaces)
+        yield entry(Maildirs.kind, raw, names, place[0] + known, with_parts, wanted.replaces)
 
 
 class Maildirs(Named):
@@ -124,6 +127,8 @@ class Maildirs(Named):
         count = Counter(map(base_name, self.paths))
         self._twice = {name for name, files in count.items() if files > 1}
         self._taken: dict[str, set[str]] = {}
+        # By names: the first number and the place of what is stored with a checksum.
+        self._stored: dict[str, dict[str, tuple[int, str]]] = {}
         self._replaced: set[int] = set()
 
     def _files(self, top: str) -> Iterator[str]:
@@ -185,11 +190,11 @@ class Maildirs(Named):
 
     def lacking(self, store: Store | None, paths: list[str]) -> list[Wanted]:
         """The mails that the store has at no place, or at one where they are no more."""
-        places = self.found(store, [_query(path) if store else "" for path in paths])
-        new = [path for path, numbers in zip(paths, places) if not numbers]
-        names = self.found(store, [asked("name", base_name(path)) for path in new])
         here = Places()
-        judged = [self._judged(store, path, numbers, here) for path, numbers in zip(new, names)]
+        places = self.found(store, [_query(path, here) if store else "" for path in paths])
+        new = [path for path, numbers in zip(paths, places) if not numbers]
+        self._look_up(store, [*dict.fromkeys(map(base_name, new))])
+        judged = [self._judged(path, here) for path in new]
         wanted = [one._replace(folder=self._folders.get(os.path.dirname(one.path), ""))
                   for one in judged if one]
         return [*self._in_place(store, wanted)]
@@ -204,25 +209,38 @@ class Maildirs(Named):
             self._replaced.update({number} - {0})
             yield one._replace(replaces=one.replaces or number)
 
-    def _judged(self, store: Store | None, path: str, numbers: list[int],
-                here: Places) -> Wanted | None:
-        """What is to be done about a mail at a new place, whose name these documents have."""
-        own = _sum(path) if numbers else None
-        for number, stored in zip(numbers, list(store.show_all(numbers)) if numbers else []):
-            known = split(stored)[1]
-            if known.get("sum") == own:
-                if number in self._replaced or here.path_at(known.get("path", "")):
-                    return None  # A copy.
-                self._replaced.add(number)
-                return Wanted(path, number)
-        return None if self._is_copy(path) else Wanted(path, 0)
+    def _look_up(self, store: Store | None, names: list[str]) -> None:
+        """Finds what the store has of these names, of each once: any number of mails may have one.
+        Paths come by their names, so the last of them may come again."""
+        self._stored = {name: self._stored[name] for name in names if name in self._stored}
+        new = [name for name in names if name not in self._stored]
+        found = zip(new, self.found(store, [asked("name", name) for name in new]))
+        numbers = [(name, number) for name, some in found for number in some]
+        replies = store.replies(number for _, number in numbers) if numbers else ()
+        self._stored.update((name, {}) for name in new)
+        for reply, (name, number) in zip(replies, numbers):
+            known = split(shown(reply))[1]
+            if "sum" in known:
+                self._stored[name].setdefault(known["sum"], (number, known.get("path", "")))
 
-    def _is_copy(self, path: str) -> bool:
+    def _judged(self, path: str, here: Places) -> Wanted | None:
+        """What is to be done about a mail at a new place."""
+        stored = self._stored[base_name(path)]
+        own = _sum(path, here) if stored else None
+        if own in stored:
+            number, place = stored[own]
+            if number in self._replaced or here.path_at(place):
+                return None  # A copy.
+            self._replaced.add(number)
+            return Wanted(path, number)
+        return None if self._is_copy(path, here) else Wanted(path, 0)
+
+    def _is_copy(self, path: str, here: Places) -> bool:
         """Whether this load has a file of the same name and bytes before."""
         name = base_name(path)
         if name not in self._twice:
             return False
-        own, before = _sum(path), self._taken.setdefault(name, set())
+        own, before = _sum(path, here), self._taken.setdefault(name, set())
         if own is None:
             return False
         is_copy = own in before

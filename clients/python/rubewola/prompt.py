@@ -70,7 +70,7 @@ def answer(store: Store, line: str) -> str:
     if command == "find":
         found = searching.answer(store, rest, tell)
         results = Results().read(store, searching.newest(found, SHOWN))
-        lines = map(as_line, results.newest(SHOWN))
+        lines = map(as_line, [*results.damaged, *results.newest(SHOWN)])
         return "\n".join([*lines, f"found {len(found.numbers)}"])
     if command == "show":
         return queries.plain(split(store.show(number(rest)))[0])

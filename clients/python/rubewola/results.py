@@ -7,11 +7,11 @@ import sys
 from itertools import islice
 
 from . import searching
-from .errors import Misused
+from .errors import Damaged, Misused
 from .layout import CUT, DAY_DIGITS, HEAD, MAILS, MARK, line_of, split
 from .places import Places
 from .queries import plain
-from .store import shown
+from .store import DAMAGED, shown
 from .words import SIGN
 
 TYPE_CHECKING = False
@@ -131,18 +131,23 @@ class _Texts:
 
 class Results:
     """Documents that are read from their stores at once, to be told when these are closed, the
-    newest last."""
+    newest last; and those that are `damaged`, each with a text that says so."""
 
     def __init__(self) -> None:
         self._hits: list[tuple[Any, ...]] = []
         self._texts, self._names = _Texts(), []
+        self.damaged: list[dict[str, Any]] = []
 
     def read(self, store: Reader, numbers: list[int], name: str = "") -> Results:
         """Reads documents of a store, which is called by a name where there are several. One that
         was deleted since it was found is none any more."""
         self._names.append(name)
         for reply, number in zip(store.replies(numbers), numbers):
-            if reply:
+            if reply == DAMAGED:
+                why = str(Damaged("damaged").of(store.path))
+                self.damaged.append(self._named(len(self._names) - 1,
+                                                {"number": number, "text": why}))
+            elif reply:
                 self._hits.append((_moment(reply), len(self._names) - 1, number,
                                    *self._texts.put(reply)))
         return self
@@ -164,7 +169,11 @@ class Results:
             doc = parsed(shown(self._texts.get(*held)), number)
             if "path" in doc:
                 doc["path"] = places.path_at(doc["path"]) or doc["path"]
-            yield {"store": self._names[name], **doc} if self._names[name] else doc
+            yield self._named(name, doc)
+
+    def _named(self, name: int, doc: dict[str, Any]) -> dict[str, Any]:
+        """A document with what its store is called, if that has a name."""
+        return {"store": self._names[name], **doc} if self._names[name] else doc
 
 
 # The keys of orders that texts tell; behind equal ones the oldest stands first.
@@ -173,13 +182,18 @@ _KEYS: dict[str, Callable[[dict[str, Any]], str]] = {
     "subject": lambda doc: _bare(doc.get("subject", "")).casefold(),
 }
 _REPLIES = ("re:", "fwd:", "fw:", "aw:", "sv:")
+_WINDOW = 5  # Characters of the longest with the space behind it.
 
 
 def _bare(subject: str) -> str:
-    """A subject without what answers put before it."""
-    while (head := subject.split(" ", 1))[0].casefold() in _REPLIES and len(head) > 1:
-        subject = head[1].lstrip()
-    return subject
+    """A subject without what answers put before it, which may be there any number of times."""
+    at = 0
+    while (end := subject.find(" ", at, at + _WINDOW)) >= 0 and \
+            subject[at:end].casefold() in _REPLIES:
+        at = end
+        while subject[at:at + 1].isspace():
+            at += 1
+    return subject[at:]
 
 
 class Choice:
@@ -261,14 +275,14 @@ class Hits:
         return self._merged(found.inside(span) for found in self.found)
 
     def read(self, start: int, count: int) -> list[dict[str, Any]]:
-        """So many documents behind the newest `start`, the newest first; `store` is the place of
-        the store."""
+        """So many documents behind the newest `start`, the newest first, and last those of them
+        that are damaged; `store` is the place of the store."""
         newer = {*searching.newest(self, start)} if start else set()
         wanted = [hit for hit in searching.newest(self, start + count) if hit not in newer]
         results = Results()
         for place, found in enumerate(self.found):
             results.read(found.store, [number for number, at in wanted if at == place], str(place))
-        return [*results.newest(count)][::-1]
+        return [*[*results.newest(count)][::-1], *results.damaged]
 
 
 def where(doc: dict[str, Any]) -> str:

@@ -5,7 +5,7 @@ from __future__ import annotations
 from collections import namedtuple
 
 from . import queries
-from .errors import NoSuchDocument, QueryRefused
+from .errors import Damaged, NoSuchDocument, QueryRefused
 from .layout import DAY_DIGITS, earlier
 from .queries import pointed
 from .words import SIGN, has_word
@@ -79,7 +79,7 @@ def answer(store: Reader, typed: str, tell: Callable[[str], None] = _untold) -> 
     if "flag" not in (name for name, _ in query.fields):
         return found
     from . import fields
-    return fields.found_with_flags(found)
+    return fields.found_with_flags(found, tell)
 
 
 def find(store: Reader, typed: str, tell: Callable[[str], None] = _untold) -> list[int]:
@@ -91,7 +91,7 @@ def has_earlier(store: Reader) -> bool:
     """Whether a store was begun by an earlier client's loader, as its first document tells."""
     try:
         told = earlier(store.show(1))
-    except NoSuchDocument:
+    except (Damaged, NoSuchDocument):
         return False
     return bool(told and told[1])
 
@@ -119,7 +119,7 @@ def newest(found: Any, count: int, is_whole: bool = False) -> list[Any]:
                 taken, count = taken + inside, count - len(inside)
             else:
                 pool, spans, is_whole = sorted(set(pool) - set(taken)), (), False
-    except QueryRefused:  # There is no room for a day in the query.
+    except (Damaged, QueryRefused):  # No day can be read, or there is no room for it in the query.
         if is_whole:
             return list(found.numbers)
         pool, taken, count = found.numbers, [], wanted

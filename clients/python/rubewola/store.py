@@ -8,7 +8,7 @@ import stat
 import time
 from collections import namedtuple
 
-from .errors import (HINTS, REFUSALS, Failed, Full, InUse, NoSuchDocument, Refused,
+from .errors import (HINTS, REFUSALS, Damaged, Failed, Full, InUse, NoSuchDocument, Refused,
                      numbers_in)
 from .programs import Program
 
@@ -22,6 +22,7 @@ LEAST_UNITS, MOST_UNITS = 64, 2_147_483_648  # Of a store.
 MOST_NUMBER = 4_294_967_295  # No document has this number, nor one behind it.
 
 ENDED = "the program was ended"
+DAMAGED = "refused damaged"  # A reply to `show`; that with a text begins with `text `.
 
 # What no reply to an `add` is longer than, and bytes of commands that are handed over at once.
 SHORT_REPLY, AT_ONCE = 32, 1_048_576
@@ -140,7 +141,8 @@ class Reader:
 
     def _replies(self, left: int, longest: int, is_whole: bool) -> Iterator[str]:
         """The replies that are awaited, but for so many; of each so many bytes. Where all need not
-        be there, that to what asks for a document that is not is empty."""
+        be there, that to what asks for a document that is not is empty, and of one that cannot be
+        read DAMAGED."""
         while self._awaited > left:
             self._awaited -= 1
             try:
@@ -149,6 +151,10 @@ class Reader:
                 if is_whole:
                     raise
                 reply = ""
+            except Damaged:
+                if is_whole:
+                    raise
+                reply = DAMAGED
             yield reply
 
     def _reply(self, longest: int = -1) -> str:
@@ -195,7 +201,7 @@ class Reader:
 
     def replies(self, numbers: Iterable[int]) -> Iterator[str]:
         """The replies to `show`, which `shown` reads; an empty one where there is no such document,
-        or none any more."""
+        or none any more, and DAMAGED where its text cannot be read."""
         return self._ask_all(map(_line, map(_show, numbers)), len, is_whole=False)
 
     def count(self) -> Counts:

@@ -6,17 +6,17 @@ import re
 import threading
 from array import array
 from collections import Counter, namedtuple
-from contextlib import ExitStack
+from contextlib import ExitStack, suppress
 from urllib.parse import urlencode
 
 from . import markup, results, searching
-from .errors import Failed, InUse, NoSuchDocument, QueryRefused, Refused
+from .errors import Damaged, Failed, InUse, NoSuchDocument, QueryRefused, Refused
 from .layout import HEAD, split
 from .marks import FIELD_OF, Marks
 from .results import Hits
 from .searching import SPANS, within
 from .sessions import Sessions
-from .store import ENDED, shown
+from .store import DAMAGED, ENDED, shown
 from .words import SIGN
 
 TYPE_CHECKING = False
@@ -42,7 +42,10 @@ class View(namedtuple("View", ("status", "text", "kind"), defaults=(markup.HTML,
 def _around(store: Reader, number: int) -> list[tuple[int, str]]:
     """The lines of the same log whose numbers stand round one, with it, by what they begin with."""
     near = range(max(number - AROUND, 1), number + AROUND + 1)
-    there = {one: shown(reply) for one, reply in zip(near, store.replies(near)) if reply}
+    replies = dict(zip(near, store.replies(near)))
+    if replies.get(number) == DAMAGED:
+        raise Damaged("damaged").of(store.path)
+    there = {one: shown(reply) for one, reply in replies.items() if reply not in ("", DAMAGED)}
     if number not in there:
         raise NoSuchDocument("no such document")
     own = _log_of(there[number])
@@ -95,10 +98,10 @@ class Views:
             status, body = 404, "<p>There is no such document.</p>"
         except InUse:
             return self.busy(query)
+        except (Damaged, Failed, OSError) as failed:
+            status, body = 500, markup.told(str(failed))
         except Refused as refused:
             status, body = 400, markup.told(str(refused))
-        except (Failed, OSError) as failed:
-            status, body = 500, markup.told(str(failed))
         return self._page(status, query, body)
 
     def busy(self, query: str = "") -> View:
@@ -136,7 +139,9 @@ class Views:
         """All is read, and then the page is written."""
         with ExitStack() as stack:
             hits = Hits([stack.enter_context(one.one()) for one in self._sessions], query)
-            documents, counts = hits.read(start, AT_ONCE), months(hits, self._months)
+            documents, counts = hits.read(start, AT_ONCE), {}
+            with suppress(Damaged):  # Without the days there are no bars.
+                counts = months(hits, self._months)
         marks, count = Marks.of(hits.query), len(hits.numbers)
         picture = markup.drawn(counts, lambda month: self._address(q=f"({query}) date:{month}"))
         items = "".join(self._hit(doc, query, marks) for doc in documents)

@@ -8,8 +8,9 @@ from datetime import date
 from itertools import chain
 from typing import NamedTuple
 
-from rubewola import QueryRefused, queries, results
+from rubewola import Damaged, QueryRefused, queries, results
 from rubewola.sources import portions
+from rubewola.store import DAMAGED, shown
 from rubewola.words import has_word
 
 from .fleet import Fleet
@@ -48,17 +49,26 @@ def find(fleet: Fleet, typed: str, limit: int, tell: Callable[[str], None]) -> F
     return found
 
 
-def texts(fleet: Fleet, numbers: Iterable[int]) -> dict[int, str]:
-    """The stored texts of documents, but for those that are not there."""
+def replies(fleet: Fleet, numbers: Iterable[int]) -> dict[int, str]:
+    """The replies of documents, but for those that are not there."""
     wanted = fleet.by_shard(numbers)
-    shown = fleet.ask_each({shard: ("show", local) for shard, local in wanted.items()})
-    return {number: text for shard, some in shown.items()
-            for number, text in zip(shard.numbers(wanted[shard]), some) if text is not None}
+    told = fleet.ask_each({shard: ("show", local) for shard, local in wanted.items()})
+    return {number: reply for shard, some in told.items()
+            for number, reply in zip(shard.numbers(wanted[shard]), some) if reply}
 
 
-def lines(fleet: Fleet, numbers: Iterable[int], form: str) -> Iterator[str]:
-    """A line for each document, read from the shards so many at once."""
+def lines(fleet: Fleet, numbers: Iterable[int], form: str, damaged: list[str]) -> Iterator[str]:
+    """A line for each document, read from the shards so many at once. Which ones are `damaged` is
+    noted there."""
     for some in portions(numbers, SHOWN_AT_ONCE):
-        there = texts(fleet, some)
+        there = replies(fleet, some)
         for number in filter(there.__contains__, some):
-            yield results.FORMATS[form](results.parsed(there[number], number))
+            if there[number] == DAMAGED:
+                damaged.append(f"{number}: {why_damaged(fleet, number)}")
+            else:
+                yield results.FORMATS[form](results.parsed(shown(there[number]), number))
+
+
+def why_damaged(fleet: Fleet, number: int) -> str:
+    """What is told of a document that cannot be read."""
+    return f"{fleet.archive.place(number)[0].name}: {Damaged('damaged')}"

@@ -10,6 +10,7 @@ from collections.abc import Iterator
 from contextlib import suppress
 
 from rubewola import layout, queries
+from rubewola.store import DAMAGED, shown
 
 from . import answers, inputs, loading
 from .archive import Archive
@@ -38,9 +39,14 @@ def search(fleet: Fleet, given: argparse.Namespace) -> int:
     """Prints what is found, the newest last, and gives grep's status; 3 where shards are missing."""
     limit = 0 if given.count else max(given.limit, 0)
     found = answers.find(fleet, " ".join(given.query), limit, tell)
-    for line in [found.count] if given.count else answers.lines(fleet, found.numbers, given.format):
+    damaged: list[str] = []
+    for line in ([found.count] if given.count else
+                 answers.lines(fleet, found.numbers, given.format, damaged)):
         print(line)
-    return told_of_missing(fleet) or (0 if found.count else 1)
+    for one in damaged:
+        tell(one)
+    status = told_of_missing(fleet) or (0 if found.count else 1)
+    return 2 if damaged else status
 
 
 def told_of_missing(fleet: Fleet) -> int:
@@ -115,11 +121,11 @@ def answer(fleet: Fleet, line: str) -> None:
     """
     command, _, rest = line.partition(" ")
     if command == "find":
-        found = answers.find(fleet, rest, LAST, tell)
-        print(*answers.lines(fleet, found.numbers, "text"), f"found {found.count}", sep="\n")
+        found, damaged = answers.find(fleet, rest, LAST, tell), list[str]()
+        print(*answers.lines(fleet, found.numbers, "text", damaged), *damaged,
+              f"found {found.count}", sep="\n")
     elif command == "show":
-        text = answers.texts(fleet, [_number(rest)]).get(_number(rest))
-        print("no such document" if text is None else queries.plain(layout.split(text)[0]))
+        print(_shown(fleet, _number(rest)))
     elif command == "delete":
         delete(fleet, argparse.Namespace(numbers=[*map(_number, rest.split())]))
     elif line == "counts":
@@ -128,6 +134,16 @@ def answer(fleet: Fleet, line: str) -> None:
         each(fleet, argparse.Namespace(command=line))
     else:
         print(answer.__doc__)
+
+
+def _shown(fleet: Fleet, number: int) -> str:
+    """The text of a document, or why there is none."""
+    reply = answers.replies(fleet, [number]).get(number)
+    if reply is None:
+        return "no such document"
+    if reply == DAMAGED:
+        return f"refused {answers.why_damaged(fleet, number)}"
+    return queries.plain(layout.split(shown(reply))[0])
 
 
 def _number(text: str) -> int:

@@ -18,7 +18,8 @@ from .archive import Archive, refuse_clear
 
 PAGES = "127.0.0.1"
 PLENTY = 1_000_000  # Of a disk's resource: each session takes one.
-SETTINGS = {"SCHEDULER__WORKER_TTL": "30s", "COMM__TIMEOUTS__TCP": "15s"}
+# A worker that is no daemon of its nanny's may have processes: those that decode.
+SETTINGS = {"SCHEDULER__WORKER_TTL": "30s", "COMM__TIMEOUTS__TCP": "15s", "WORKER__DAEMON": "False"}
 
 
 def scheduler(archive: Archive, given: argparse.Namespace) -> NoReturn:

@@ -58,6 +58,12 @@ class Fleet(AbstractContextManager["Fleet"]):
         self._threads.shutdown(wait=False, cancel_futures=True)
         self._client.close()
 
+    @property
+    def patience(self) -> float:
+        """Seconds in which a batch is decoded, or said to be at it: well within those for an
+        answer."""
+        return (self._wait or LOADED) / 4
+
     def _submitted(self, shard: Shard) -> Future:
         return self._client.submit(Session, shard.path, shard.identity, actor=True, pure=False,
                                    resources={shard.disk: 1}, key=_key(shard))

@@ -13,7 +13,7 @@ from rubewola.layout import split
 from rubewola.loading import BATCH_BYTES, BATCH_DOCUMENTS
 from rubewola.logs import Logs, Read
 from rubewola.mailboxes import Mailboxes
-from rubewola.sources import Task, portions
+from rubewola.sources import CHUNK_ITEMS, Task, portions
 
 from .archive import Archive
 
@@ -97,8 +97,9 @@ def _refuse_faults(files: list[Input]) -> None:
 
 def tasks_of(source: Lines | Mails, items: list[Item], with_parts: bool) -> list[Task]:
     """What makes a document of each of these items, which follow each other."""
-    return [source.task([*some], with_parts)
-            for _, some in groupby(items, lambda item: id(item.file))]
+    return [source.task(chunk, with_parts)
+            for _, some in groupby(items, lambda item: id(item.file))
+            for chunk in portions(some, CHUNK_ITEMS, _size)]
 
 
 def batches(archive: Archive, source: Lines | Mails, start: int) -> Iterator[tuple[int, list[Item]]]:

@@ -11,8 +11,10 @@ from typing import Any, NamedTuple
 
 from rubewola import loading
 from rubewola.commits import grown
+from rubewola.decoding import Decoders
 
 from .archive import Archive, Shard
+from .decoder import START
 from .faults import Missing, OtherInput, tell
 from .fleet import Fleet
 from .inputs import Lines, Mails, batches, known_by, tasks_of
@@ -44,26 +46,29 @@ def load(fleet: Fleet, source: Lines | Mails, with_parts: bool = True) -> Loaded
             feed.put(shard, *batch)
             if feed.missing:
                 break
+    except BaseException:
+        feed.stop()
+        raise
     finally:
         feed.end()
-    added = loading.Loaded(sum(nexts.values()) - before, feed.cut, feed.unreadable)
+    added = loading.Loaded(sum(nexts.values()) - before, feed.cut, feed.unreadable, feed.slow)
     return Loaded(added, archive.complete(nexts), feed.missing)
 
 
 def _judge(source: Lines | Mails, last: dict[int, tuple[Shard, str]]) -> None:
     """Compares the last documents of shards, by their numbers, with the input."""
     items, at = source.items(), 0
-    for number in sorted(last):
-        shard, text = last[number]
-        item = next(islice(items, number - at - 1, None), None)
-        if item is None:
-            raise OtherInput(f"it ends before document {number}, which {shard.name} has")
-        # As it would be stored: of a mail that is read from its box again the same checksum.
-        for function, *given in tasks_of(source, [item], False):
-            data = function(*given)[0].data
-        if known_by(data.decode().replace("\v", "\n")) != known_by(text):
-            raise OtherInput(f"document {number}, {shard.name}'s last, is another")
-        at = number
+    with Decoders(1, START) as decoders:
+        for number in sorted(last):
+            shard, text = last[number]
+            item = next(islice(items, number - at - 1, None), None)
+            if item is None:
+                raise OtherInput(f"it ends before document {number}, which {shard.name} has")
+            # As it would be stored: of a mail that is read from its box again the same checksum.
+            (entry,), = decoders.in_order(tasks_of(source, [item], False))
+            if known_by(entry.data.decode().replace("\v", "\n")) != known_by(text):
+                raise OtherInput(f"document {number}, {shard.name}'s last, is another")
+            at = number
 
 
 def _lacking(archive: Archive, source: Lines | Mails, nexts: dict[Shard, int], with_parts: bool
@@ -84,14 +89,19 @@ class _Feed:
 
     def __init__(self, fleet: Fleet, nexts: dict[Shard, int]) -> None:
         self._fleet, self._nexts, self.missing = fleet, nexts, dict[str, str]()
+        self._sends = True
         self._threads = {shard: ThreadPoolExecutor(1) for shard in nexts}
         self._waiting = {shard: deque[Future[Any]]() for shard in nexts}
-        self.cut = self.unreadable = 0
+        self.cut = self.unreadable = self.slow = 0
 
     def put(self, shard: Shard, *batch: object) -> None:
         """Sends a batch, and waits where too many of its shard are on their way."""
         self._waiting[shard].append(self._threads[shard].submit(self._send, shard, *batch))
         self._wait_for(shard, ON_THEIR_WAY - 1)
+
+    def stop(self) -> None:
+        """Sends nothing more."""
+        self._sends = False
 
     def end(self) -> None:
         """Waits for all that is on its way."""
@@ -100,9 +110,12 @@ class _Feed:
             thread.shutdown()
 
     def _send(self, shard: Shard, *batch: object) -> Added | None:
-        if shard.name not in self.missing:  # Else what comes behind would wait for nothing.
+        """Sends a batch, again as long as it is still decoded."""
+        # Where a shard is missing, what comes behind would wait for nothing.
+        while self._sends and shard.name not in self.missing:
             try:
-                return self._fleet.ask(shard, "load", *batch)
+                if added := self._fleet.ask(shard, "load", *batch, self._fleet.patience):
+                    return added
             except Missing as error:
                 self.missing.update(error.reasons)
         return None
@@ -114,3 +127,4 @@ class _Feed:
                 for units in added.grown:
                     tell(grown(shard.name, units))
                 self.cut, self.unreadable = self.cut + added.cut, self.unreadable + added.unreadable
+                self.slow += added.slow

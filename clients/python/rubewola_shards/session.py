@@ -4,20 +4,22 @@ from __future__ import annotations
 
 import asyncio
 import os
-import pickle
 from array import array
 from bisect import bisect_right
 from collections.abc import Callable, Coroutine
-from concurrent.futures import ThreadPoolExecutor
+from concurrent.futures import Future, ThreadPoolExecutor, wait
+from contextlib import suppress
 from functools import wraps
 from typing import Any, NamedTuple
 
 from rubewola import Counts, Failed, Full, InUse, NoSuchDocument, QueryRefused, Store, StoreError
 from rubewola.commits import commit, grow, units_of
 from rubewola.loading import BATCH_BYTES, BATCH_DOCUMENTS
-from rubewola.sources import Entry, Task, portions
+from rubewola.sources import Entry, portions
 from rubewola.store import make
 from rubewola.words import NAMING
+
+from .decoder import Decoder
 
 ALL = f"NOT {NAMING}none"  # All documents: no loader writes this word, and no text holds it.
 WAIT = 1  # Seconds for a store that another program has, before it is asked for again.
@@ -33,12 +35,13 @@ class Taken(NoAnswer):
 
 
 class Added(NamedTuple):
-    """What a load left: the next number; of the documents that it added some were cut, and some
-    could not be read; the units to which the store grew, each time."""
+    """What a load left: the next number; of the documents that it added some were cut, some could
+    not be read, and some took too long; the units to which the store grew, each time."""
 
     next: int
     cut: int
     unreadable: int
+    slow: int
     grown: tuple[int, ...] = ()
 
 
@@ -93,14 +96,14 @@ class Session:
     """One store, opened at its first use.
 
     Its methods are carried out one after the other, in a thread of its own, so the sessions of one
-    worker go side by side. What one changes it commits, so no other sees what is uncommitted; and
-    each can be called again where its answer did not come.
+    worker go side by side; what is loaded is decoded before. What one changes it commits, so no
+    other sees what is uncommitted; and each can be called again where its answer did not come.
     """
 
     def __init__(self, path: str, identity: str) -> None:
         self._path, self._identity, self._store = path, identity, None
         self._grown: list[int] = []
-        self.thread = ThreadPoolExecutor(1)
+        self.thread, self._decoder = ThreadPoolExecutor(1), Decoder()
 
     def opened(self) -> Store:
         """The store, open."""
@@ -147,6 +150,7 @@ class Session:
     def __del__(self) -> None:
         # Else the program would go on and keep the store until this process ends.
         self._end()
+        self._decoder.end()
 
     @_in_turn
     def create(self, units: int) -> str:
@@ -176,19 +180,23 @@ class Session:
         text; 0 where none lives."""
         following = store.count().next
         for number in range(min(following - 1, most), 0, -1):
-            text = _texts(store, [number])[0]
-            if text is not None:
-                return following, number, text
+            with suppress(NoSuchDocument):
+                return following, number, store.show(number)
         return following, 0, ""
+
+    async def load(self, at: int, count: int, packed: bytes, patience: float) -> Added | None:
+        """Adds and commits the documents of packed tasks, `count` from the number `at` on, as far as
+        the store lacks them. So what is sent twice is added once. Where they are not decoded in so
+        many seconds there is no answer yet: it is to be called again."""
+        decoded = self._decoder.begun(packed)
+        await asyncio.to_thread(wait, [decoded], patience)
+        return await self._add(at, count, decoded) if decoded.done() else None
 
     @_with_store
     @_growing
-    def load(self, store: Store, at: int, count: int, packed: bytes) -> Added:
-        """Adds and commits the documents of packed tasks, `count` from the number `at` on, as far as
-        the store lacks them. So what is sent twice is added once."""
-        tasks: list[Task] = pickle.loads(packed)
-        following = store.count().next
-        entries = [entry for function, *given in tasks for entry in function(*given)]
+    def _add(self, store: Store, at: int, count: int, decoded: Future[list[Entry]]) -> Added:
+        self._decoder.forget()
+        following, entries = store.count().next, decoded.result()
         if at > following or len(entries) != count:
             raise StoreError(f"{len(entries)} documents from {at} on come where {following} is the "
                              f"next, and {count} are told")
@@ -199,7 +207,8 @@ class Session:
             commit(store)
         grown, self._grown = self._grown, []
         return Added(store.count().next, sum(entry.cut for entry in lacking),
-                     sum(entry.unreadable for entry in lacking), tuple(grown))
+                     sum(entry.unreadable for entry in lacking),
+                     sum(entry.slow for entry in lacking), tuple(grown))
 
     @_with_store
     def find(self, store: Store, query: str, limit: int, most: int) -> tuple[int, bytes]:
@@ -210,15 +219,15 @@ class Session:
         return end, array("I", numbers[max(end - limit, 0):end]).tobytes()
 
     @_with_store
-    def show(self, store: Store, numbers: list[int]) -> list[str | None]:
-        """The stored texts of documents; none for one that is not there."""
-        return _texts(store, numbers)
+    def show(self, store: Store, numbers: list[int]) -> list[str]:
+        """The replies of documents; an empty one of one that is not there."""
+        return [*store.replies(numbers)]
 
     @_with_store
     @_growing
     def delete(self, store: Store, numbers: list[int]) -> list[bool]:
         """Deletes documents and commits that, and tells which of them were there."""
-        were_there = [text is not None for text in _texts(store, numbers)]
+        were_there = [*map(bool, store.replies(numbers))]
         for number, was_there in zip(numbers, were_there):
             if was_there:
                 store.delete(number)
@@ -242,16 +251,9 @@ class Session:
     def close(self) -> str:
         """Ends the session with the store; the next call begins one."""
         self._end()
+        self._decoder.end()
         return "closed"
 
 
 def _size(entry: Entry) -> int:
     return len(entry.data)
-
-
-def _texts(store: Store, numbers: list[int]) -> list[str | None]:
-    try:
-        return [*store.show_all(numbers)]
-    except NoSuchDocument:
-        return [None] if len(numbers) == 1 else [
-            text for number in numbers for text in _texts(store, [number])]

@@ -6,6 +6,7 @@ import resource
 import signal
 import stat
 import subprocess
+import sys
 import unittest
 from datetime import date
 from functools import partial
@@ -106,6 +107,24 @@ class Limits(Stores):
         self.assertEqual(str(self.ended(partial(read, words=(b"dauert",)))), "3 documents (1 slow)")
         self.assert_found({"dauert OR zaeh": [], "eins OR drei": [1, 3]})
         self.loaded(0, "load-mbox", self.folder / "box")
+
+    def test_a_process_that_is_ended_before_it_has_read_its_next_task(self):
+        # What writes the task would wait for ever for a reader, and this program for what writes.
+        script = """
+import os, signal, sys, time
+from rubewola import loading, mailboxes, mails, sources
+def read(raw, whole=mails.read):
+    if b"zaeh" in raw:
+        time.sleep(1)
+        os.kill(os.getpid(), signal.SIGKILL)
+    return whole(raw)
+mails.read, sources.CHUNK_ITEMS = read, 1
+print(loading.load(sys.argv[1], mailboxes.Mailboxes(sys.argv[2]), jobs=1))
+"""
+        box = self.write("box", mbox(mail("zaeh"), *(mail(f"lang{at} {'x' * 200_000}") for at in range(3))))
+        ran = subprocess.run([sys.executable, "-c", script, self.store, box], check=False,
+                             capture_output=True, encoding="utf-8", timeout=LONG)
+        self.assertEqual((ran.stdout, ran.returncode), ("4 documents (1 slow)\n", 0), ran.stderr)
 
     def test_a_line_that_ends_its_process(self):
         def parsed(line, written, whole=logs._parsed):

@@ -9,7 +9,7 @@ import unittest
 from pathlib import Path
 from unittest import mock
 
-from rubewola import loading, maildirs, places
+from rubewola import Reader, loading, maildirs, places, sources
 from rubewola.places import place_of
 
 from support import Stores, mail
@@ -41,6 +41,41 @@ class Maildirs(Stores):
         self.loaded(1, "load-maildir", self.folder / "n")
         self.loaded(0, "load-maildir", self.folder / "n", self.top)
         self.assert_found({"jung": [1], "alt": [2]})
+
+    def test_many_of_one_name_that_move(self):
+        count, told = 300, []
+
+        def noted(reader, *longest, whole=Reader._reply):
+            told.append(len(reply := whole(reader, *longest)))
+            return reply
+        for at in range(count):
+            self.write(f"m/f{at}/cur/1000.a.h:2,S", mail(f"w{at}"))
+        self.loaded(count, "load-maildir", self.top)
+        now = self.top.rename(self.folder / "n")
+        with mock.patch.object(Reader, "_reply", noted), mock.patch.object(sources, "ASKED_AT_ONCE", 50):
+            self.run_line(rf"^loaded {count} documents \({count} moved\)", "load-maildir", now)
+        # Each of them is shown once, whatever its name.
+        self.assertLess(sum(told), 1_000 * count)
+        self.assertEqual(self.paths(), sorted(f"{now}/f{at}/cur/1000.a.h:2,S" for at in range(count)))
+        shutil.copytree(now, self.folder / "o")
+        self.loaded(0, "load-maildir", self.folder / "o")
+
+    def test_mails_that_are_read_as_they_are_loaded(self):
+        count, listed = 60, []
+
+        def noted(folder, whole=os.listdir):
+            listed.append(folder)
+            return whole(folder)
+        for at in range(count):
+            self.deliver(f"{1_000 + at}.a.h", f"wort{at}")
+        (self.top / "cur").mkdir()
+        source = maildirs.Maildirs(str(self.top))
+        for path in (self.top / "new").iterdir():
+            path.rename(self.top / "cur" / f"{path.name}:2,S")
+        with mock.patch.object(places.os, "listdir", noted), \
+                mock.patch.object(places, "_SETTLED", 10**18):  # Others change the folder.
+            self.assertEqual(loading.load(str(self.store), source, jobs=1).documents, count)
+        self.assertLess(len(listed), 10)  # No folder once for each of its mails.
 
     def test_mails_of_one_second(self):
         self.deliver("1700000001.M5P1.h", "eins")

@@ -8,7 +8,7 @@ import re
 import time
 import unittest
 
-from rubewola import documents, jsonlines, layout, logs, mailboxes, mails
+from rubewola import documents, jsonlines, layout, logs, mailboxes, mails, results
 
 from shapes import HEADS, LINES, PAGES, PLACES, SHAPES, SIGNS
 
@@ -87,6 +87,14 @@ class Shapes(unittest.TestCase):
         for name, shape in LINES.items():
             self.assertLessEqual(len(shape), SIGNS)
             self.assert_quick(by_mail, shape.encode(), name)
+
+    def test_subjects_by_which_is_sorted(self):
+        for name, shape in {**TEXTS, "answers": "Re: " * (SIGNS // 4), "spaces behind an answer":
+                            "Re: " + " " * (SIGNS - 4)}.items():
+            self.assert_quick(results._bare, shape, name)
+        for subject, wanted in (("Re: AW:  sv: plan", "plan"), ("Re:", "Re:"), ("Re: ", ""),
+                                ("re:plan", "re:plan"), ("Fwd: re: ", ""), ("plan re: x", "plan re: x")):
+            self.assertEqual(results._bare(subject), wanted)
 
     def test_mailboxes(self):
         for name, line in (("times", SHAPES["times"]), ("years", SHAPES["years"]),

@@ -6,6 +6,7 @@ import os
 import pickle
 import resource
 import signal
+import time
 import unittest
 from array import array
 from pathlib import Path
@@ -37,9 +38,23 @@ def programs_of(store):
     return found
 
 
-def entries_of(texts):
+def entries_of(texts, _=True):
     """Entries of bare texts, whatever they are."""
-    return [Entry(text.encode(), "", 0, False, False) for text in texts]
+    return [Entry(text, "") for text in texts]
+
+
+def waiting_for(path, _=True):
+    """Two entries, of which one is slow, once a file is there."""
+    while not os.path.exists(path):
+        time.sleep(0.01)
+    return [Entry(b"late", "", slow=True), Entry(b"late", "")]
+
+
+def ended_by(texts, _=True):
+    """Entries of texts, of which one may end the process that decodes them."""
+    if b"end" in texts:
+        os.kill(os.getpid(), signal.SIGKILL)
+    return entries_of(texts)
 
 
 class Sessions(Stores):
@@ -58,7 +73,7 @@ class Sessions(Stores):
         return asyncio.run(getattr(self.session, method)(*given))
 
     def load(self, first, last):
-        return self.ask("load", first, last - first + 1, lines(first, last))
+        return self.ask("load", first, last - first + 1, lines(first, last), LONG)
 
     def refused(self, told, method, *given):
         self.assertRaisesRegex(NoAnswer, told, self.ask, method, *given)
@@ -70,33 +85,33 @@ class Sessions(Stores):
     def test_what_is_sent_twice_is_added_once(self):
         for first, last, following in [(1, 10, 11), (1, 10, 11), (1, 15, 16), (4, 9, 16),
                                        (16, 20, 21)]:
-            self.assertEqual(self.load(first, last), (following, 0, 0, ()))
-        self.refused("documents from 22 on come where 21 is the next", "load", 22, 2, lines(22, 23))
-        self.refused("2 documents from 21 on .* and 3 are told", "load", 21, 3, lines(21, 22))
+            self.assertEqual(self.load(first, last), (following, 0, 0, 0, ()))
+        self.refused("documents from 22 on come where 21 is the next", "load", 22, 2, lines(22, 23), LONG)
+        self.refused("2 documents from 21 on .* and 3 are told", "load", 21, 3, lines(21, 22), LONG)
         self.assertEqual(self.found("line"), (20, [*range(1, 21)]))
         for number in range(1, 21):
             self.assertEqual(self.found(str(number)), (1, [number]))
 
     def test_a_load_that_fails_leaves_nothing_uncommitted(self):
         self.load(1, 3)
-        bad = pickle.dumps([(entries_of, ["good", "good", "x" * 1_048_577])])
-        self.refused("text too long", "load", 4, 3, bad)
-        self.refused("invalid literal", "load", 4, 1, pickle.dumps([(int, "none")]))
+        bad = pickle.dumps([(entries_of, [b"good", b"good", b"x" * 1_048_577])])
+        self.refused("text too long", "load", 4, 3, bad, LONG)
+        self.refused("invalid literal", "load", 4, 1, pickle.dumps([(int, "none")]), LONG)
         self.assertEqual(self.ask("counts", 99), (3, 4))
         self.assertEqual(self.found("good"), (0, []))
 
     def test_what_was_cut_is_told(self):
         mails = [b"From: ada\n\n" + b"x " * 600_000, b"From: ada\n\ny\n"]
-        self.assertEqual(self.ask("load", 1, 2, pickle.dumps([(Mailboxes.read_chunk, mails, True)])),
-                         (3, 1, 0, ()))
+        packed = pickle.dumps([(Mailboxes.read_chunk, mails, True)])
+        self.assertEqual(self.ask("load", 1, 2, packed, LONG), (3, 1, 0, 0, ()))
 
     def test_a_store_that_is_full_grows(self):
         self.store.unlink()
         self.assertEqual(self.ask("create", 64), "created")
         self.load(1, 9)
-        self.assertEqual(self.load(10, 400), (401, 0, 0, (self.store.stat().st_size // 512,)))
+        self.assertEqual(self.load(10, 400), (401, 0, 0, 0, (self.store.stat().st_size // 512,)))
         self.assertGreater(self.store.stat().st_size, 64 * 512)
-        self.assertEqual(self.load(401, 409), (410, 0, 0, ()))
+        self.assertEqual(self.load(401, 409), (410, 0, 0, 0, ()))
         self.assertEqual(self.found("line", limit=2, most=999), (409, [408, 409]))
 
     def test_a_growth_that_the_system_refuses(self):
@@ -107,18 +122,40 @@ class Sessions(Stores):
         resource.setrlimit(resource.RLIMIT_FSIZE, (40_000, limits[1]))
         self.addCleanup(resource.setrlimit, resource.RLIMIT_FSIZE, limits)
         self.refused(f"{self.store}: [0-9,]+ bytes are wanted, and no file may have more than 40,000",
-                     "load", 10, 391, lines(10, 400))
+                     "load", 10, 391, lines(10, 400), LONG)
         resource.setrlimit(resource.RLIMIT_FSIZE, limits)
         self.assertEqual(self.ask("counts", 999), (9, 10))
 
     def test_commands_queue(self):
-        async def both():
-            return await asyncio.gather(self.session.load(1, 500, lines(1, 500)),
+        async def loads():
+            return await asyncio.gather(self.session.load(1, 500, lines(1, 500), LONG),
                                         self.session.find("line", 0, 999),
-                                        self.session.load(501, 100, lines(501, 600)),
+                                        self.session.load(501, 100, lines(501, 600), LONG),
                                         self.session.find("line", 0, 999))
-        self.assertEqual(asyncio.run(both()), [(501, 0, 0, ()), (500, b""),
-                                               (601, 0, 0, ()), (600, b"")])
+
+        async def deletions():
+            return await asyncio.gather(self.session.delete([1, 2]), self.session.find("line", 0, 999),
+                                        self.session.delete([3]), self.session.find("line", 0, 999))
+        first, before, second, behind = asyncio.run(loads())
+        self.assertEqual((first, second), ((501, 0, 0, 0, ()), (601, 0, 0, 0, ())))
+        # What is still decoded keeps nobody waiting, and no find sees a part of a load.
+        self.assertLessEqual({before, behind}, {(0, b""), (500, b""), (600, b"")})
+        self.assertEqual(asyncio.run(deletions()), [[True, True], (598, b""), [True], (597, b"")])
+
+    def test_what_takes_its_time_is_answered_as_such(self):
+        tasks = pickle.dumps([(waiting_for, str(self.folder / "now"), True)])
+        for _ in range(3):
+            self.assertIsNone(self.ask("load", 1, 2, tasks, 0.1))
+            self.assertEqual(self.found("late"), (0, []))
+        self.write("now", b"")
+        self.assertEqual(self.ask("load", 1, 2, tasks, LONG), (3, 0, 0, 1, ()))
+        self.assertEqual(self.found("late"), (2, [1, 2]))
+
+    def test_a_batch_that_ends_its_process(self):
+        self.load(1, 3)
+        bad = pickle.dumps([(ended_by, [b"good", b"end"])])
+        self.refused("a process that decodes was ended", "load", 4, 2, bad, LONG)
+        self.assertEqual(self.load(4, 6), (7, 0, 0, 0, ()))
 
     def test_a_program_that_is_killed(self):
         self.load(1, 9)
@@ -145,8 +182,8 @@ class Sessions(Stores):
         following, number, text = self.ask("last", 99)
         self.assertEqual((following, number), (10, 7))
         self.assertIn("line 7", text)
-        texts = self.ask("show", [3, 5, 4])
-        self.assertEqual([text and text[:6] for text in texts], [None, "line 5", None])
+        replies = self.ask("show", [3, 5, 4])
+        self.assertEqual([reply[:11] for reply in replies], ["", "text line 5", ""])
 
     def test_a_store_of_another_shard(self):
         self.assertEqual(self.ask("create", 64), "was there")

@@ -36,6 +36,14 @@ def children(pid):
     return found
 
 
+def _is_python(pid):
+    """Whether a process is one of Python's own, as one that decodes; or has ended."""
+    try:
+        return b"multiprocessing" in Path(f"/proc/{pid}/cmdline").read_bytes()
+    except (FileNotFoundError, ProcessLookupError):
+        return True
+
+
 class Machines:
     """A scheduler and workers, each with one disk and by its name: worker `a` has `disk-a`. Only
     processes that this object started, and theirs, are ended, each by its number."""
@@ -102,7 +110,7 @@ class Machines:
 
     def sessions(self, name):
         """The numbers of the programs of a worker's sessions."""
-        return children(self.worker(name))
+        return [child for child in children(self.worker(name)) if not _is_python(child)]
 
     def all_of(self, name):
         """A process and all that it started, itself first."""

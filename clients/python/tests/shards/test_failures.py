@@ -194,6 +194,24 @@ class Searches(Shards):
         self.assertNotIn("b:", ran.stdout)
         self.run_line(r"b is missing .\S+: damaged", "search", "--partial", "line", status=3)
 
+    def test_a_damaged_document(self):
+        self.run_line("b: closed", "close")
+        number = self.places("b")[9]
+        text = self.line(number).split(" filling")[0].encode() + b" "
+        data = (self.folder / "b").read_bytes()
+        self.assertEqual(data.count(text), 1)
+        at = data.index(text) + len(text)
+        self.addCleanup(self.put_back, at, data[at:at + 1])
+        self.put_back(at, b"\xff")
+        ran = self.run_line(rf"(?m)^rubewola-shards: {number}: b: damaged \(", "search", "line",
+                            status=2)
+        shown = [int(line.partition(":")[0]) for line in ran.stdout.splitlines()]
+        self.assertEqual(shown, [n for n in range(1, self.LINES + 1) if n != number])
+        typed = f"find line {number}\nshow {number}\nquit\n"
+        self.run_line(rf"{number}: b: damaged \((?s:.*)found 1\n.*refused b: damaged \(", "shell",
+                      input=typed)
+        self.run_line("b: closed", "close")
+
     def put_back(self, at, data):
         with open(self.folder / "b", "r+b") as store:
             store.seek(at)
