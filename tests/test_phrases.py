@@ -30,6 +30,9 @@ PHRASES = (
 # Parts end at the first space behind so many bytes; a text of up to 4,096 is lent as it lies.
 LENGTHS = 20, 64, 128, 300, 1_024, 1_100, 2_048, 4_096, 4_200, 9_000
 
+# Texts that lie near each other, but for some that are longer.
+NEAR = 300, 20, *[300] * 5, 64, 4_096, *[300] * 5, 600, 4_200, 128, 300, 1_000, 20
+
 
 def drawn():
     """Numbers by chance, always the same (Knuth 1981, section 3.3.4)."""
@@ -59,17 +62,16 @@ def text_of(numbers, length, spellings, signs, inner):
     return text.rstrip(" \t,.-(@"), words
 
 
-def texts():
-    """Texts and their words: in ASCII; with a word beyond it here and there; of such words alone;
-    and of one frequent word with others beside it."""
+def texts(lengths):
+    """Texts of these lengths and their words: in ASCII; with a word beyond it here and there; of
+    such words alone; and of one frequent word with others beside it."""
     numbers = drawn()
     plain, other = sorted(SPELLED), sorted(BEYOND)
     vocabularies = plain, plain * 8 + other, other, ["the"] * 60 + ["genus", "of", "act"]
-    for length in LENGTHS:
+    for length in [*lengths] * 3:
         for vocabulary in vocabularies:
-            for _ in range(3):
-                phrase = PHRASES[next(numbers) % len(PHRASES)].split()
-                yield text_of(numbers, length, vocabulary, SIGNS, phrase)
+            phrase = PHRASES[next(numbers) % len(PHRASES)].split()
+            yield text_of(numbers, length, vocabulary, SIGNS, phrase)
 
 
 def stands_in(row, words):
@@ -77,8 +79,8 @@ def stands_in(row, words):
     return any(words[at:at + len(row)] == row for at in range(len(words)))
 
 
-def session():
-    """All phrases over the texts as they come, are committed by two thirds, and merged."""
+def session(lengths):
+    """All phrases over texts of these lengths as they come, are committed by two thirds, and merged."""
     there, lines = {}, ["!disk 4194304", "!create => created"]
 
     def ask_all():
@@ -86,7 +88,7 @@ def session():
             found = [n for n, words in there.items() if stands_in(phrase.split(), words)]
             lines.append(" ".join([f'find "{phrase}" => found {len(found)}:', *map(str, found)]))
 
-    for number, (text, words) in enumerate(texts(), 1):
+    for number, (text, words) in enumerate(texts(lengths), 1):
         there[number] = words
         lines.append(f"add {text} => added {number}")
         if number in (60, 110):
@@ -99,17 +101,26 @@ def session():
     return lines
 
 
-def row():
+def row(title, lengths):
     """The session as a script."""
-    lines = [scripts.Line("phrases", number, text, 4) for number, text in enumerate(session(), 1)]
-    return scripts.Row("test_phrases.py", "drawn phrases", "script", "answers",
+    lines = [scripts.Line("phrases", number, text, 4)
+             for number, text in enumerate(session(lengths), 1)]
+    return scripts.Row("test_phrases.py", title, "script", "answers",
                        scripts.BLOCKS + scripts.PAGES, lines)
 
 
 class Phrases(unittest.TestCase):
-    """The session."""
+    """The sessions."""
+
+    def assert_played(self, played):
+        """In each setting each phrase finds its texts."""
+        told = scripts.differences([scripts.input_of(played, it) for it in played.settings])
+        self.assertEqual(told, "", f"\n{told}")
 
     def test_each_phrase_finds_its_texts(self):
-        """In each setting."""
-        told = scripts.differences([scripts.input_of(row(), setting) for setting in row().settings])
-        self.assertEqual(told, "", f"\n{told}")
+        """Over short and long ones."""
+        self.assert_played(row("drawn phrases", LENGTHS))
+
+    def test_each_phrase_finds_its_texts_near_each_other(self):
+        """Over short ones with a long one here and there."""
+        self.assert_played(row("drawn phrases near each other", NEAR))
