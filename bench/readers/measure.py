@@ -13,6 +13,7 @@ import collections
 import multiprocessing
 import os
 import pathlib
+import re
 import shutil
 import statistics
 import subprocess
@@ -136,8 +137,10 @@ def load(side, log, count, path, readers, words):
 
 
 def wanted(log, count, word):
-    """How many of the lines have a word."""
-    return sum(word.encode() in line.lower() for batch in batches(log, count) for line in batch)
+    """How many of the lines have a word, which may be a part of others: by UAX #29 a point, a comma,
+    a colon or an apostrophe within keeps digits or letters together."""
+    alone = re.compile(rb"(?<![\w])(?<![\w][.,:'])%b(?![.,:']?\w)" % word.encode())
+    return sum(bool(alone.search(line.lower())) for batch in batches(log, count) for line in batch)
 
 
 def sides(program, python):

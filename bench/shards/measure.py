@@ -151,7 +151,7 @@ def ask(machines, line):
             slowest = max(alone[query])
             say(f"{len(machines.names)} workers: {query!r}, {found.count} found: slowest shard "
                 f"{slowest:.2f} ms, engine {taken:.2f} ms, {taken - slowest:.2f} ms more")
-            shown = milliseconds(lambda: answers.texts(fleet, found.numbers))
+            shown = milliseconds(lambda: answers.replies(fleet, found.numbers))
             say(f"{len(machines.names)} workers: their last {len(found.numbers)} texts "
                 f"{shown:.2f} ms")
     seconds(*line, "open")
