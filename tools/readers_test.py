@@ -17,6 +17,7 @@ import program_case
 from program_case import NotedTest, ProgramTest
 
 DISK = 1, b"", b"pk_find: disk\n"
+IN_USE = 1, b"", b"pk_find: in use\n"
 
 
 class Session:
@@ -211,7 +212,7 @@ class BesideASession(WithAStore):
             self.assertEqual(writer.commit(), reader.ask("find x"))
         self.assertEqual(reader.ask("show 20"), "text x w20")
         self.assertEqual(reader.ask("count"), "count 20 next 21")
-        self.assertEqual(self.run_program("run", "s"), DISK)
+        self.assertEqual(self.run_program("run", "s"), IN_USE)
         self.assertEqual(reader.end(), (0, b""))
 
     def test_what_is_not_committed_is_not_seen(self):
@@ -408,7 +409,7 @@ class ThatCannotGetAhead(WithAStore, NotedTest):
         self.assertEqual(reply, found(range(1, writer.commits + 1)))
         self.assertEqual(calls.count("lock"), 2)
         self.assertGreater(len(told), 5)
-        self.assertEqual(set(told[1:]), {DISK})
+        self.assertEqual(set(told[1:]), {IN_USE})
         ran = self.run_program("run", "s", lines=b"add y\ncommit\n")
         self.assertEqual(ran, (0, f"added {writer.commits + 1}\ncommitted\n".encode(), b""))
 

@@ -198,7 +198,7 @@ class Writer:
                 self.look(reply)
                 return session
             told = session.end()
-            if told != (1, "pk_find: disk\n"):
+            if told != (1, "pk_find: in use\n"):
                 raise AssertionError(f"a session ended with {told}")
             self.history.busy += 1
 

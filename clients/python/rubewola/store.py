@@ -32,6 +32,7 @@ LAST_TRY, LONG_WAIT = 1, 1
 
 _MISUSED = 2  # The status of a command line that is refused.
 _BEING_MADE = ("bad length", "not a store")  # What a store may be told to be that is being made.
+_HELD = ("in use", "disk")  # What one may be that another program has; an older program says `disk`.
 
 
 class Counts(namedtuple("Counts", ("live", "next"))):
@@ -313,9 +314,9 @@ def _when_free(path: str, attempt: Callable[[], Any], wait: float,
         try:
             return attempt()
         except Failed as failed:
-            if failed.reason != "disk" and (is_again or failed.reason not in _BEING_MADE):
+            if failed.reason not in _HELD and (is_again or failed.reason not in _BEING_MADE):
                 raise failed.of(path)
-            is_again = failed.reason != "disk"
+            is_again = failed.reason not in _HELD
             turn.wait()
             if time.monotonic() > max(begin + wait, begin + LAST_TRY):
                 raise failed.of(path)

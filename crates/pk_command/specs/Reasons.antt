@@ -16,6 +16,7 @@ abbrev pub file_words : FileFault → List ℕ
 file_words file.Exists = codes "pk_find: exists\n"
 file_words file.Missing = codes "pk_find: missing\n"
 file_words file.BadLength = codes "pk_find: bad length\n"
+file_words file.InUse = codes "pk_find: in use\n"
 file_words file.Disk = codes "pk_find: disk\n"
 
 -- of a disk on which no store was made

@@ -107,7 +107,7 @@ answered `refused` and why, in the words of `run`; after `memory`, `damaged` and
 be given again.
 
 Beside a program that commits faster than a question is answered, a reader keeps writers away for
-that question; who begins `run`, `check` or `grow` just then is told `disk`. Where it cannot, it goes
+that question; who begins `run`, `check` or `grow` just then is told `in use`. Where it cannot, it goes
 on beside them for a second, and then answers `refused disk`.";
 
 const CHECK_ABOUT: &str = "Reads all that is committed in the store of a file, and compares it";

@@ -27,7 +27,8 @@
 //! | `shorter` | the store has more units than `grow` asks for |
 //! | `numbers used up` | there is no generation for the body of a growth |
 //! | `damaged` | the store's bytes are not sound: for `grow` the body in force, for `run` and `read` those that opening reads, for `check` all |
-//! | `disk` | the system refused a call of the file, or its lock, for which `read` doesn't ask to begin |
+//! | `in use` | another program has the file, which is nothing to `read` |
+//! | `disk` | the system refused a call of the file |
 //! | `memory` | a growth of memory was refused |
 //! | `input`, `output` | a read of standard input, or a write of standard output, failed |
 //! | `too many reads` | there were 2^40 reads of standard input |

@@ -94,6 +94,7 @@ pub fn file_reason(fault: FileFault) -> &'static str
         FileFault::Exists => "pk_find: exists\n",
         FileFault::Missing => "pk_find: missing\n",
         FileFault::BadLength => "pk_find: bad length\n",
+        FileFault::InUse => "pk_find: in use\n",
         FileFault::Disk => DISK,
     }
 }

@@ -2,7 +2,7 @@
 use Rattle.std.specs.Prelude.{◌≡◌, ℕ, Bool, IsTrue, List, length, Option, Some, None, Result, Ok, Err}
 use Rattle.pk_filedisk.specs.File.{IsDiskLength}
 use Rattle.pk_filedisk.specs.declared.fault.FileFault.{FileFault}
-use Rattle.pk_filedisk.specs.declared.fault.FileFault.TheVariants.{Exists, Missing, BadLength, Disk}
+use Rattle.pk_filedisk.specs.declared.fault.FileFault.TheVariants.{Exists, Missing, BadLength, InUse, Disk}
 use Rattle.pk_filedisk.specs.declared.fault.NotADisk.{NotADisk}
 
 -- how many files a system gave
@@ -32,7 +32,7 @@ pub record IsNewAt {F : Type 0} (is_new : F → Bool) (path : F → List ℕ) (a
   pub place : path file ≡ at
 
 -- What an opening that gives no disk leaves, by its fault: of a bad length the file, as it was
--- found, and its length is none of a disk; of a path with nothing there no file.
+-- found, and its length is none of a disk; of a path with nothing there no file; of one in use it.
 abbrev pub IsLeftByOpening : {F : Type 0} → (F → List ℕ) → (F → Type 0) → FileFault → Option F → Type 0
 IsLeftByOpening content found Exists left = ⊥
 IsLeftByOpening content found Missing None = Unit {0}
@@ -40,6 +40,8 @@ IsLeftByOpening content found Missing (Some file) = ⊥
 IsLeftByOpening content found BadLength None = ⊥
 IsLeftByOpening content found BadLength (Some file) =
     found file × (IsDiskLength (length (content file)) → ⊥)
+IsLeftByOpening content found InUse None = ⊥
+IsLeftByOpening content found InUse (Some file) = found file
 IsLeftByOpening content found Disk None = Unit {0}
 IsLeftByOpening content found Disk (Some file) = found file
 
@@ -49,5 +51,7 @@ IsLeftByMaking made Exists None = Unit {0}
 IsLeftByMaking made Exists (Some file) = ⊥
 IsLeftByMaking made Missing left = ⊥
 IsLeftByMaking made BadLength left = ⊥
+IsLeftByMaking made InUse None = ⊥
+IsLeftByMaking made InUse (Some file) = made file
 IsLeftByMaking made Disk None = Unit {0}
 IsLeftByMaking made Disk (Some file) = made file

@@ -5,14 +5,15 @@ ghost use Rattle.std.specs.Prelude.{IfErr, IfOk, IfSome, IsSome, IsTrue, false};
 ghost use Rattle.pk_disk.specs.Disk.{nowhere};
 ghost use Rattle.pk_disk.specs.Sizes.{least_units, most_units};
 ghost use Rattle.pk_disk.specs.Since.{OnlyNew};
-ghost use Rattle.pk_filedisk.specs.File.{IsDiskLength, IsOfMake, IsOfOpening};
+ghost use Rattle.pk_filedisk.specs.File.{IsDiskLength, IsOfLock, IsOfMake, IsOfOpening};
 ghost use Rattle.pk_filedisk.specs.Found.{IsFound, IsLeftByMaking, IsLeftByOpening, IsNewAt};
 ghost use Rattle.pk_filedisk.specs.Found.{files_left};
+ghost use Rattle.pk_filedisk.specs.Locking.{refused_by};
 ghost use Rattle.pk_filedisk.specs.Raw.{IsExtended, IsSameFile};
 ghost use Rattle.pk_filedisk.specs.Resized.{resized};
 
 use crate::fault::{FileFault, NotADisk};
-use crate::raw::RawFile;
+use crate::raw::{LockFault, RawFile};
 use crate::system::{FileSystem, OpensFiles};
 use crate::whole::{read_whole, write_whole};
 use pk_disk::{Disk, DiskFault, LEAST_UNITS, MAX_UNITS, UNIT};
@@ -38,9 +39,9 @@ impl<F: RawFile + Drop> FileDisk<F> {
     /// Makes a file of `units` units of zero bytes, locks it, and syncs its length and its folder's
     /// entry.
     ///
-    /// `Exists` where there is something at the path, and then it makes no file, or `Disk`, with the
-    /// file where it was made.
-    #[tactic(auto, using(crate::proofs::ResizedLemmas::length_resized, crate::proofs::ResizedLemmas::resized_zeros))]
+    /// `Exists` where there is something at the path, and then it makes no file; `InUse` where another
+    /// opening of the file was quicker to lock it; or `Disk`, with the file where it was made.
+    #[tactic(auto, using(crate::proofs::ResizedLemmas::length_resized, crate::proofs::ResizedLemmas::resized_zeros, crate::proofs::LockLemmas::fault_of_creation, crate::proofs::LockLemmas::nothing_made, crate::proofs::LockLemmas::fault_of_making, crate::proofs::LockLemmas::left_by_making))]
     pub fn make<S: FileSystem<File = F>>(
         system: &mut S,
         path: &str,
@@ -83,9 +84,9 @@ impl<F: RawFile + Drop> FileDisk<F> {
     /// Opens a file, locks it and syncs its length.
     ///
     /// `Missing` where there is nothing at the path, `BadLength` where the file has less than 64
-    /// whole units or more than 2^31, or `Disk`, also where another opening of the file holds a
-    /// lock. A file that was opened is handed back, with the bytes that it had.
-    #[tactic(auto, using(crate::proofs::ResizedLemmas::length_resized, crate::specs::Resized::resized_same))]
+    /// whole units or more than 2^31, `InUse` where another opening of the file holds its lock, or
+    /// `Disk`. A file that was opened is handed back, with the bytes that it had.
+    #[tactic(auto, using(crate::proofs::ResizedLemmas::length_resized, crate::specs::Resized::resized_same, crate::proofs::LockLemmas::fault_of_opening, crate::proofs::LockLemmas::left_by_opening))]
     pub fn on<S: OpensFiles<File = F>>(
         system: &mut S,
         path: &str,
@@ -206,15 +207,20 @@ fn locked<F: RawFile + Drop>(mut file: F) -> Result<F, NotADisk<F>>
     ensures bytes { F.honest → IfOk result (λ f. F.content f ≡ F.content file) }
     ensures same { IfOk result (λ f. IsSameFile F.is_new F.path file f) }
     ensures sure { IfOk result (λ f. F.is_sure f ≡ F.is_sure file) }
-    ensures fault { IfErr result (λ none. none.why ≡ FileFault.Disk) }
+    ensures fault { IfErr result (λ none. IsOfLock none.why) }
     ensures left { F.honest → IfErr result
         (λ none. IfSome none.file (λ f. F.content f ≡ F.content file)) }
     ensures same_left { IfErr result (λ none. IfSome none.file (IsSameFile F.is_new F.path file)) }
     ensures handed { IfErr result (λ none. IsSome none.file) }
+
+    // In use is told where another opening holds the lock, not where the system refused the call.
+    ensures counted { F.honest → IfErr result (λ none. IfSome none.file
+        (λ f. F.refused f ≡ F.refused file + refused_by none.why)) }
 {
     match file.try_lock() {
         Ok(()) => Ok(file),
-        Err(_) => Err(NotADisk::refused(file)),
+        Err(LockFault::Held) => Err(NotADisk::in_use(file)),
+        Err(LockFault::Failed) => Err(NotADisk::refused(file)),
     }
 }
 

@@ -8,7 +8,7 @@ ghost use Rattle.pk_memoryfile.specs.Record.{ImageSince, moment_of, open_in};
 ghost use Rattle.pk_memoryfile.specs.Record.{image_now, only_image_now};
 
 use crate::record::Recorded;
-use pk_filedisk::{CallFault, RawFile};
+use pk_filedisk::{CallFault, LockFault, RawFile};
 use std::alloc::Global;
 
 /// What a call answers, once it has moved its bytes.
@@ -173,10 +173,16 @@ impl RawFile for MemoryFile {
 
     ghost honest = { Unit {0} };
 
-    fn try_lock(&mut self) -> Result<(), CallFault> {
-        next_ending(&mut self.script, &mut self.refused)?;
-        self.is_locked = true;
-        Ok(())
+    // A call that is interrupted finds the lock held.
+    fn try_lock(&mut self) -> Result<(), LockFault> {
+        match next_ending(&mut self.script, &mut self.refused) {
+            Ok(()) => {
+                self.is_locked = true;
+                Ok(())
+            }
+            Err(CallFault::Interrupted) => Err(LockFault::Held),
+            Err(CallFault::Failed) => Err(LockFault::Failed),
+        }
     }
 
     fn len(&self) -> Result<u64, CallFault> {

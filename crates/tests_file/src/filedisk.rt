@@ -5,7 +5,9 @@ ghost use Rattle.std.specs.Prelude.{◌≡◌, ◌+◌, [], length, IfOk};
 ghost use Rattle.pk_filedisk.specs.Raw.{refusals};
 
 use pk_disk::{Disk, DiskFault};
-use pk_filedisk::{CallFault, FileDisk, FileFault, FileSystem, NotADisk, OpensFiles, RawFile};
+use pk_filedisk::{
+    CallFault, FileDisk, FileFault, FileSystem, LockFault, NotADisk, OpensFiles, RawFile,
+};
 use pk_memoryfile::{Ending, MemoryFile, Step};
 use std::alloc::{AllocError, Global};
 use std::cell::{Cell, RefCell};
@@ -126,9 +128,12 @@ impl<'a, F: RawFile> RawFile for NotedFile<'a, F> {
 
     ghost honest = { F.honest };
 
-    fn try_lock(&mut self) -> Result<(), CallFault> {
-        count_refused(self.system.note("lock", "file"), &mut self.refused)?;
-        self.file.try_lock()
+    fn try_lock(&mut self) -> Result<(), LockFault> {
+        match count_refused(self.system.note("lock", "file"), &mut self.refused) {
+            Ok(()) => self.file.try_lock(),
+            Err(CallFault::Interrupted) => Err(LockFault::Held),
+            Err(CallFault::Failed) => Err(LockFault::Failed),
+        }
     }
 
     fn len(&self) -> Result<u64, CallFault> {
@@ -497,7 +502,7 @@ fn make_and_write<F: RawFile + Drop>(
     assert!(&*rt; again == Some((FileFault::Exists, false)));
     write_some(rt, &mut disk);
     let other = told(FileDisk::on(rt, path));
-    assert!(&*rt; other == Some((FileFault::Disk, true)));
+    assert!(&*rt; other == Some((FileFault::InUse, true)));
     Ok(())
 }
 
