@@ -82,6 +82,16 @@ class Reading(unittest.TestCase):
                   "delete 109 => refused no such document", "count => count 107 next 110"]
         self.assertEqual(self.reads([beside]), [OPENING])
 
+    def test_texts_near_each_other_are_read_at_once(self):
+        """Of 100 documents that have two words a phrase of them reads the directory and the texts,
+        3 bytes each, beside what the words read."""
+        lines = ["!disk 131072", "!create", *["add a b"] * 100, "commit", "!close"]
+        for query in ("a AND b", '"a b"'):
+            lines += ["!open", f"find {query}", "!close", "!calls"]
+        got = scripts.answers([lines])[0]
+        words, row = (answer for line, answer in zip(lines, got) if line == "!calls")
+        self.assertEqual(row.count("r"), words.count("r") + 2)
+
     def test_a_find_again_reads_fewer_bytes(self):
         """4,096 documents in one list are found once and twice, by a store that keeps no decoded
         block and by one that keeps 64 of them."""

@@ -2,8 +2,9 @@
 
     turns.py EARLIER PROGRAM LINES FOLDER [read]
 
-With `read` the second answers in sessions that only read. LINES has a text a line. EARLIER fills a store with the texts, each 4,096 made lasting, and each
-program answers over a copy of it, so neither reads what the other wrote since. Every query of
+With `read` the second answers in sessions that only read. LINES has a text a line. EARLIER fills a
+store with the texts, each 4,096 made lasting, and each program answers over a copy of it, so neither
+reads what the other wrote since. Every query of
 measure.py is asked of both over a pipe, each when the last is answered and many in a row. They take
 turns, in rounds that go through all queries, and of each the best round counts: two programs that are
 nearly alike want more rounds than peers, and some when the machine is at rest. First as the store was

@@ -16,11 +16,13 @@
 //! taken out too and joined (`lists`). Where nothing is left, nothing more is read. The beginning
 //! of a word is looked for in the dictionary, and the lists of all words that begin so are united
 //! (`begun`). Words in a row are looked for in the texts of what is left at the end (`in_row`), by
-//! the one of them that the fewest documents of the segment hold: one text at a time, one of 4,096
-//! bytes or less where the source lends it. Where one document of 64 or more is left, the directory
-//! is read whole, and gone through from each number to the next. A segment of kind 1 has no lists:
-//! its documents are read, and the plan carried out over an index of the words of each (pk_live, by
-//! `hits`). The plan is answered, so that other documents are found by it too.
+//! the one of them that the fewest documents of the segment hold: a text of 4,096 bytes or less
+//! where the source lends it, and a longer one by itself. Where two or more lie in as many bytes on
+//! average and little lies between them, those behind a text are lent with it (`span`). Where one
+//! document of 64 or more is left, the directory is read whole, and gone through from each number to
+//! the next. A segment of kind 1 has no lists: its documents are read, and the plan carried out over
+//! an index of the words of each (pk_live, by `hits`). The plan is answered, so that other documents
+//! are found by it too.
 //!
 //! The answer is exact whatever the frequencies are: they choose the way alone.
 //!
@@ -47,6 +49,7 @@ mod lists;
 mod pivots;
 mod planned;
 mod repeats;
+mod span;
 mod stored;
 
 pub use finding::find_stored;

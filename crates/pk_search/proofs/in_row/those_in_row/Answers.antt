@@ -10,4 +10,5 @@ returns-in_err-table-clause-kept g c = λ honest docs is of all. fault_passed _ 
 pub returns-clause-kept : goal.returns-clause-kept
 returns-clause-kept g c = λ honest docs is of all.
     let here = subst (λ (x : List ℕ). SegmentSpells x docs 2) (sym (c.in_ok-directory.ensures.left.same honest)) is in
-    c.found_in_row.ensures.kept honest docs here of (c.in_ok-directory.ensures.is honest docs is of) all
+    c.found_in_row.ensures.kept honest docs
+    (record { spelled = here; segment = of; directory = c.in_ok-directory.ensures.is honest docs is of; live = all })
