@@ -1,5 +1,6 @@
 -- The definitions that contracts of readers cite.
 pub mod Asking
+pub mod Faults
 pub mod Reading
 pub mod Held
 pub mod Replies

@@ -2,6 +2,7 @@
 
 ghost use Rattle.std.specs.Prelude.{◌≡◌, ◌≤◌, IfErr, IfOk};
 ghost use Rattle.pk_manifest.specs.Evolves.{in_force};
+ghost use Rattle.pk_reader.specs.Faults.{showing_fault};
 
 use crate::shown::Shown;
 use pk_disk::Disk;
@@ -23,7 +24,9 @@ pub struct Caches {
 }
 
 // Why no store was opened, as of a snapshot.
-fn fault_of(why: OpenFault) -> SnapshotFault {
+fn fault_of(why: OpenFault) -> SnapshotFault
+    ensures { result ≡ showing_fault why }
+{
     match why {
         OpenFault::TooSmall => SnapshotFault::TooSmall,
         OpenFault::NotAStore => SnapshotFault::NotAStore,

@@ -4,6 +4,7 @@ ghost use Rattle.std.specs.Prelude.{◌≡◌, ◌≤◌, IfOk};
 ghost use Rattle.pk_manifest.specs.Evolves.{in_force};
 ghost use Rattle.pk_model.specs.Views.{reply_of};
 ghost use Rattle.pk_reader.specs.Asking.{request_of};
+ghost use Rattle.pk_reader.specs.Faults.{opening_fault};
 ghost use Rattle.pk_reader.specs.Held.{file_bytes};
 ghost use Rattle.pk_reader.specs.Reading.{ReadStep};
 ghost use Rattle.pk_reader.specs.Replies.{ReaderReplies};
@@ -35,7 +36,9 @@ pub struct Reader<V: View, C: Clock> {
 }
 
 // Why there is nothing to be read: none where the file may be opened again.
-fn fault_of(why: SnapshotFault) -> Option<OpenFault> {
+fn fault_of(why: SnapshotFault) -> Option<OpenFault>
+    ensures { result ≡ opening_fault why }
+{
     match why {
         SnapshotFault::TooSmall => Some(OpenFault::TooSmall),
         SnapshotFault::NotAStore => Some(OpenFault::NotAStore),
