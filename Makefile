@@ -89,7 +89,8 @@ soak:
 soak-readers:
 	python3 tools/reading_soak.py $(PROGRAM) 3600
 
-# The engine's rows, over the built player: scripts, sweeps of failing calls, damage.
+# The engine's rows, over the built player: scripts, sweeps of failing calls, damage; and those of
+# the lower layers.
 rows:
 	python3 tools/run_tests.py rows
 

@@ -19,6 +19,10 @@ Of a row that is too long, as LINES and BYTES say, each loop has FEW rounds, or 
 then is what the player answers with no request refused. A row that is played below page caches alone is
 played so here.
 
+The rows of the lower layers are played so over their program, but for those in which a call is to
+fail. A line that is refused memory is answered so, and then as it is written. Where a disk's record
+was refused it, a call of the disk fails; what is in force then is what was before.
+
 Each row is told with how many requests were refused: of the store, where a line was asked again; of
 the player; of the disk's record, or with a failing call in another line; and of what can do without,
 as a cache of blocks. The last line is `N passed, M failed`, in runs.
@@ -34,6 +38,7 @@ from collections import Counter
 from concurrent.futures import ProcessPoolExecutor
 
 from . import scripts
+from .layers import lines
 
 sys.path.insert(0, str(pathlib.Path(__file__).resolve().parent.parent / "tools"))
 import preload  # noqa: E402  pylint: disable=wrong-import-position
@@ -104,9 +109,56 @@ class Course:
             len(answer) >= len(wanted) and answer.replace("r", "") == wanted.replace("r", "")
 
 
+class Lines:
+    """A row of the lower layers."""
+
+    program, options = lines.LAYERS, []
+    faults = {"disk", "not"}  # The words for a call of the disk that failed: `not written`.
+
+    def __init__(self, row):
+        self.pairs = [(asked, wanted) for _, asked, wanted in lines.asked_of(row)]
+        self.given = "".join(f"{asked}\n" for asked, _ in self.pairs)
+        self.wrong = lines.differences(row)
+
+    def is_cut(self, wanted, answer):
+        """Whether an answer tells of a call of the disk that was not to fail."""
+        return answer != wanted and bool(self.faults & {*answer.split()})
+
+    def kind(self, status, told):
+        """Who was refused memory in a run that told this."""
+        got = [line for line in told if line != "memory"]
+        is_cut = any(self.is_cut(wanted, answer) for (_, wanted), answer in zip(self.pairs, got))
+        return "player" if status == STOPPED else "record" if is_cut else \
+            "store" if "memory" in told else "none"
+
+    def fault(self, status, told):
+        """What is wrong with such a run, if anything."""
+        got = [line for line in told if line != "memory"]
+        if status not in (0, STOPPED) or len(told) - len(got) > 1 or \
+                status == 0 and len(got) != len(self.pairs):
+            return f"the program ended with {status}, {len(told)} answers"
+        in_force, is_cut = None, False
+        for (asked, wanted), answer in zip(self.pairs, got):
+            is_cut = is_cut or self.is_cut(wanted, answer)
+            if asked == "current":
+                wanted = in_force if is_cut else wanted
+                in_force = answer
+            elif is_cut:
+                continue
+            if asked.startswith("pages "):  # How much is read below depends on what is kept.
+                wanted, answer = wanted.rpartition(" ")[0], answer.rpartition(" ")[0]
+            if asked.startswith("blocks "):  # So does what is asked of the source.
+                wanted, answer = (told.replace("kept", "asked") for told in (wanted, answer))
+            if answer != wanted:
+                return f"{asked[:300]}\n  wanted: {wanted[:300]}\n  got:    {answer[:300]}"
+        return None
+
+
 class Play:
     """A row in a setting: what the player is given, and what it is to answer. Of one that is not
     whole the answers are those that the player gives where no memory is refused."""
+
+    program = scripts.PLAYER
 
     def __init__(self, row, setting, is_whole=True):
         row = row._replace(lines=[line for line in row.lines if line.text != "!fail each"
@@ -180,6 +232,8 @@ class Creation:
     """A creation: where it is refused memory no byte of the disk changes, and the disk that is
     handed back is made a store."""
 
+    program = scripts.PLAYER
+
     def __init__(self, setting):
         self.lines = [setting, *CREATION]
         self.given = "".join(f"{line}\n" for line in ("!script creation", *self.lines))
@@ -228,7 +282,7 @@ def runs_of(play, shim):
     kinds = Counter()
 
     def run(environment):
-        ran = subprocess.run([scripts.PLAYER, *play.options], input=play.given, text=True,
+        ran = subprocess.run([play.program, *play.options], input=play.given, text=True,
                              encoding="utf-8", capture_output=True, env=environment, timeout=120,
                              check=False)
         told = ran.stdout.split("\n")[:-1]
@@ -259,9 +313,21 @@ def rows(is_quick):
         yield row.file, row.title
 
 
+def layered(is_quick):
+    """The rows of the lower layers that are played: without a failing call."""
+    for file in lines.files():
+        for row in file.rows:
+            if not any(text.startswith(("fail ", "stop ")) for text in row.texts) \
+                    and (not is_quick or not is_long(row)):
+                yield row.file, row.title
+
+
 def plays(name, title):
     """A row in each of its settings, with fewer rounds of its loops where it is too long."""
     row = scripts.file(name).row(title)
+    if name.startswith("layers/"):
+        yield "as it is", Lines(row)
+        return
     is_whole = not is_long(row)
     if not is_whole:
         row = scripts.File(name, TWO if bytes_of(row) > BYTES else FEW).row(title)
@@ -295,7 +361,8 @@ def main():
     passed = failed = 0
     with tempfile.TemporaryDirectory() as place:
         shim = preload.built("refuse_memory", place)
-        cases = [(shim, *row) for row in (*rows(is_quick), ("", "a store is made"))]
+        cases = [(shim, *row) for row in (*rows(is_quick), ("", "a store is made"),
+                                         *layered(is_quick))]
         with ProcessPoolExecutor(len(os.sched_getaffinity(0))) as pool:
             for told, runs, faults in pool.map(played, cases):
                 print(told, flush=True)

@@ -29,18 +29,7 @@ MARK = "short_of_memory"
 # of it: of a disk's record, as a call that failed.
 WORKED = {
     "tests_meaning": ("words::the_words_of_texts", "plans::queries_have_their_plans"),
-    "tests_numbers": (
-        "posting::lists_have_their_bytes", "posting::what_spells_no_list_is_damaged",
-        "dict::the_row_is_spelled", "dict::the_terms_of_the_row_are_found",
-        "dict::the_terms_of_the_row_are_listed", "dead::lists_have_their_bytes"),
-    "tests_disk": (
-        "segment::a_segment_is_built", "segment::a_segment_is_read",
-        "indexed::a_segment_is_built", "indexed::a_segment_is_read", "indexed::its_texts_are_read",
-        "manifest::the_body_of_a_new_store_has_these_bytes",
-        "manifest::the_greater_generation_is_in_force",
-        "manifest::a_refused_installation_leaves_the_old_body",
-        "space::the_first_run_that_fits_is_taken",
-        "merge::what_is_left_is_one_segment", "merge::nothing_is_left"),
+    "tests_disk": ("space::the_first_run_that_fits_is_taken",),
     "tests_engine": ("buffer::documents_come_and_leave",),
 }
 ENDINGS = ("error: AllocError\n", "error: AllocFailed { .. }\n", "error: Memory\n", "error: Disk\n")

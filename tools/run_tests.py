@@ -3,7 +3,8 @@
 
 usage: tools/run_tests.py SUITE [K/N]      at the top of the repository; K/N: the Kth of N parts
 
-    rows      the engine's rows, over the built player
+    rows      the engine's rows, over the built player, and those of the lower layers
+    layers    those of the lower layers alone, over the program that answers them
     client    the client's tests, over the built program
     shards    those of archives over several machines, by a Python that has distributed
     tools     the tests of tools/
@@ -28,12 +29,16 @@ PROGRAM = TOP / "crates/pk_find/out/pk_find"
 # Where each suite's tests are, the folder from which they are imported, and what they import.
 SUITES = {
     "rows": ("tests", ".", []),
+    "layers": ("tests/layers", ".", []),
     "client": ("clients/python/tests", None, [CLIENT]),
     "shards": ("clients/python/tests/shards", None, [CLIENT, CLIENT / "tests"]),
     "tools": ("tools/tests", None, []),
 }
-# Modules of rows that RUBEWOLA_QUICK=1 leaves, in this order: the others play long rows many times.
-QUICK = ["tests.test_rows", "tests.test_player", "tests.test_scripts", "tests.test_sweeps"]
+# The modules that RUBEWOLA_QUICK=1 leaves, in this order: the others play long rows, or many.
+QUICK = {
+    "rows": ["tests.test_rows", "tests.test_player", "tests.test_scripts", "tests.test_sweeps"],
+    "layers": ["tests.layers.test_scripts", "tests.layers.test_segments"],
+}
 INSTALL = "apt-get install -y --no-install-recommends"
 
 
@@ -60,12 +65,12 @@ def module_of(suite):
 
 
 def chosen(suite, name, part):
-    """The tests of a part of the modules, of rows the quick ones alone where these are asked for."""
+    """The tests of a part of the modules, the quick ones alone where these are asked for."""
     number, parts = map(int, part.split("/"))
     modules = [each for each in suite if each.countTestCases()]
-    if name == "rows" and os.environ.get("RUBEWOLA_QUICK") == "1":
-        modules = [each for each in modules if module_of(each) in QUICK]
-        modules.sort(key=lambda each: QUICK.index(module_of(each)))
+    if name in QUICK and os.environ.get("RUBEWOLA_QUICK") == "1":
+        modules = [each for each in modules if module_of(each) in QUICK[name]]
+        modules.sort(key=lambda each: QUICK[name].index(module_of(each)))
     return unittest.TestSuite(modules[number - 1::parts])
 
 

@@ -3,12 +3,12 @@
 
 usage: tools/smoke.py      at the top of the repository
 
-The seals and the tests of tools/ need no program. Beside them the player and the program are built
-as they are (tools/unproved.py); then the engine's scripts and sweeps are played by the one, but for
-a few long ones and in two settings each, and the client's tests run over the other. Four minutes
-after the start no test is begun, and a minute later what still runs is broken off, so a slow machine
-tries less: how many tests were left out is told. The last line says what none of this shows; the
-status is 1 where a part failed.
+The seals and the tests of tools/ need no program. Beside them the players and the program are built
+as they are (tools/unproved.py); then the engine's scripts and sweeps are played by the one player,
+but for a few long ones and in two settings each, the rows of the lower layers by the other, and the
+client's tests run over the program. Four minutes after the start no test is begun, and a minute later
+what still runs is broken off, so a slow machine tries less: how many tests were left out is told. The
+last line says what none of this shows; the status is 1 where a part failed.
 """
 import concurrent.futures
 import os
@@ -64,6 +64,7 @@ def main():
         parts = [
             pool.submit(over, "pk_player", "RUBEWOLA_PLAYER", "rows", 1, folder),
             pool.submit(over, "pk_find", "RUBEWOLA_PROGRAM", "client", 3, folder),
+            pool.submit(over, "pk_layers", "RUBEWOLA_LAYERS", "layers", 1, folder),
             pool.submit(lambda: [ran("seals", sys.executable, "tools/seals.py")]),
             pool.submit(lambda: [ran("tools", sys.executable, "tools/run_tests.py", "tools")]),
         ]

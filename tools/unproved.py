@@ -1,7 +1,8 @@
 #!/usr/bin/env python3
 """Builds a program that nothing has proved, for quick tests.
 
-usage: tools/unproved.py CRATE FILE      at the top of the repository; CRATE: pk_find or pk_player
+usage: tools/unproved.py CRATE FILE      at the top of the repository; CRATE: pk_find, pk_player
+       or pk_layers
 
 `rt try` builds a program from its sources, with checks of each access and each sum, runs it, and
 keeps no file. While it runs, busy with lines that it is given here, its executable is copied to FILE.
@@ -24,6 +25,7 @@ UNITS = 64
 # What keeps each program busy for a second or more, with less than 1 MiB of output.
 BUSY = {
     "pk_player": "!script busy\n!disk 32768\n!create => created\n" + "find a => found 0:\n" * 4_000,
+    "pk_layers": f"rising {','.join(map(str, range(2_000)))}\n" * 1_000,
     "pk_find": "find a\n" * 4_000,
 }
 
@@ -36,11 +38,12 @@ def store():
 
 def executable(folder):
     """The executable that was linked below a folder, once the system's loader runs it."""
-    for entry in pathlib.Path("/proc").glob("[0-9]*/cmdline"):
+    for number in filter(str.isdigit, os.listdir("/proc")):
         try:
-            words = entry.read_bytes().decode(errors="replace").split("\0")
-        except OSError:
+            words = pathlib.Path("/proc", number, "cmdline").read_bytes()
+        except OSError:  # It has ended meanwhile.
             continue
+        words = words.decode(errors="replace").split("\0")
         if pathlib.Path(words[0]).name.startswith("ld-linux"):
             for word in words[1:]:
                 if pathlib.Path(word).is_relative_to(folder):

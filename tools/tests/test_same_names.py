@@ -75,8 +75,9 @@ class Names(unittest.TestCase):
         there = {(edit.parents[1].name, edit.stem) for edit in edits}
         text = section(text_of("docs/TESTING.md"), "Wrong bodies")
         told = []
-        for cells in rows(text.partition("The named wrong bodies are:")[2])[1:]:
-            crates, names = QUOTED.findall(cells[0]), QUOTED.findall(cells[1])
+        items = text.partition("The named wrong bodies are:\n\n")[2].partition("\n\n")[0]
+        for item in re.split(r"^- ", items, flags=re.M)[1:]:
+            crates, names = map(QUOTED.findall, item.partition(":")[::2])
             told += zip(crates * len(names) if len(crates) == 1 else crates, names, strict=True)
         self.assertEqual(sorted(told), sorted(there))
 

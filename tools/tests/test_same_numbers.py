@@ -160,7 +160,7 @@ TOLD = [
     ("crates/pk_dead/src/lib.rt", r"there are (\S+) at most", "pk_posting", "LONGEST_LIST"),
     ("crates/pk_pages/src/lib.rt", r"a page \| (\S+) bytes", "pk_pages", "PAGE"),
     ("crates/pk_pages/src/lib.rt", r"a slot takes (\S+) bytes", "pk_pages", "PAGE"),
-    ("crates/pk_search/src/lib.rt", r"one of (\S+) bytes or less where", "pk_posting", "MOST_LENT"),
+    ("crates/pk_search/src/lib.rt", r"a text of (\S+) bytes or less", "pk_posting", "MOST_LENT"),
     ("crates/pk_search/src/lib.rt", r"one document of (\S+) or more",
      "pk_search", "ENTRIES_PER_NUMBER"),
     ("crates/pk_segment/src/lib.rt", r"at most (1,\S+)\.", "pk_model", "MAX_SEGMENT_BYTES"),

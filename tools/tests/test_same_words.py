@@ -132,7 +132,7 @@ class ProgramReasons(unittest.TestCase):
     """Why a command of the program failed."""
 
     def test_the_table_is_read(self):
-        self.assertEqual(len(PROGRAM_REASONS), 14)
+        self.assertEqual(len(PROGRAM_REASONS), 15)
 
     def test_code(self):
         written = set(re.findall(r'"pk_find: ([^"]+)\\n"',

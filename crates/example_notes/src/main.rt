@@ -1,8 +1,8 @@
 //! Notes that outlive a crash: how a program keeps texts by the crate pk_store alone.
 //!
 //! A store stands on a disk, a value whose type meets the trait `Disk` of pk_disk. Here that is a
-//! `MemoryDisk`, whose crashes can be tried. A program of its own takes the `FileDisk` of
-//! pk_filedisk, and calls the same functions: pk_command does so.
+//! `MemoryDisk`, whose crashes can be tried, below a `FaultDisk`, whose calls can fail. A program of
+//! its own takes the `FileDisk` of pk_filedisk, and calls the same functions: pk_command does so.
 //!
 //! | call | what its contract gives |
 //! |---|---|
@@ -35,6 +35,12 @@ const BYTES: usize = 32_768;
 
 /// More calls of the disk than an opening and a commit make together.
 const CALLS: u64 = 64;
+
+/// A call of the disk that never comes: one that fails from it on does not fail.
+const NEVER: u64 = u64::MAX;
+
+/// The disk of a store.
+type NotesDisk = FaultDisk<MemoryDisk>;
 
 /// Why the session came to no end.
 #[derive(Debug, Drop)]
@@ -77,7 +83,7 @@ fn main(rt: HostRuntime) -> ExitCode {
 /// Makes a store, keeps notes, and crashes; what comes is told.
 fn session(alloc: Global, told: &mut String) -> Result<(), Fault> {
     let disk = MemoryDisk::of_bytes(alloc, vec![in alloc; 0u8; BYTES]?);
-    let Ok(mut store) = Store::create(alloc, disk, 0) else {
+    let Ok(mut store) = Store::create(alloc, FaultDisk::new(disk, NEVER), 0) else {
         return Err(Fault::Create);
     };
     store.add(alloc, "buy milk and bread")?;
@@ -87,12 +93,12 @@ fn session(alloc: Global, told: &mut String) -> Result<(), Fault> {
     tell_found(alloc, &mut store, told)?;
 
     // The third note was not committed: a crash takes it, and nothing else.
-    let disk = store.close().crash(&[]);
+    let disk = store.close().into_inner().crash(&[]);
     let mut store = opened(alloc, disk)?;
     told.push_str("after a crash ")?;
     tell_found(alloc, &mut store, told)?;
 
-    let bytes = store.close().into_bytes();
+    let bytes = store.close().into_inner().into_bytes();
     for call in 1..=CALLS {
         let disk = MemoryDisk::of_bytes(alloc, bytes.to_vec(alloc)?);
         if crash_in_commit(alloc, disk, call, told)? {
@@ -103,19 +109,15 @@ fn session(alloc: Global, told: &mut String) -> Result<(), Fault> {
 }
 
 /// The store on a disk.
-fn opened(alloc: Global, disk: MemoryDisk) -> Result<Store<MemoryDisk>, Fault> {
-    match Store::open_on(alloc, disk, 0) {
+fn opened(alloc: Global, disk: MemoryDisk) -> Result<Store<NotesDisk>, Fault> {
+    match Store::open_on(alloc, FaultDisk::new(disk, NEVER), 0) {
         Ok(store) => Ok(store),
         Err(_) => Err(Fault::Open),
     }
 }
 
 /// Tells which notes have the word.
-fn tell_found(
-    alloc: Global,
-    store: &mut Store<MemoryDisk>,
-    told: &mut String,
-) -> Result<(), Fault> {
+fn tell_found(alloc: Global, store: &mut Store<NotesDisk>, told: &mut String) -> Result<(), Fault> {
     let query = Query::Term(String::from_str(alloc, "milk")?);
     told.push_str("milk stands in")?;
     for DocNo(number) in store.find(alloc, &query)? {

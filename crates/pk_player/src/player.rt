@@ -15,12 +15,11 @@ use std::str;
 /// The most bytes of a disk that scripts speak of.
 const MOST_BYTES: u64 = 8_388_608;
 
-/// A store on a device, on a page cache over one, or on as many units of one as its body says.
+/// A store on a device, all of it or as many units as its body says; or on a page cache over one.
 #[derive(Drop)]
 enum OpenStore {
-    Bare(Store<Device>),
+    Direct(Store<Shortened<Device>>),
     Paged(Store<PageCache<Device>>),
-    Within(Store<Shortened<Device>>),
 }
 
 /// A disk, or the store that is open on it.
@@ -270,9 +269,8 @@ impl Player {
             return String::from_str(self.alloc, "no store");
         };
         match &mut **store {
-            OpenStore::Bare(store) => told(self.alloc, store, line),
+            OpenStore::Direct(store) => told(self.alloc, store, line),
             OpenStore::Paged(store) => told(self.alloc, store, line),
-            OpenStore::Within(store) => told(self.alloc, store, line),
         }
     }
 
@@ -282,9 +280,8 @@ impl Player {
             return String::from_str(self.alloc, "no store");
         };
         let answer = match &mut **store {
-            OpenStore::Bare(store) => store.check(self.alloc),
+            OpenStore::Direct(store) => store.check(self.alloc),
             OpenStore::Paged(store) => store.check(self.alloc),
-            OpenStore::Within(store) => store.check(self.alloc),
         };
         checking_words(self.alloc, answer)
     }
@@ -338,16 +335,21 @@ impl Player {
             return self.put_within(device, is_new);
         }
         if self.pages == 0 {
-            return self.put_bare(device, is_new);
+            let size = device.len();
+            return self.put_direct(Shortened::new(device, size), is_new);
         }
         self.put_paged(device, is_new)
     }
 
-    /// A store on a device.
-    fn put_bare(&mut self, device: Device, is_new: bool) -> Result<&'static str, AllocError> {
-        match store_on(self.alloc, device, self.blocks, is_new) {
-            Ok(store) => self.keep(OpenStore::Bare(store), is_new),
-            Err((device, why)) => Ok(self.take_device(device, why)),
+    /// A store on a device, or on a part of it.
+    fn put_direct(
+        &mut self,
+        disk: Shortened<Device>,
+        is_new: bool,
+    ) -> Result<&'static str, AllocError> {
+        match store_on(self.alloc, disk, self.blocks, is_new) {
+            Ok(store) => self.keep(OpenStore::Direct(store), is_new),
+            Err((disk, why)) => Ok(self.take_device(disk.into_inner(), why)),
         }
     }
 
@@ -365,13 +367,9 @@ impl Player {
         if units_in(device.len()) < LEAST_UNITS {
             return Ok(self.take_device(device, "too small"));
         }
-        let shortened = match pk_grow::store_on(device) {
-            Ok(shortened) => shortened,
-            Err(device) => return Ok(self.take_device(device, "disk")),
-        };
-        match store_on(self.alloc, shortened, self.blocks, is_new) {
-            Ok(store) => self.keep(OpenStore::Within(store), is_new),
-            Err((shortened, why)) => Ok(self.take_device(shortened.into_inner(), why)),
+        match pk_grow::store_on(device) {
+            Ok(shortened) => self.put_direct(shortened, is_new),
+            Err(device) => Ok(self.take_device(device, "disk")),
         }
     }
 
@@ -409,9 +407,8 @@ impl Player {
             return "no store";
         };
         match Box::into_inner(store) {
-            OpenStore::Bare(store) => self.take_device(store.close(), ""),
+            OpenStore::Direct(store) => self.take_device(store.close().into_inner(), ""),
             OpenStore::Paged(store) => self.take_device(store.close().into_inner(), ""),
-            OpenStore::Within(store) => self.take_device(store.close().into_inner(), ""),
         }
     }
 

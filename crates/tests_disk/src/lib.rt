@@ -1,20 +1,8 @@
-//! Tests of the disk layer, by public calls: disks, pages, free units, bodies and gates, segments
-//! and their merges.
+//! Tests of the disk layer that only Rust can ask: disks that keep no promise, and places of
+//! extents. What a line can ask of disks, bodies and segments stands in `tests/layers`.
 #![tactic(auto)]
 
 #[cfg(test)]
-mod disk;
-#[cfg(test)]
-mod indexed;
-#[cfg(test)]
-mod manifest;
-#[cfg(test)]
-mod merge;
-#[cfg(test)]
-mod pages;
-#[cfg(test)]
-mod replace;
-#[cfg(test)]
-mod segment;
+mod lossy;
 #[cfg(test)]
 mod space;

@@ -1,1 +1,0 @@
--- Nothing is defined here: the tests cite the words of the crates that they test.

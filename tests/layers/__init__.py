@@ -1,0 +1,1 @@
+"""Tests of the lower layers, over the program that answers lines about them."""
