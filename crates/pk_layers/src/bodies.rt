@@ -373,7 +373,7 @@ fn replace_by_both(
 }
 
 /// Tells what is asked of bodies on a disk.
-pub fn tell_body(
+pub(crate) fn tell_body(
     alloc: Global,
     disk: &mut Tried,
     bodies: &mut Bodies,

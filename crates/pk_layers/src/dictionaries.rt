@@ -26,7 +26,11 @@ fn item(alloc: Global, word: &str) -> Result<(Vec<u8>, Entry), AllocError> {
 
 /// A dictionary's length, as its writer tells it, and its bytes; or the first term that may not be
 /// added.
-pub fn tell_written(alloc: Global, words: &mut Words<'_>, told: &mut Told) -> Result<(), Fault> {
+pub(crate) fn tell_written(
+    alloc: Global,
+    words: &mut Words<'_>,
+    told: &mut Told,
+) -> Result<(), Fault> {
     let mut writer = DictWriter::new(alloc);
     for word in words.each() {
         let (bytes, entry) = item(alloc, word)?;
@@ -44,7 +48,7 @@ pub fn tell_written(alloc: Global, words: &mut Words<'_>, told: &mut Told) -> Re
 }
 
 /// Entries of a dictionary in memory.
-pub fn tell_looked_up(
+pub(crate) fn tell_looked_up(
     alloc: Global,
     bytes: &[u8],
     words: &mut Words<'_>,
@@ -61,7 +65,7 @@ pub fn tell_looked_up(
 }
 
 /// The entries of a prefix there.
-pub fn tell_begun(
+pub(crate) fn tell_begun(
     alloc: Global,
     bytes: &[u8],
     words: &mut Words<'_>,
@@ -133,7 +137,7 @@ fn tell_begun_in<S: ByteSource>(
 }
 
 /// What a dictionary in a source is asked by a name.
-pub fn tell_in(
+pub(crate) fn tell_in(
     name: &str,
     source: &[u8],
     pivots: &mut [u64],
@@ -152,7 +156,7 @@ pub fn tell_in(
 }
 
 /// The same by windows over the source, with how often these were asked.
-pub fn tell_by_windows(
+pub(crate) fn tell_by_windows(
     name: &str,
     source: &[u8],
     pivots: &mut [u64],
@@ -174,7 +178,11 @@ pub fn tell_by_windows(
 }
 
 /// What windows lend of some stretches, and how often the source was asked behind each.
-pub fn tell_windows(source: &[u8], words: &mut Words<'_>, told: &mut Told) -> Result<(), Fault> {
+pub(crate) fn tell_windows(
+    source: &[u8],
+    words: &mut Words<'_>,
+    told: &mut Told,
+) -> Result<(), Fault> {
     let mut source = Failing::after(source, u64::MAX);
     let place = dict_place(words);
     let mut long = [0; MOST_LENT];

@@ -33,7 +33,11 @@ fn is_posting(xs: &[u32]) -> bool
 }
 
 /// A list's bytes.
-pub fn tell_encoded(alloc: Global, words: &mut Words<'_>, told: &mut Told) -> Result<(), Fault> {
+pub(crate) fn tell_encoded(
+    alloc: Global,
+    words: &mut Words<'_>,
+    told: &mut Told,
+) -> Result<(), Fault> {
     let xs = words.numbers()?;
     if !is_posting(&xs) {
         return Err(NO_LIST);
@@ -43,7 +47,11 @@ pub fn tell_encoded(alloc: Global, words: &mut Words<'_>, told: &mut Told) -> Re
 }
 
 /// The same, put into a room of its length.
-pub fn tell_put_into(alloc: Global, words: &mut Words<'_>, told: &mut Told) -> Result<(), Fault> {
+pub(crate) fn tell_put_into(
+    alloc: Global,
+    words: &mut Words<'_>,
+    told: &mut Told,
+) -> Result<(), Fault> {
     let xs = words.numbers()?;
     if !is_posting(&xs) {
         return Err(NO_LIST);
@@ -55,13 +63,17 @@ pub fn tell_put_into(alloc: Global, words: &mut Words<'_>, told: &mut Told) -> R
 }
 
 /// The numbers that bytes spell.
-pub fn tell_decoded(alloc: Global, words: &mut Words<'_>, told: &mut Told) -> Result<(), Fault> {
+pub(crate) fn tell_decoded(
+    alloc: Global,
+    words: &mut Words<'_>,
+    told: &mut Told,
+) -> Result<(), Fault> {
     told.numbers(&decode(alloc, &words.bytes()?)?);
     Ok(())
 }
 
 /// The shape that bytes begin with.
-pub fn tell_shape(words: &mut Words<'_>, told: &mut Told) -> Result<(), Fault> {
+pub(crate) fn tell_shape(words: &mut Words<'_>, told: &mut Told) -> Result<(), Fault> {
     let Some(shape) = Shape::of(&words.bytes()?) else {
         return Err(Fault("no shape"));
     };
@@ -72,7 +84,7 @@ pub fn tell_shape(words: &mut Words<'_>, told: &mut Told) -> Result<(), Fault> {
 }
 
 /// An entry of the skips.
-pub fn tell_skip(words: &mut Words<'_>, told: &mut Told) -> Result<(), Fault> {
+pub(crate) fn tell_skip(words: &mut Words<'_>, told: &mut Told) -> Result<(), Fault> {
     let bytes = words.bytes()?;
     if bytes.len() != 20 {
         return Err(Fault("no skip"));
@@ -84,7 +96,7 @@ pub fn tell_skip(words: &mut Words<'_>, told: &mut Told) -> Result<(), Fault> {
 }
 
 /// What a slice lends of some stretches, and how often it was asked.
-pub fn tell_lent(words: &mut Words<'_>, told: &mut Told) -> Result<(), Fault> {
+pub(crate) fn tell_lent(words: &mut Words<'_>, told: &mut Told) -> Result<(), Fault> {
     let bytes = words.bytes()?;
     if bytes.len() > MOST_BYTES {
         return Err(Fault("no source"));
@@ -103,7 +115,7 @@ pub fn tell_lent(words: &mut Words<'_>, told: &mut Told) -> Result<(), Fault> {
 }
 
 /// The deletion list to which numbers are added one after the other.
-pub fn added(alloc: Global, numbers: &[u32]) -> Result<Dead, Fault> {
+pub(crate) fn added(alloc: Global, numbers: &[u32]) -> Result<Dead, Fault> {
     let mut dead = Dead::new(alloc);
     for n in numbers {
         if *n == 0 || dead.len() >= 134_217_728 {
@@ -115,7 +127,11 @@ pub fn added(alloc: Global, numbers: &[u32]) -> Result<Dead, Fault> {
 }
 
 /// The bytes of a deletion list to which numbers are added.
-pub fn tell_dead(alloc: Global, words: &mut Words<'_>, told: &mut Told) -> Result<(), Fault> {
+pub(crate) fn tell_dead(
+    alloc: Global,
+    words: &mut Words<'_>,
+    told: &mut Told,
+) -> Result<(), Fault> {
     let dead = added(alloc, &words.numbers()?)?;
     told.bytes(&dead.spell(alloc)?);
     told.number(dead.len() as u64);
@@ -124,7 +140,11 @@ pub fn tell_dead(alloc: Global, words: &mut Words<'_>, told: &mut Told) -> Resul
 }
 
 /// The numbers that bytes spell, in a copy of the list, and which of some others it has.
-pub fn tell_read(alloc: Global, words: &mut Words<'_>, told: &mut Told) -> Result<(), Fault> {
+pub(crate) fn tell_read(
+    alloc: Global,
+    words: &mut Words<'_>,
+    told: &mut Told,
+) -> Result<(), Fault> {
     let read = Dead::read(alloc, &words.bytes()?)?;
     told.numbers(read.copy(alloc)?.numbers());
     for word in words.each() {
@@ -184,7 +204,11 @@ fn tell_steps<S: ByteSource>(source: &mut S, place: ListPlace, words: Words<'_>,
 }
 
 /// A walk through a list in a source.
-pub fn tell_walk(source: &[u8], words: &mut Words<'_>, told: &mut Told) -> Result<(), Fault> {
+pub(crate) fn tell_walk(
+    source: &[u8],
+    words: &mut Words<'_>,
+    told: &mut Told,
+) -> Result<(), Fault> {
     let mut source = Failing::after(source, words.long());
     let place = list_place(words);
     tell_steps(&mut source, place, *words, told);
@@ -237,7 +261,7 @@ fn tell_block(
 }
 
 /// Blocks by way of a cache of some room.
-pub fn tell_blocks(
+pub(crate) fn tell_blocks(
     alloc: Global,
     first: &[u8],
     second: &[u8],

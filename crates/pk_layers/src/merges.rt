@@ -122,7 +122,7 @@ fn tell_prepared(
 }
 
 /// Where the least run of eight sizes begins.
-pub fn tell_chosen(words: &mut Words<'_>, told: &mut Told) -> Result<(), Fault> {
+pub(crate) fn tell_chosen(words: &mut Words<'_>, told: &mut Told) -> Result<(), Fault> {
     match choose(&words.numbers()?) {
         Some(place) => told.number(place as u64),
         None => told.word("none"),
@@ -131,7 +131,7 @@ pub fn tell_chosen(words: &mut Words<'_>, told: &mut Told) -> Result<(), Fault> 
 }
 
 /// Tells what is asked of merges on a disk.
-pub fn tell_merging(
+pub(crate) fn tell_merging(
     alloc: Global,
     disk: &mut Tried,
     name: &str,

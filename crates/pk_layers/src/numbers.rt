@@ -16,7 +16,7 @@ use std::alloc::{AllocError, Global};
 const FILLING: u8 = 0xEE;
 
 /// Puts a number's variable bytes to the front of five others.
-pub fn tell_put(words: &mut Words<'_>, told: &mut Told) -> Result<(), Fault> {
+pub(crate) fn tell_put(words: &mut Words<'_>, told: &mut Told) -> Result<(), Fault> {
     let mut out = [FILLING; 5];
     let used = put(words.number(), &mut out);
     told.number(used as u64);
@@ -25,7 +25,7 @@ pub fn tell_put(words: &mut Words<'_>, told: &mut Told) -> Result<(), Fault> {
 }
 
 /// The number that bytes begin with.
-pub fn tell_taken(words: &mut Words<'_>, told: &mut Told) -> Result<(), Fault> {
+pub(crate) fn tell_taken(words: &mut Words<'_>, told: &mut Told) -> Result<(), Fault> {
     let (number, used) = take(&words.bytes()?)?;
     told.number(u64::from(number));
     told.number(used as u64);
@@ -33,7 +33,7 @@ pub fn tell_taken(words: &mut Words<'_>, told: &mut Told) -> Result<(), Fault> {
 }
 
 /// Numbers in decimal, each behind a space, as they are written one after the other.
-pub fn tell_digits(words: &mut Words<'_>, told: &mut Told) -> Result<(), Fault> {
+pub(crate) fn tell_digits(words: &mut Words<'_>, told: &mut Told) -> Result<(), Fault> {
     let mut leading = LeadingDigits::new();
     for number in &words.numbers()? {
         let mut out = [FILLING; SPACED_BYTES];
@@ -44,13 +44,13 @@ pub fn tell_digits(words: &mut Words<'_>, told: &mut Told) -> Result<(), Fault> 
 }
 
 /// A word's key.
-pub fn tell_key(words: &mut Words<'_>, told: &mut Told) -> Result<(), Fault> {
+pub(crate) fn tell_key(words: &mut Words<'_>, told: &mut Told) -> Result<(), Fault> {
     told.number(key(&words.bytes()?));
     Ok(())
 }
 
 /// What a table of pivots decides.
-pub fn tell_around(words: &mut Words<'_>, told: &mut Told) -> Result<(), Fault> {
+pub(crate) fn tell_around(words: &mut Words<'_>, told: &mut Told) -> Result<(), Fault> {
     let pivots = words.longs()?;
     let bounds = around(&pivots, words.number(), words.long());
     told.number(u64::from(bounds.low));
@@ -60,7 +60,7 @@ pub fn tell_around(words: &mut Words<'_>, told: &mut Told) -> Result<(), Fault> 
 }
 
 /// A table of pivots into which a key is put.
-pub fn tell_kept(words: &mut Words<'_>, told: &mut Told) -> Result<(), Fault> {
+pub(crate) fn tell_kept(words: &mut Words<'_>, told: &mut Told) -> Result<(), Fault> {
     let mut pivots = words.longs()?;
     keep(&mut pivots, words.number() as usize, words.long());
     for pivot in &pivots {
@@ -88,13 +88,13 @@ fn seed(words: &mut Words<'_>) -> Result<[u32; 4], AllocError> {
 }
 
 /// The width of a block.
-pub fn tell_width(words: &mut Words<'_>, told: &mut Told) -> Result<(), Fault> {
+pub(crate) fn tell_width(words: &mut Words<'_>, told: &mut Told) -> Result<(), Fault> {
     told.number(u64::from(width(&block(words)?)));
     Ok(())
 }
 
 /// A block at its width.
-pub fn tell_packed(words: &mut Words<'_>, told: &mut Told) -> Result<(), Fault> {
+pub(crate) fn tell_packed(words: &mut Words<'_>, told: &mut Told) -> Result<(), Fault> {
     let xs = block(words)?;
     let bits = width(&xs);
     let mut room = [FILLING; 512];
@@ -105,7 +105,7 @@ pub fn tell_packed(words: &mut Words<'_>, told: &mut Told) -> Result<(), Fault> 
 }
 
 /// What a packed block has, over other numbers.
-pub fn tell_unpacked(words: &mut Words<'_>, told: &mut Told) -> Result<(), Fault> {
+pub(crate) fn tell_unpacked(words: &mut Words<'_>, told: &mut Told) -> Result<(), Fault> {
     let bits = words.number();
     let bytes = words.bytes()?;
     if bits > 32 || bytes.len() != 16 * bits as usize {
@@ -118,7 +118,7 @@ pub fn tell_unpacked(words: &mut Words<'_>, told: &mut Told) -> Result<(), Fault
 }
 
 /// Its sums, over other numbers.
-pub fn tell_sums(words: &mut Words<'_>, told: &mut Told) -> Result<(), Fault> {
+pub(crate) fn tell_sums(words: &mut Words<'_>, told: &mut Told) -> Result<(), Fault> {
     let bits = words.number();
     let seed = seed(words)?;
     let bytes = words.bytes()?;
@@ -132,7 +132,7 @@ pub fn tell_sums(words: &mut Words<'_>, told: &mut Told) -> Result<(), Fault> {
 }
 
 /// The differences of a block.
-pub fn tell_differences(words: &mut Words<'_>, told: &mut Told) -> Result<(), Fault> {
+pub(crate) fn tell_differences(words: &mut Words<'_>, told: &mut Told) -> Result<(), Fault> {
     let mut differences = [7; 128];
     differ(&seed(words)?, &block(words)?, &mut differences);
     told.numbers(&differences);
@@ -140,7 +140,7 @@ pub fn tell_differences(words: &mut Words<'_>, told: &mut Told) -> Result<(), Fa
 }
 
 /// The block of differences.
-pub fn tell_restored(words: &mut Words<'_>, told: &mut Told) -> Result<(), Fault> {
+pub(crate) fn tell_restored(words: &mut Words<'_>, told: &mut Told) -> Result<(), Fault> {
     let mut xs = [7; 128];
     restore(&seed(words)?, &block(words)?, &mut xs);
     told.numbers(&xs);
@@ -148,13 +148,13 @@ pub fn tell_restored(words: &mut Words<'_>, told: &mut Told) -> Result<(), Fault
 }
 
 /// Whether a block ascends.
-pub fn tell_ascending(words: &mut Words<'_>, told: &mut Told) -> Result<(), Fault> {
+pub(crate) fn tell_ascending(words: &mut Words<'_>, told: &mut Told) -> Result<(), Fault> {
     told.truth(ascending(&seed(words)?, &block(words)?));
     Ok(())
 }
 
 /// Whether a set rises.
-pub fn tell_rising(words: &mut Words<'_>, told: &mut Told) -> Result<(), Fault> {
+pub(crate) fn tell_rising(words: &mut Words<'_>, told: &mut Told) -> Result<(), Fault> {
     told.truth(is_rising(&words.numbers()?));
     Ok(())
 }
@@ -222,7 +222,11 @@ fn tell_without(
 }
 
 /// What each operation gives of two sets.
-pub fn tell_sets(alloc: Global, words: &mut Words<'_>, told: &mut Told) -> Result<(), Fault> {
+pub(crate) fn tell_sets(
+    alloc: Global,
+    words: &mut Words<'_>,
+    told: &mut Told,
+) -> Result<(), Fault> {
     let spare = words.number();
     let a = words.numbers()?;
     let b = words.numbers()?;

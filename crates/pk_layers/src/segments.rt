@@ -49,7 +49,11 @@ fn documents(alloc: Global, words: &mut Words<'_>) -> Result<Vec<Document>, Faul
 }
 
 /// The length and the bytes of the segment of two documents.
-pub fn tell_built(alloc: Global, words: &mut Words<'_>, told: &mut Told) -> Result<(), Fault> {
+pub(crate) fn tell_built(
+    alloc: Global,
+    words: &mut Words<'_>,
+    told: &mut Told,
+) -> Result<(), Fault> {
     let kind = words.number();
     if kind != 1 && kind != 2 {
         return Err(NO_SEGMENT);
@@ -148,7 +152,7 @@ fn tell_reader<S: ByteSource>(
 
 /// Opens a segment of a kind and a length in an extent, and tells what its readers answer, each
 /// behind a bar. One that is damaged, or whose read fails, stops no other.
-pub fn tell_segment(
+pub(crate) fn tell_segment(
     alloc: Global,
     disk: &mut Tried,
     words: &mut Words<'_>,

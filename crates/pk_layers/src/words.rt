@@ -10,12 +10,12 @@ pub struct Words<'a> {
 }
 
 /// A number, or 0 where none is written.
-pub fn number(word: &str) -> u32 {
+pub(crate) fn number(word: &str) -> u32 {
     word.parse::<u32>().unwrap_or(0)
 }
 
 /// What stands before and behind the first colon.
-pub fn halves(word: &str) -> (&str, &str) {
+pub(crate) fn halves(word: &str) -> (&str, &str) {
     word.split_once(":").unwrap_or((word, ""))
 }
 
@@ -29,7 +29,7 @@ fn digit(byte: u8) -> u8 {
 }
 
 /// Bytes by pairs of hexadecimal digits.
-pub fn bytes_of(alloc: Global, word: &str) -> Result<Vec<u8>, AllocError> {
+pub(crate) fn bytes_of(alloc: Global, word: &str) -> Result<Vec<u8>, AllocError> {
     let mut bytes = Vec::with_capacity(alloc, word.len() / 2)?;
     let mut high = None;
     for byte in word.bytes() {
