@@ -25,7 +25,7 @@ ghost use Rattle.pk_join.specs.Inputs.{SpellsInputs};
 ghost use Rattle.pk_join.specs.Inside.{NotedLieWithin, PassedWithin};
 ghost use Rattle.pk_join.specs.Joining.{joined_in, room_in};
 ghost use Rattle.pk_join.specs.Listed.{words_in};
-ghost use Rattle.pk_join.specs.Noted.{AreNoted, NotesAs, next_noted, noted_of, order_of};
+ghost use Rattle.pk_join.specs.Noted.{AreNoted, NotesAs, next_noted, order_of};
 ghost use Rattle.pk_join.specs.WalkInput.{
   HasRoom,
   HaveExtentsOf,

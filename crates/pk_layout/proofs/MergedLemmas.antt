@@ -21,9 +21,11 @@ use Rattle.pk_posting.specs.Posting.{IsPosting}
 use Rattle.pk_replace.specs.Claims.{AreApart, Claim, Each, IsAmong, IsBehind, IsInside, IsUntouched, places}
 use Rattle.pk_replace.proofs.ClaimLemmas.{each_weaker, of_among}
 use Rattle.pk_open.specs.declared.opened.OpenSegment.{OpenSegment}
-use Rattle.pk_open.specs.Opened.{AreOpenOf, IsOpenOf, present}
+use Rattle.pk_open.specs.Opened.{AreOpenOf, IsOpenOf, entries_of, present}
 use Rattle.pk_segment.specs.declared.segment.Segment.{Segment}
+use Rattle.pk_segment.specs.Listing.{dictionary_place}
 use Rattle.pk_segment.specs.Opened.{IsSegmentOf}
+use Rattle.pk_segment.specs.Placed.{dictionary_of}
 use Rattle.pk_segment.specs.Spelling.{segment_length, segment_spelling}
 use Rattle.pk_segment.proofs.SegmentLemmas.{length_segment, parts_of}
 use Rattle.pk_space.specs.Places.{FullAs, PlacedAs}
@@ -53,7 +55,7 @@ use Rattle.pk_layout.proofs.BodyLemmas.{HasTable, new_id, new_part, next_sound, 
 use Rattle.pk_layout.proofs.ExtentLemmas.{laid_inside, laid_missed, overlap_sym}
 use Rattle.pk_layout.proofs.LeftLemmas.{none_now, not_too_many, one_now, pending_names}
 use Rattle.pk_layout.proofs.PlanLemmas.{goes_on_from, goes_to, lengths_here, plan_is, table_in_writes}
-use Rattle.pk_layout.proofs.ReplacedLemmas.{above_run, all_replaced, claims_replaced, entries_replaced, flat_three, in_three, now_replaced, open_replaced, open_run, replaced_long, tests_replaced}
+use Rattle.pk_layout.proofs.ReplacedLemmas.{above_run, all_replaced, claims_replaced, entries_replaced, flat_three, in_three, now_replaced, open_replaced, open_run, replaced_entries, replaced_long, tests_replaced}
 
 -- ---- the one segment, and the body with it
 
@@ -231,19 +233,16 @@ module _ (size : ℕ) (b : Body) (is : IsBody (units_in size) b) (generation : b
       let there = there_merged (Some new) (Some e) ts sized same placed in
       sound_one e ts (omega (arith, long, sized.0)) (omega (arith, long, sized.1)) placed.0.fitted (and_parts (lies_within units e) (list_all (lies_within units) ts) there.0).0 (table_has (Some new) (Some e) ts sized same placed) there.1
 
-  -- one open segment for each entry
-  module _ (opened : List OpenSegment) (even : length opened ≡ length b.entries) (grown : All IsGrown opened) where
-    as_many : (new : Option NewSegment) (merged : List OpenSegment) (place : Option Extent) → AreMerged (run_of from n opened) new merged → PlacedAs b.units (named b) (lengths_in new) (extents_in place)
-        → (length merged ≡ length (entry_in b place)) × All IsGrown merged
-    as_many None merged None are placed = (ap length are, All-same IsGrown merged [] are (All-nil IsGrown))
-    as_many None merged (Some e) are placed = absurd placed
-    as_many (Some new) merged None are placed = absurd placed
-    as_many (Some new) merged (Some e) are placed =
+  -- open segments of its entries
+  module _ (opened : List OpenSegment) (even : entries_of opened ≡ b.entries) (grown : All IsGrown opened) where
+    merged_grown : (new : Option NewSegment) (merged : List OpenSegment) → AreMerged (run_of from n opened) new merged → All IsGrown merged
+    merged_grown None merged are = All-same IsGrown merged [] are (All-nil IsGrown)
+    merged_grown (Some new) merged are =
         let o = are.0 in
         let few : IsGrown o = omega (arith, ap length are.2.no_list) in
-        (ap length are.1, All-same IsGrown merged (o ∷ []) are.1 (All-cons IsGrown o [] few (All-nil IsGrown)))
+        All-same IsGrown merged (o ∷ []) are.1 (All-cons IsGrown o [] few (All-nil IsGrown))
 
-    module _ (new : Option NewSegment) (m : MergePlan) (sized : IsSized new) (opened_now : List OpenSegment) (are_merged : AreMerged (run_of from n opened) new opened_now) (ts : List Extent) (same : length (extents_in m.place) ≡ length (lengths_in new))
+    module _ (new : Option NewSegment) (m : MergePlan) (sized : IsSized new) (opened_now : List OpenSegment) (are_merged : AreMerged (run_of from n opened) new opened_now) (entries_now : entries_of opened_now ≡ entry_in b m.place) (ts : List Extent) (same : length (extents_in m.place) ≡ length (lengths_in new))
         (placed : PlacedAs b.units (named b) (lengths_merged b n new) (extents_in m.place ++ ts)) (plan : IsPlanOf (tabled ts (body_merged b from n m.place)) (replaced from n opened_now opened) m.plan) (pieces : pieces_behind m ≡ laid_in ts (table_bytes (body_merged b from n m.place).entries)) where
       abbrev next : Body
       next = tabled ts (body_merged b from n m.place)
@@ -254,17 +253,11 @@ module _ (size : ℕ) (b : Body) (is : IsBody (units_in size) b) (generation : b
       abbrev extents : List Extent
       extents = extents_in m.place ++ ts
 
-      fitting : (length opened_now ≡ length (entry_in b m.place)) × All IsGrown opened_now
-      fitting = as_many new opened_now m.place are_merged (segment_front new m.place ts sized same placed)
-
-      many : length (replaced from n opened_now opened) ≡ length next.entries
-      many =
-          let old = replaced_long from n opened opened_now (omega (arith, even, within)) in
-          let long = replaced_long from n b.entries (entry_in b m.place) within in
-          omega (arith, fitting.0, old, long, even)
+      many : entries_of (replaced from n opened_now opened) ≡ next.entries
+      many = replaced_entries from n opened_now opened ∙ (λ i. replaced from n (entries_now i) (even i))
 
       all_grown : All IsGrown (replaced from n opened_now opened)
-      all_grown = all_replaced from n opened IsGrown opened_now grown fitting.1
+      all_grown = all_replaced from n opened IsGrown opened_now grown (merged_grown new opened_now are_merged)
 
       sound_next : IsBody units next
       sound_next = sound_merged new m.place ts sized same placed
@@ -327,8 +320,7 @@ module _ (size : ℕ) (b : Body) (is : IsBody (units_in size) b) (generation : b
         goes_on : GoesOn (merge_touches m) b opened m.plan
         goes_on = subst (λ t. GoesOn t b opened m.plan) taken
             (goes_on_from size b next is generation sound_next refl refl all_writes enough extents laid_out (replaced from n opened_now opened) many all_grown m.plan plan
-            opened (omega arith) (taken_replaced b.next_segment b.entries opened from n (entry_in b m.place) opened_now even (sym fitting.0)
-            (taken_new b opened m.place opened_now)))
+            opened (omega arith) (taken_replaced b.next_segment opened from n opened_now (taken_new b opened m.place opened_now entries_now)))
 
         table_claim : Each (λ c. IsAmong c (laid_in extents all_writes)) (table_claims next)
         table_claim = table_in_writes b b.next_number (ids_in m.place) writes next.entries (extents_in m.place) ts as_long b.units (table_behind new m.place ts sized same placed).0
@@ -405,7 +397,8 @@ module _ (b : Body) (opened : List OpenSegment) (stored : List Stored) (are : Ar
 
   one_open : (new : NewSegment) (o : OpenSegment) → IsSegmentTo left new → IsMergedOpen opened new o → IsOpenOf o (new_stored left)
   one_open new o is m = record {
-    segment = subst (λ (x : Segment). IsSegmentOf x left) (sym m.segment) is.opened;
+    segment = subst (λ (x : Segment). IsSegmentOf x left) (sym m.segment) is.opened.segment;
+    dictionary = λ two. subst (λ (x : Segment). dictionary_of x ≡ dictionary_place left) (sym m.segment) is.opened.dictionary;
     dead = m.no_list;
     kept = λ n h. absurd (let no : false ≡ true = h in cc);
     names = λ k h. pending_names k opened stored are (sym (m.deleted k) ∙ h);
@@ -436,7 +429,7 @@ module _ (b : Body) (opened : List OpenSegment) (stored : List Stored) (are : Ar
 
 -- IT TAKES WHAT IS COMMITTED OVER
 module _ (size : ℕ) (b : Body) (is : IsBody (units_in size) b) (generation : b.generation < end_of_ids) (ids : b.next_segment < end_of_ids) (from n : ℕ) (some : 1 ≤ n) (within : from + n ≤ length b.entries)
-    (opened : List OpenSegment) (even : length opened ≡ length b.entries) (grown : All IsGrown opened)
+    (opened : List OpenSegment) (even : entries_of opened ≡ b.entries) (grown : All IsGrown opened)
     (stored : List Stored) (entries : AreEntries b.entries stored) (are : AreOpenOf opened stored) (numbers : IsCollection (whole_of (record { body = b; stored = stored }))) where
   abbrev run : List Stored
   run = run_of from n stored
@@ -451,7 +444,7 @@ module _ (size : ℕ) (b : Body) (is : IsBody (units_in size) b) (generation : b
   run_open = open_run from n opened stored are
 
   pub merge_plans : (new : Option NewSegment) (m : MergePlan) → IsNewOf docs new → PlansMerged b opened from n new (Ok m) → PlansMerge b opened stored from n m
-  merge_plans new m new_is (merged, are_merged, ts, same, placed, plan, pieces) =
+  merge_plans new m new_is (merged, are_merged, entries_now, ts, same, placed, plan, pieces) =
       let after = after_run b stored from n m.place in
       let olds = claims_of b.entries stored in
       let fits = new_fits docs new new_is in
@@ -467,7 +460,7 @@ module _ (size : ℕ) (b : Body) (is : IsBody (units_in size) b) (generation : b
         placed = subst (λ ns. PlacedAs b.units (named b) (ns ++ table_writes (length b.entries - n + length ns)) (extents_in m.place ++ ts)) fits.0 placed;
         fits = fits.1;
         goes = subst (GoesTo touched (λ c. IsAmong c laid ⊎ IsAmong c (pieces_behind m)) m.plan (committed_with b stored)) (with_tabled ts (committed_with (body_merged b from n m.place) (replaced from n made stored)) ∙ ap (with_table ts) (sym after))
-            (merge_goes size b is generation ids from n some within opened even grown new m (sized_of docs new new_is) merged are_merged ts same placed plan pieces docs fits.0 stored (replaced from n made stored) entries
+            (merge_goes size b is generation ids from n some within opened even grown new m (sized_of docs new new_is) merged are_merged entries_now ts same placed plan pieces docs fits.0 stored (replaced from n made stored) entries
             (entries_replaced from n (entry_in b m.place) made b.entries stored entries fresh)
             (open_replaced from n opened stored are merged made fresh_open)
             (claims_replaced from n (entry_in b m.place) made b.entries stored entries fresh laid (among_merged b (run_of from n opened) run run_open rise olds new m.place new_is first)));
@@ -486,9 +479,9 @@ module _ (size : ℕ) (b : Body) (is : IsBody (units_in size) b) (generation : b
 
 -- WHATEVER THE SEGMENTS ARE
 module _ (size : ℕ) (b : Body) (is : IsBody (units_in size) b) (generation : b.generation < end_of_ids) (ids : b.next_segment < end_of_ids) (from n : ℕ) (some : 1 ≤ n) (within : from + n ≤ length b.entries)
-    (opened : List OpenSegment) (even : length opened ≡ length b.entries) (grown : All IsGrown opened) where
+    (opened : List OpenSegment) (even : entries_of opened ≡ b.entries) (grown : All IsGrown opened) where
   pub planned_rightly : (new : Option NewSegment) (m : MergePlan) → IsSized new → PlansMerged b opened from n new (Ok m) → PlansRightly size b opened n new m
-  planned_rightly new m sized (merged, are_merged, ts, same, placed, plan, pieces) = merge_rightly size b is generation ids from n some within opened even grown new m sized merged are_merged ts same placed plan pieces
+  planned_rightly new m sized (merged, are_merged, entries_now, ts, same, placed, plan, pieces) = merge_rightly size b is generation ids from n some within opened even grown new m sized merged are_merged entries_now ts same placed plan pieces
 
 -- and where there is no plan
 pub refused_rightly : (size : ℕ) (b : Body) (opened : List OpenSegment) (from n : ℕ) (new : Option NewSegment) (fault : LayoutFault) → PlansMerged b opened from n new (Err fault) → PlansMergeRightly size b opened n new (Err (layout_refusal fault))

@@ -1,9 +1,9 @@
 -- Entries with new deletion lists: they are sound, stand for what is present, and each claim of theirs is an old one or that of a new list.
-use Rattle.std.proofs.Common.{◌≡◌, ◌⊎◌, inl, inr, ⊎_elim, ℕ, suc, ◌+◌, ◌<◌, ◌≤◌, ◌++◌, ◌==◌, ◌&&◌, ◌||◌, leb, ltb, Bool, true, false, not, List, [], ◌∷◌, length, map, drop, get_or, refl, sym, ◌∙◌, ap, subst, arith, append_assoc, Option, Some, None}
-use Rattle.std.specs.Prelude.{if◌then◌else◌}
+use Rattle.std.proofs.Common.{◌≡◌, ◌⊎◌, inl, inr, ⊎_elim, ℕ, suc, ◌+◌, ◌<◌, ◌++◌, ◌==◌, ◌&&◌, ◌||◌, leb, ltb, Bool, true, false, not, List, [], ◌∷◌, length, map, refl, sym, ◌∙◌, ap, subst, arith, append_assoc, Option, Some, None}
+use Rattle.std.specs.Prelude.{All, if◌then◌else◌}
 use Rattle.std.specs.List.{AllByRecursion, flat_map, list_all, list_any}
 use Rattle.std.proofs.lemmas.Bool.{and_from, and_parts, eqb-true, not-false}
-use Rattle.std.proofs.lemmas.List.{at_drop_all, at_drop_more}
+use Rattle.std.proofs.lemmas.List.Elements.{All-cons, All-nil}
 use Rattle.std.proofs.lemmas.List.Concat.{flat_map-cons}
 use Rattle.std.proofs.lemmas.List.Folds.{list_any-append}
 use Rattle.pk_dead.specs.Sets.{with_number}
@@ -18,11 +18,12 @@ use Rattle.pk_posting.specs.Spelling.{spelling}
 use Rattle.pk_posting.proofs.SpellingLemmas.{length_spelling}
 use Rattle.pk_replace.specs.Claims.{Claim, Each, IsAmong}
 use Rattle.pk_open.specs.declared.opened.OpenSegment.{OpenSegment}
-use Rattle.pk_open.specs.Opened.{AreOpenOf, IsOpenOf, pends, present, with_deleted}
+use Rattle.pk_open.specs.Opened.{AreOpenOf, IsOpenOf, entries_of, pends, present, with_deleted}
+use Rattle.pk_open.specs.Opening.{IsGrown}
 use Rattle.pk_space.specs.Places.{PlacedAs}
 use Rattle.pk_state.specs.Committed.{Stored, lists}
 use Rattle.pk_state.specs.Kept.{AreEntries, IsEntry, IsList, IsSegment, claims_in, claims_of}
-use Rattle.pk_layout.specs.Plan.{AreSettled, laid_in, new_lists, relisted, settled, with_list}
+use Rattle.pk_layout.specs.Plan.{AreSettled, laid_in, new_lists, relisted, settled, settled_in, with_list}
 use Rattle.pk_layout.proofs.ApartLemmas.{any_out, apart_from, apart_out}
 use Rattle.pk_layout.proofs.ExtentLemmas.{apart_parts, overlap_sym}
 
@@ -31,56 +32,24 @@ pub by_test : {P : Type 0} (b : Bool) → (b ≡ true → P) → (b ≡ false �
 by_test true h k = h refl
 by_test false h k = k refl
 
--- ---- one entry after another
-no_segment_left : (es : List Entry) (xs : List Extent) → relisted es [] xs ≡ es
-no_segment_left [] xs = refl
-no_segment_left (e ∷ es) xs = refl
+-- ---- the entries of the open segments that a commit leaves
+unlisted : (os : List OpenSegment) → entries_of (settled_in os []) ≡ entries_of os
+unlisted [] = refl
+unlisted (o ∷ os) = ap (λ es. o.entry ∷ es) (unlisted os)
 
-no_extent_left : (es : List Entry) (os : List OpenSegment) → relisted es os [] ≡ es
-no_extent_left [] os = refl
-no_extent_left (e ∷ es) [] = refl
-no_extent_left (e ∷ es) (o ∷ os) = refl
+pub settled_entries : (os : List OpenSegment) (xs : List Extent) → entries_of (settled_in os xs) ≡ relisted (entries_of os) os xs
+settled_entries [] xs = refl
+settled_entries (o ∷ os) [] = unlisted (o ∷ os)
+settled_entries (o ∷ os) (x ∷ xs) = by (pends o) (settled_entries os xs) (settled_entries os (x ∷ xs))
+  where
+    by : (b : Bool) → entries_of (settled_in os xs) ≡ relisted (entries_of os) os xs → entries_of (settled_in os (x ∷ xs)) ≡ relisted (entries_of os) os (x ∷ xs)
+        → entries_of (if b then settled (with_list o.entry x) o ∷ settled_in os xs else settled o.entry o ∷ settled_in os (x ∷ xs)) ≡ (if b then with_list o.entry x ∷ relisted (entries_of os) os xs else o.entry ∷ relisted (entries_of os) os (x ∷ xs))
+    by true more same = ap (λ es. with_list o.entry x ∷ es) more
+    by false more same = ap (λ es. o.entry ∷ es) same
 
-settled_by : (e : Entry) (es : List Entry) (o : OpenSegment) (os : List OpenSegment) (xs : List Extent) → pends o ≡ false → relisted (e ∷ es) (o ∷ os) xs ≡ e ∷ relisted es os xs
-settled_by e es o os [] is = ap (λ rest. e ∷ rest) (sym (no_extent_left es os))
-settled_by e es o os (x ∷ xs) is = ap (λ b. if b then with_list e x ∷ relisted es os xs else e ∷ relisted es os (x ∷ xs)) is
-
--- the entry is put, and the others are put behind it
-pub put_one : (out more : List Entry) (e : Entry) (left rest total : List Entry) → more ≡ out ++ e ∷ [] → left ≡ e ∷ rest → out ++ left ≡ total → more ++ rest ≡ total
-put_one out more e left rest total is first so_far = ap (λ es. es ++ rest) is ∙ append_assoc out (e ∷ []) rest ∙ ap (λ es. out ++ es) (sym first) ∙ so_far
-
-pub first_extent : (xs rest : List Extent) (x : Extent) → 0 < length xs → x ≡ get_or xs 0 x → rest ≡ drop 1 xs → xs ≡ x ∷ rest
-first_extent xs rest x some at is = at_drop_more (λ (ys : List Extent). ys) xs 0 x some ∙ ap (λ y. y ∷ drop 1 xs) (sym at) ∙ ap (λ ys. x ∷ ys) (sym is)
-
-module _ (es : List Entry) (os : List OpenSegment) (i : ℕ) (e : Entry) (lt : i < length es) (at : e ≡ get_or es i e) where
-  cut : drop i es ≡ e ∷ drop (i + 1) es
-  cut = at_drop_more (λ (xs : List Entry). xs) es i e lt ∙ ap (λ (x : Entry). x ∷ drop (i + 1) es) (sym at)
-
-  module _ (o : OpenSegment) (inside : i < length os) (there : o ≡ get_or os i o) where
-    cut_segments : drop i os ≡ o ∷ drop (i + 1) os
-    cut_segments = at_drop_more (λ (xs : List OpenSegment). xs) os i o inside ∙ ap (λ (x : OpenSegment). x ∷ drop (i + 1) os) (sym there)
-
-    -- with the first extent as its list
-    pub one_relisted : (xs rest : List Extent) (x : Extent) → xs ≡ x ∷ rest → pends o ≡ true → relisted (drop i es) (drop i os) xs ≡ with_list e x ∷ relisted (drop (i + 1) es) (drop (i + 1) os) rest
-    one_relisted xs rest x first is =
-        (λ k. relisted (cut k) (cut_segments k) (first k))
-        ∙ ap (λ b. if b then with_list e x ∷ relisted (drop (i + 1) es) (drop (i + 1) os) rest else e ∷ relisted (drop (i + 1) es) (drop (i + 1) os) (x ∷ rest)) is
-
-    -- as it is
-    pub one_settled : (xs : List Extent) → pends o ≡ false → relisted (drop i es) (drop i os) xs ≡ e ∷ relisted (drop (i + 1) es) (drop (i + 1) os) xs
-    one_settled xs is = (λ k. relisted (cut k) (cut_segments k) xs) ∙ settled_by e (drop (i + 1) es) o (drop (i + 1) os) xs is
-
-  -- without a segment, or without an extent, too
-  pub one_behind : (xs : List Extent) → length os ≤ i → relisted (drop i es) (drop i os) xs ≡ e ∷ relisted (drop (i + 1) es) (drop (i + 1) os) xs
-  one_behind xs past =
-      let none : drop i os ≡ [] = at_drop_all (λ (ys : List OpenSegment). ys) os i past in
-      let no_more : drop (i + 1) os ≡ [] = at_drop_all (λ (ys : List OpenSegment). ys) os (i + 1) (omega (arith, past)) in
-      (λ k. relisted (cut k) (none k) xs) ∙ ap (λ rest. e ∷ rest) (sym (no_segment_left (drop (i + 1) es) xs)) ∙ ap (λ ys. e ∷ relisted (drop (i + 1) es) ys xs) (sym no_more)
-
-  pub one_without : (xs : List Extent) → xs ≡ [] → relisted (drop i es) (drop i os) xs ≡ e ∷ relisted (drop (i + 1) es) (drop (i + 1) os) xs
-  one_without xs none =
-      (λ k. relisted (cut k) (drop i os) (none k)) ∙ no_extent_left (e ∷ drop (i + 1) es) (drop i os)
-      ∙ ap (λ rest. e ∷ rest) (sym (no_extent_left (drop (i + 1) es) (drop (i + 1) os))) ∙ ap (λ ys. e ∷ relisted (drop (i + 1) es) (drop (i + 1) os) ys) (sym none)
+-- so those of the segments that are kept are the entries with their new lists
+pub kept_entries : (es : List Entry) (os kept : List OpenSegment) (xs : List Extent) → entries_of os ≡ es → kept ≡ settled_in os xs → entries_of kept ≡ relisted es os xs
+kept_entries es os kept xs same is = ap entries_of is ∙ settled_entries os xs ∙ ap (λ (fs : List Entry). relisted fs os xs) same
 
 -- ---- a segment without a pending deletion
 
@@ -356,12 +325,35 @@ claims_relisted units taken (e ∷ es) (o ∷ os) (s ∷ stored) (x ∷ xs) entr
 -- ---- segments whose deletions are all committed
 
 -- open after it
-pub settled_open : (os : List OpenSegment) (stored : List Stored) → AreOpenOf os stored → AreOpenOf (map settled os) (present os stored)
-settled_open [] [] are = tt
-settled_open [] (s ∷ stored) are = absurd are
-settled_open (o ∷ os) [] are = absurd are
-settled_open (o ∷ os) (s ∷ stored) are = (record { segment = are.0.segment; dead = refl; kept = λ n h. h; names = are.0.names; posting = are.0.posting; was = are.0.posting }, settled_open os stored are.1)
+one_settled : (e : Entry) (o : OpenSegment) (s : Stored) → e.kind ≡ o.entry.kind → IsOpenOf o s → IsOpenOf (settled e o) (with_deleted o s)
+one_settled e o s kind is = record { segment = is.segment; dictionary = λ two. is.dictionary (sym kind ∙ two); dead = refl; kept = λ n h. h; names = is.names; posting = is.posting; was = is.posting }
 
-pub map_settled : (os : List OpenSegment) → AreSettled (map settled os)
-map_settled [] = tt
-map_settled (o ∷ os) = (refl, map_settled os)
+pub settled_open : (os : List OpenSegment) (xs : List Extent) (stored : List Stored) → AreOpenOf os stored → AreOpenOf (settled_in os xs) (present os stored)
+settled_open [] xs [] are = tt
+settled_open [] xs (s ∷ stored) are = absurd are
+settled_open (o ∷ os) xs [] are = absurd are
+settled_open (o ∷ os) [] (s ∷ stored) are = (one_settled o.entry o s refl are.0, settled_open os [] stored are.1)
+settled_open (o ∷ os) (x ∷ xs) (s ∷ stored) are = by (pends o) (settled_open os xs stored are.1) (settled_open os (x ∷ xs) stored are.1)
+  where
+    by : (b : Bool) → AreOpenOf (settled_in os xs) (present os stored) → AreOpenOf (settled_in os (x ∷ xs)) (present os stored)
+        → AreOpenOf (if b then settled (with_list o.entry x) o ∷ settled_in os xs else settled o.entry o ∷ settled_in os (x ∷ xs)) (with_deleted o s ∷ present os stored)
+    by true more same = (one_settled (with_list o.entry x) o s refl are.0, more)
+    by false more same = (one_settled o.entry o s refl are.0, same)
+
+pub settled_are : (os : List OpenSegment) (xs : List Extent) → AreSettled (settled_in os xs)
+settled_are [] xs = tt
+settled_are (o ∷ os) [] = (refl, settled_are os [])
+settled_are (o ∷ os) (x ∷ xs) = by (pends o) (settled_are os xs) (settled_are os (x ∷ xs))
+  where
+    by : (b : Bool) → AreSettled (settled_in os xs) → AreSettled (settled_in os (x ∷ xs)) → AreSettled (if b then settled (with_list o.entry x) o ∷ settled_in os xs else settled o.entry o ∷ settled_in os (x ∷ xs))
+    by true more same = (refl, more)
+    by false more same = (refl, same)
+
+pub settled_grown : (os : List OpenSegment) (xs : List Extent) → All IsGrown (settled_in os xs)
+settled_grown [] xs = All-nil IsGrown
+settled_grown (o ∷ os) [] = All-cons IsGrown (settled o.entry o) (settled_in os []) (omega arith) (settled_grown os [])
+settled_grown (o ∷ os) (x ∷ xs) = by (pends o) (settled_grown os xs) (settled_grown os (x ∷ xs))
+  where
+    by : (b : Bool) → All IsGrown (settled_in os xs) → All IsGrown (settled_in os (x ∷ xs)) → All IsGrown (if b then settled (with_list o.entry x) o ∷ settled_in os xs else settled o.entry o ∷ settled_in os (x ∷ xs))
+    by true more same = All-cons IsGrown (settled (with_list o.entry x) o) (settled_in os xs) (omega arith) more
+    by false more same = All-cons IsGrown (settled o.entry o) (settled_in os (x ∷ xs)) (omega arith) same

@@ -16,8 +16,8 @@ use Rattle.pk_posting.specs.Posting.{IsPosting}
 use Rattle.pk_replace.specs.Claims.{AreApart, Claim, Each, IsAmong, IsInside, IsUntouched}
 use Rattle.pk_replace.specs.Claims.{claim_of, places}
 use Rattle.pk_open.specs.declared.opened.OpenSegment.{OpenSegment}
-use Rattle.pk_open.specs.Opened.{present}
-use Rattle.pk_segment.specs.Opened.{IsSegmentOf}
+use Rattle.pk_open.specs.Opened.{entries_of, present}
+use Rattle.pk_segment.specs.Placed.{IsIndexedOf}
 use Rattle.pk_segment.specs.Spelling.{AreDocuments, segment_length}
 use Rattle.pk_space.specs.Places.{FullAs, PlacedAs}
 use Rattle.pk_state.specs.Committed.{Stored, lists, live_in}
@@ -96,7 +96,7 @@ pub record IsSegmentTo (docs : List Doc) (new : NewSegment) : Type 0 where
   pub are : AreDocuments docs
   pub long : new.bytes ≡ segment_length docs written_kind
   pub fits : new.bytes ≤ max_segment_bytes
-  pub opened : IsSegmentOf new.segment docs
+  pub opened : IsIndexedOf new.segment docs
 
 abbrev pub IsNewOf : List Doc → Option NewSegment → Type 0
 IsNewOf docs None = docs ≡ []
@@ -147,7 +147,7 @@ abbrev pub PlansMerged : Body → List OpenSegment → ℕ → ℕ → Option Ne
     → Result MergePlan LayoutFault → Type 0
 PlansMerged b opened from n new (Ok m) =
     (merged : List OpenSegment) × AreMerged (run_of from n opened) new merged
-    × (table : List Extent) × (length (extents_in m.place) ≡ length (lengths_in new))
+    × (entries_of merged ≡ entry_in b m.place) × (table : List Extent) × (length (extents_in m.place) ≡ length (lengths_in new))
     × PlacedAs b.units (named b) (lengths_merged b n new) (extents_in m.place ++ table)
     × IsPlanOf (tabled table (body_merged b from n m.place)) (replaced from n merged opened) m.plan
     × (pieces_behind m ≡ laid_in table (table_bytes (body_merged b from n m.place).entries))

@@ -20,10 +20,10 @@ use Rattle.pk_replace.specs.Held.{IsNext}
 use Rattle.pk_segment.specs.declared.building.BuildFault.{BuildFault}
 use Rattle.pk_segment.specs.declared.building.BuildFault.TheVariants as building
 use Rattle.pk_segment.specs.declared.segment.Segment.{Segment}
-use Rattle.pk_segment.specs.Opened.{IsSegmentOf}
+use Rattle.pk_segment.specs.Placed.{IsIndexedOf}
 use Rattle.pk_posting.specs.Spelling.{spelling as list_spelling}
 use Rattle.pk_open.specs.declared.opened.OpenSegment.{OpenSegment}
-use Rattle.pk_open.specs.Opened.{AreOpenOf, pends, present}
+use Rattle.pk_open.specs.Opened.{AreOpenOf, entries_of, pends, present}
 pub use Rattle.pk_open.specs.Opening.{IsGrown}
 use Rattle.pk_segment.specs.Spelling.{SegmentSpells}
 use Rattle.pk_segment.specs.Spelling.{segment_length, segment_spelling}
@@ -97,9 +97,18 @@ abbrev pub table_bytes : List Entry → List (List ℕ)
 table_bytes [] = []
 table_bytes (e ∷ entries) = flat_map entry (e ∷ entries) ∷ []
 
--- an open segment whose deletions are committed
-abbrev pub settled : OpenSegment → OpenSegment
-settled o = record { segment = o.segment; dead = o.deleted; deleted = o.deleted }
+-- an open segment with this entry, whose deletions are committed
+abbrev pub settled : Entry → OpenSegment → OpenSegment
+settled e o = record { entry = e; segment = o.segment; dead = o.deleted; deleted = o.deleted }
+
+-- the open segments with their deletions committed, those with a pending one with their new lists in
+-- these extents, one after the other
+abbrev pub settled_in : List OpenSegment → List Extent → List OpenSegment
+settled_in [] extents = []
+settled_in (o ∷ opened) [] = settled o.entry o ∷ settled_in opened []
+settled_in (o ∷ opened) (x ∷ extents) =
+    if pends o then settled (with_list o.entry x) o ∷ settled_in opened extents
+    else settled o.entry o ∷ settled_in opened (x ∷ extents)
 
 abbrev pub AreSettled : List OpenSegment → Type 0
 AreSettled [] = Unit {0}
@@ -135,7 +144,7 @@ pub record IsPlanOf (b : Body) (opened : List OpenSegment) (p : Plan) : Type 0 w
   pub body_is : p.body.items ≡ spelling (view p.manifest)
 
 -- A PLAN FOR A BODY, on a disk of so many bytes: the body that follows is sound, of version 2, a
--- generation later, with one open segment and 40 bytes of its table for each entry.
+-- generation later, with an open segment and 40 bytes of its table for each entry.
 pub record IsPlan (size : ℕ) (b : Body) (p : Plan) : Type 0 where
   pub generation : b.generation < end_of_ids
   pub later : (view p.manifest).generation ≡ b.generation + 1
@@ -143,7 +152,7 @@ pub record IsPlan (size : ℕ) (b : Body) (p : Plan) : Type 0 where
   pub sound : IsBody (units_in size) (view p.manifest)
   pub body_is : p.body.items ≡ spelling (view p.manifest)
   pub table : (view p.manifest).table.bytes ≡ 40 * length (view p.manifest).entries
-  pub opened : length p.opened.items ≡ length (view p.manifest).entries
+  pub opened : entries_of p.opened.items ≡ (view p.manifest).entries
   pub grown : All IsGrown p.opened.items
 
 -- what a commit writes, as claims
@@ -154,34 +163,28 @@ pieces_of p = map claim_of p.pieces.items
 abbrev pub HavePlace : ℕ → CommitPlan → Type 0
 HavePlace size p = Each (IsInside size) (pieces_of p) × AreApart (pieces_of p)
 
--- The entry and its open segment are those at a place, but for what is deleted.
-pub record IsTakenFrom (entries : List Entry) (opened : List OpenSegment) (e : Entry)
-    (o : OpenSegment) : Type 0 where
+-- The open segment is that at a place, but for what is deleted.
+pub record IsTakenFrom (opened : List OpenSegment) (o : OpenSegment) : Type 0 where
   pub place : ℕ
-  pub entry : Entry
   pub was : OpenSegment
-  pub in_entries : place < length entries
-  pub in_opened : place < length opened
-  pub entry_is : entry ≡ get_or entries place entry
+  pub within : place < length opened
   pub was_is : was ≡ get_or opened place was
-  pub id : e.segment ≡ entry.segment
-  pub extent : e.extent ≡ entry.extent
+  pub id : o.entry.segment ≡ was.entry.segment
+  pub extent : o.entry.extent ≡ was.entry.extent
   pub segment : o.segment ≡ was.segment
 
--- each of the new entries with its open segment is taken from the old ones, or has an id that was
--- not given before
-abbrev pub AreTaken : ℕ → List Entry → List OpenSegment → List Entry → List OpenSegment → Type 0
-AreTaken next entries opened [] os = Unit {0}
-AreTaken next entries opened (e ∷ es) [] = Unit {0}
-AreTaken next entries opened (e ∷ es) (o ∷ os) =
-    ((next ≤ e.segment) ⊎ IsTakenFrom entries opened e o) × AreTaken next entries opened es os
+-- each of the new open segments is taken from the old ones, or has an id that was not given before
+abbrev pub AreTaken : ℕ → List OpenSegment → List OpenSegment → Type 0
+AreTaken next opened [] = Unit {0}
+AreTaken next opened (o ∷ os) =
+    ((next ≤ o.entry.segment) ⊎ IsTakenFrom opened o) × AreTaken next opened os
 
 -- The plan goes on with the segments of a body: each that it leaves stays as it is, the others have
 -- new ids, and of no extent that the body names is a position touched.
 pub record GoesOn (touched : ℕ → Bool) (b : Body) (opened : List OpenSegment) (p : Plan)
     : Type 0 where
   pub ids : b.next_segment ≤ (view p.manifest).next_segment
-  pub taken : AreTaken b.next_segment b.entries opened (view p.manifest).entries p.opened.items
+  pub taken : AreTaken b.next_segment opened p.opened.items
   pub missed : (claims : List Claim) → AreLaid (named b) claims
       → Each (IsUntouched touched) claims
 
@@ -225,7 +228,7 @@ PlacesAs b lengths (Err why) = ⊥
 -- a segment is built and open, or why it is not
 abbrev pub BuildsAs : List Doc → Result Built BuildFault → Type 0
 BuildsAs docs (Ok built) =
-    SegmentSpells built.bytes.items docs written_kind × IsSegmentOf built.segment docs
+    SegmentSpells built.bytes.items docs written_kind × IsIndexedOf built.segment docs
 BuildsAs docs (Err building.TooLarge) = max_segment_bytes < segment_length docs written_kind
 BuildsAs docs (Err building.Memory) = Unit {0}
 
@@ -239,21 +242,27 @@ lengths_with writes count = map length writes ++ table_writes count
 
 -- a plan that writes these bytes at the first fit, and behind them the table of so many entries, and
 -- puts the body of their extents in force with these open segments, or why there is none
-abbrev pub PlansWith : Body → List (List ℕ) → ℕ → List OpenSegment → (List Extent → Body)
-    → Result CommitPlan LayoutFault → Type 0
+abbrev pub PlansWith : Body → List (List ℕ) → ℕ → (List Extent → List OpenSegment)
+    → (List Extent → Body) → Result CommitPlan LayoutFault → Type 0
 PlansWith b writes count opened body (Ok p) =
     (extents : List Extent) × (table : List Extent) × (length extents ≡ length writes)
     × PlacedAs b.units (named b) (lengths_with writes count) (extents ++ table)
-    × IsPlanOf (tabled table (body extents)) opened p.plan
+    × IsPlanOf (tabled table (body extents)) (opened extents) p.plan
     × (pieces_of p ≡ laid_in (extents ++ table) (writes ++ table_bytes (body extents).entries))
 PlansWith b writes count opened body (Err (Full need largest)) =
     FullAs b.units (named b) (lengths_with writes count) need largest
 PlansWith b writes count opened body (Err Memory) = Unit {0}
 PlansWith b writes count opened body (Err why) = ⊥
 
--- an open segment just built
-abbrev pub fresh_segment : Segment → OpenSegment
-fresh_segment s = record { segment = s; dead = []; deleted = [] }
+-- an open segment just built, with its entry
+abbrev pub fresh_segment : Entry → Segment → OpenSegment
+fresh_segment e s = record { entry = e; segment = s; dead = []; deleted = [] }
+
+-- the open segments after a commit with a segment in the first of the extents
+abbrev pub opened_with_segment : Body → List OpenSegment → Segment → List Extent → List OpenSegment
+opened_with_segment b opened s [] = settled_in opened []
+opened_with_segment b opened s (e ∷ extents) =
+    settled_in opened extents ++ fresh_segment (new_entry b e) s ∷ []
 
 -- the body after a commit without a document, and with a segment in the first of the extents
 abbrev pub body_with_lists : Body → List OpenSegment → ℕ → List Extent → Body

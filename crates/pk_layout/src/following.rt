@@ -1,11 +1,12 @@
 //! The body that follows, and the segments that are open then. Nothing here asks for the bytes of
 //! what is written: the extents and the open segments do.
-ghost use Rattle.std.specs.Prelude.{◌≡◌, ◌<◌, ◌++◌, ◌∷◌, [], map, IfOk, OnOk};
-ghost use Rattle.pk_layout.specs.Plan.{entry_in, fresh_segment, ids_in, relisted, settled};
+ghost use Rattle.std.specs.Prelude.{◌≡◌, ◌<◌, ◌++◌, ◌∷◌, [], List, IfOk, OnOk};
+ghost use Rattle.pk_layout.specs.Plan.{entry_in, fresh_segment, ids_in, settled, settled_in};
 ghost use Rattle.pk_layout.specs.Plan.{tabled, with_list};
 ghost use Rattle.pk_manifest.specs.Spelling.{view};
 ghost use Rattle.pk_model.specs.Limits.{end_of_ids};
-ghost use Rattle.pk_state.specs.Writing.{next_body};
+ghost use Rattle.pk_open.specs.Opened.{entries_of};
+ghost use Rattle.pk_state.specs.Writing.{new_entry, next_body};
 
 use crate::planning::{table_in, written_kind};
 use pk_dead::Dead;
@@ -25,64 +26,92 @@ fn with_list(entry: Part, extent: Extent) -> Part
     }
 }
 
-/// Puts the entries behind the others, those with a pending deletion with their new lists.
-pub(crate) fn put_entries(
-    out: &mut Vec<Part>,
-    entries: &[Part],
+// The entry of a segment in the next body, and the extents that are left for others: with a pending
+// deletion its list is in the first of them.
+fn next_entry<'a>(segment: &OpenSegment, lists: &'a [Extent]) -> (Part, &'a [Extent])
+    ensures { (rest : List OpenSegment) → settled_in (segment.now ∷ rest) lists.now
+        ≡ settled result.0 segment.now ∷ settled_in rest result.1.now }
+{
+    let Some((list, others)) = lists.split_first() else {
+        return (segment.entry, lists);
+    };
+    if !segment.is_pending() {
+        return (segment.entry, lists);
+    }
+    (with_list(segment.entry, *list), others)
+}
+
+// The open segment with this entry, and with all its deletions in its list.
+fn settled(alloc: Global, entry: Part, segment: &OpenSegment) -> Result<OpenSegment, AllocError>
+    ensures { IfOk result (λ o. o ≡ settled entry segment.now) }
+{
+    Ok(OpenSegment {
+        entry,
+        segment: segment.segment,
+        dead: segment.deleted.copy(alloc)?,
+        deleted: segment.deleted.copy(alloc)?,
+    })
+}
+
+/// The open segments, each with all its deletions in its list: those with a pending deletion with
+/// their new lists, in these extents. There is room for one more.
+pub(crate) fn settled_in(
+    alloc: Global,
     opened: &[OpenSegment],
     extents: &[Extent],
-) -> Result<(), AllocError>
-    ensures { OnOk result (out.new.items
-        ≡ out.old.items ++ relisted entries.now opened.now extents.now) }
-{
-    let mut lists = extents;
-    for i in 0..entries.len() {
-        if i < opened.len() && !lists.is_empty() && opened[i].is_pending() {
-            out.push(with_list(entries[i], lists[0]))?;
-            let (_, others) = lists.split_at(1);
-            lists = others;
-        } else {
-            out.push(entries[i])?;
-        }
-    }
-    Ok(())
-}
-
-/// Puts the open segments behind the others, each with all its deletions in its list.
-pub(crate) fn put_settled(
-    alloc: Global,
-    out: &mut Vec<OpenSegment>,
-    opened: &[OpenSegment],
-) -> Result<(), AllocError>
-    ensures { OnOk result (out.new.items ≡ out.old.items ++ map settled opened.now) }
-{
-    for segment in opened {
-        out.push(OpenSegment {
-            segment: segment.segment,
-            dead: segment.deleted.copy(alloc)?,
-            deleted: segment.deleted.copy(alloc)?,
-        })?;
-    }
-    Ok(())
-}
-
-/// The open segments with all their deletions in their lists, and a new one.
-pub(crate) fn settled_with(
-    alloc: Global,
-    opened: &[OpenSegment],
-    segment: Segment,
 ) -> Result<Vec<OpenSegment>, AllocError>
-    ensures { IfOk result (λ v. v.items
-        ≡ map settled opened.now ++ fresh_segment segment ∷ []) }
+    ensures { IfOk result (λ v. v.items ≡ settled_in opened.now extents.now) }
 {
     let mut kept = Vec::with_capacity(alloc, opened.len() + 1)?;
-    put_settled(alloc, &mut kept, opened)?;
-    kept.push(OpenSegment {
+    let mut lists = extents;
+    for segment in opened {
+        let (entry, others) = next_entry(segment, lists);
+        lists = others;
+        let next = settled(alloc, entry, segment)?;
+        kept.push(next)?;
+    }
+    Ok(kept)
+}
+
+/// The entries of open segments.
+pub(crate) fn entries_of(alloc: Global, opened: &[OpenSegment]) -> Result<Vec<Part>, AllocError>
+    ensures { IfOk result (λ v. v.items ≡ entries_of opened.now) }
+{
+    let mut entries = Vec::with_capacity(alloc, opened.len() + 1)?;
+    for segment in opened {
+        entries.push(segment.entry)?;
+    }
+    Ok(entries)
+}
+
+/// The entry of a new segment in this extent.
+pub(crate) fn new_entry(manifest: &Manifest, extent: Extent) -> Part
+    ensures { result ≡ new_entry (view manifest.now) extent }
+{
+    Part {
+        segment: manifest.next_segment,
+        extent,
+        kind: written_kind(),
+        dead: None,
+    }
+}
+
+/// Puts a new open segment behind the others, of which nothing is deleted.
+pub(crate) fn put_fresh(
+    alloc: Global,
+    out: &mut Vec<OpenSegment>,
+    entry: Part,
+    segment: Segment,
+) -> Result<(), AllocError>
+    ensures { OnOk result (out.new.items ≡ out.old.items ++ fresh_segment entry segment ∷ []) }
+{
+    out.push(OpenSegment {
+        entry,
         segment,
         dead: Dead::new(alloc),
         deleted: Dead::new(alloc),
     })?;
-    Ok(kept)
+    Ok(())
 }
 
 /// The entries of a body that follows, around that of a new segment.
@@ -117,12 +146,7 @@ pub(crate) fn next_manifest(
     } = entries;
     let mut next_segment = manifest.next_segment;
     if let Some(extent) = segment {
-        entries.push(Part {
-            segment: next_segment,
-            extent,
-            kind: written_kind(),
-            dead: None,
-        })?;
+        entries.push(new_entry(manifest, extent))?;
         next_segment += 1;
     }
     entries.extend_from_slice(behind)?;

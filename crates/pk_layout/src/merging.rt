@@ -11,10 +11,11 @@ ghost use Rattle.pk_layout.specs.Plan.{tabled};
 ghost use Rattle.pk_manifest.specs.Sound.{IsBody};
 ghost use Rattle.pk_manifest.specs.Spelling.{view};
 ghost use Rattle.pk_model.specs.Limits.{end_of_ids};
+ghost use Rattle.pk_open.specs.Opened.{entries_of};
 ghost use Rattle.pk_state.specs.Writing.{replaced};
 
 use crate::fault::LayoutFault;
-use crate::following::{NextEntries, next_manifest};
+use crate::following::{NextEntries, new_entry, next_manifest};
 use crate::placing::place_behind;
 use crate::planning::{Plan, pieces_with, plan_for};
 use pk_dead::Dead;
@@ -137,7 +138,7 @@ fn plan_none(
     requires sound { IsBody manifest.now.units (view manifest.now) }
     requires generation { manifest.now.generation < end_of_ids }
     requires id { manifest.now.next_segment < end_of_ids }
-    requires same { length opened.now ≡ length manifest.now.entries.items }
+    requires same { entries_of opened.now ≡ manifest.now.entries.items }
     requires within { run.from + run.count ≤ length opened.now }
     ensures { PlansMerged (view manifest.now) opened.now run.from run.count None result }
 {
@@ -164,7 +165,7 @@ fn plan_one(
     requires sound { IsBody manifest.now.units (view manifest.now) }
     requires generation { manifest.now.generation < end_of_ids }
     requires id { manifest.now.next_segment < end_of_ids }
-    requires same { length opened.now ≡ length manifest.now.entries.items }
+    requires same { entries_of opened.now ≡ manifest.now.entries.items }
     requires some { 1 ≤ run.count }
     requires within { run.from + run.count ≤ length opened.now }
     requires sized { IsSized (Some new) }
@@ -179,6 +180,7 @@ fn plan_one(
     let next = manifest_merged(alloc, manifest, run, Some(*place), table)?;
     let pieces = pieces_with(alloc, Vec::new(alloc), &next, table)?;
     let merged = OpenSegment {
+        entry: new_entry(manifest, *place),
         segment: new.segment,
         dead: Dead::new(alloc),
         deleted,
@@ -206,7 +208,7 @@ pub fn plan_merged(
     requires sound { IsBody manifest.now.units (view manifest.now) }
     requires generation { manifest.now.generation < end_of_ids }
     requires id { manifest.now.next_segment < end_of_ids }
-    requires same { length opened.now ≡ length manifest.now.entries.items }
+    requires same { entries_of opened.now ≡ manifest.now.entries.items }
     requires some { 1 ≤ run.count }
     requires within { run.from + run.count ≤ length opened.now }
     requires sized { IsSized new }

@@ -8,7 +8,7 @@ ghost use Rattle.pk_manifest.specs.Sound.{entry_limit};
 ghost use Rattle.pk_manifest.specs.Spelling.{no_extent, view};
 ghost use Rattle.pk_model.specs.Collection.{Doc};
 ghost use Rattle.pk_replace.specs.Claims.{claim_of};
-ghost use Rattle.pk_segment.specs.Opened.{IsSegmentOf};
+ghost use Rattle.pk_segment.specs.Placed.{IsIndexedOf};
 ghost use Rattle.pk_segment.specs.Spelling.{IsKind, SegmentSpells};
 ghost use Rattle.pk_state.specs.Writing.{table_writes, written_kind};
 
@@ -27,7 +27,7 @@ pub struct Plan {
     pub body: Vec<u8>,
     /// What that body says.
     pub manifest: Manifest,
-    /// The segments that it names, open, each at the place of its entry.
+    /// The segments that it names, open, in the order of its entries.
     pub opened: Vec<OpenSegment>,
 }
 
@@ -44,7 +44,7 @@ pub fn written_kind() -> u32
 pub(crate) fn open_built(bytes: &[u8]) -> Segment
     requires { (docs : List Doc) × SegmentSpells bytes.now docs written_kind }
     ensures { (docs : List Doc) → SegmentSpells bytes.now docs written_kind
-        → IsSegmentOf result docs }
+        → IsIndexedOf result docs }
 {
     let mut source = SliceSource::new(bytes);
     let Ok(segment) = Segment::open(&mut source, bytes.len() as u32, written_kind()) else {

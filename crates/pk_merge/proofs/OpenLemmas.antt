@@ -8,10 +8,12 @@ use Rattle.pk_posting.specs.Source.{CountsFaults}
 use Rattle.pk_segment.specs.declared.header.Header.{Header}
 use Rattle.pk_segment.specs.declared.segment.Segment.{Segment}
 use Rattle.pk_segment.specs.Fields.{IsHeader, entry_field, header_field, number_at}
-use Rattle.pk_segment.specs.Opened.{IsOpened, IsSegmentOf}
+use Rattle.pk_segment.specs.Opened.{IsOpened}
+use Rattle.pk_segment.specs.Placed.{IsIndexedOf}
+use Rattle.pk_segment.proofs.PlacedLemmas.{placed_by}
 use Rattle.pk_segment.specs.Spelling.{AreDocuments, SegmentSpells, dictionary_in, directory, header_in, postings_in, segment_length, segment_spelling, terms_in, texts}
 use Rattle.pk_segment.proofs.OpeningLemmas.{counted, in_order, number_there, texts_counted, whole as is_whole}
-use Rattle.pk_segment.proofs.SegmentLemmas.{behind, in_parts, inside_part, length_directory, length_header, length_segment, parts_of}
+use Rattle.pk_segment.proofs.SegmentLemmas.{behind, header_says, in_parts, inside_part, length_directory, length_header, length_segment, parts_of}
 
 module _ (docs : List Doc) (are : AreDocuments docs) (fits : segment_length docs 2 ≤ max_segment_bytes) where
   abbrev pub front : List ℕ
@@ -46,19 +48,19 @@ module _ (docs : List Doc) (are : AreDocuments docs) (fits : segment_length docs
       (entry_field whole i)
   entry_there i lt = ap (number_at 0) (same_part (24 + 12 * i) 12 (omega (arith, lt)))
 
-  pub opened_of : (size : ℕ) (s : Segment) → IsOpened front size 2 s → IsSegmentOf s docs
+  pub opened_of : (size : ℕ) (s : Segment) → IsOpened front size 2 s → IsIndexedOf s docs
   opened_of size s is =
       let some : 0 < length docs = are.some in
       let header = header_there is.header is.read in
       let count = counted whole docs 2 is.header spells header in
-      record {
+      placed_by whole docs is.header s spells header is.lists_is is.dictionary_is is.terms_is (record {
         count_is = is.count_is ∙ count;
         texts_is = is.texts_is ∙ texts_counted whole docs 2 is.header spells header;
         first_is = number_there whole docs 2 0 s.first spells some (is.first_is ∙ entry_there 0 some);
         last_is = number_there whole docs 2 (length docs - 1) s.last spells (omega (arith, some))
             (is.last_is ∙ ap (λ (n : ℕ). number_at 0 (entry_field front (n - 1))) count
             ∙ entry_there (length docs - 1) (omega (arith, some)));
-      }
+      })
 
   abbrev said : Header
   said = record {
@@ -81,13 +83,18 @@ module _ (docs : List Doc) (are : AreDocuments docs) (fits : segment_length docs
         terms_is = refl;
       })
 
-  said_short : 24 + 12 * said.count + said.texts < 2 ^ 32
+  said_short : 24 + 12 * said.count + said.texts + said.postings + said.dictionary < 2 ^ 32
   said_short =
+      let says = header_says whole docs 2 spells in
       omega (
         arith,
         counted whole docs 2 said spells said_there,
         texts_counted whole docs 2 said spells
             said_there,
+        said_there.postings_is,
+        said_there.dictionary_is,
+        says.postings_is,
+        says.dictionary_is,
         parts_of docs 2,
         fits,
       )
@@ -96,6 +103,9 @@ module _ (docs : List Doc) (are : AreDocuments docs) (fits : segment_length docs
   segment_is = record {
     count = said.count;
     texts = said.texts;
+    lists = said.postings;
+    dictionary = said.dictionary;
+    terms = said.terms;
     first = number_at 0 (entry_field front 0);
     last = number_at 0 (entry_field front (said.count - 1));
     fits = said_short;
@@ -124,6 +134,9 @@ module _ (docs : List Doc) (are : AreDocuments docs) (fits : segment_length docs
           inside = omega (arith, count, front_long);
           count_is = refl;
           texts_is = refl;
+          lists_is = refl;
+          dictionary_is = refl;
+          terms_is = refl;
           first_is = refl;
           last_is = refl;
           least = order.0;

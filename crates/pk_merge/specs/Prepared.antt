@@ -12,7 +12,7 @@ use Rattle.pk_merge.specs.Output.{LiesApart}
 use Rattle.pk_model.specs.Collection.{Doc}
 use Rattle.pk_segment.specs.Indexed.{dictionary}
 use Rattle.pk_segment.specs.declared.segment.Segment.{Segment}
-use Rattle.pk_segment.specs.Opened.{IsSegmentOf}
+use Rattle.pk_segment.specs.Placed.{IsIndexedOf}
 use Rattle.pk_segment.specs.Spelling.{AreDocuments, directory, header_in, segment_length}
 use Rattle.pk_state.specs.Committed.{Stored, live_in}
 
@@ -27,10 +27,10 @@ pub record IsPrepared (bytes : List ℕ) (inputs : List MergeInput) (stored : Li
   pub size_is : p.size ≡ segment_length (live_in stored) 2
   pub fits : p.size ≤ max_segment_bytes
 
--- the open segment of these documents
+-- the open segment of these documents, with the place of their dictionary
 abbrev pub OpensAsMerged : List Doc → Option Segment → Type 0
 OpensAsMerged docs None = ⊥
-OpensAsMerged docs (Some s) = IsSegmentOf s docs
+OpensAsMerged docs (Some s) = IsIndexedOf s docs
 
 -- the merge is prepared, or it fails
 abbrev pub PreparesOneAs : List ℕ → List MergeInput → List Stored → Result Prepared MergeFault

@@ -1,6 +1,6 @@
 //! The posting lists of a merge that is prepared.
 
-ghost use Rattle.std.specs.Prelude.{◌≡◌, ◌≤◌, ◌+◌, ℕ, List, length, All, IfOk};
+ghost use Rattle.std.specs.Prelude.{◌≡◌, ◌≤◌, ◌+◌, List, length, All, IfOk};
 ghost use Rattle.pk_join.specs.Inputs.{SpellsInputs};
 ghost use Rattle.pk_join.specs.Walk.{walk_lists, walk_room};
 ghost use Rattle.pk_join.specs.WalkInput.{HaveExtentsOf};

@@ -20,7 +20,6 @@ ghost use Rattle.pk_replace.specs.Writing.{WritesOnly};
 
 use pk_disk::Disk;
 use pk_replace::StreamFault;
-use std::alloc::{AllocError, Global};
 
 /// The most bytes that are written at once, and the fewest but for the last write.
 pub(crate) const WRITE: usize = 65_536;

@@ -1,6 +1,6 @@
 //! The texts of a merge, read from where they stand: those that lie near each other at once.
 
-ghost use Rattle.std.specs.Prelude.{◌≡◌, ◌≤◌, ◌<◌, ◌+◌, ◌^◌, List, length, take, All};
+ghost use Rattle.std.specs.Prelude.{◌≤◌, ◌<◌, ◌+◌, ◌^◌, List, length, take, All};
 ghost use Rattle.pk_merge.specs.Keeping.{AreKept, EndBy, KeptApart};
 ghost use Rattle.pk_merge.specs.Output.{AreGiven, IsGiven};
 ghost use Rattle.pk_merge.specs.Spans.{IsSpanOf, StandsIn};

@@ -36,6 +36,7 @@ ExtentOpensAs bytes e s = IsOpened (extent_bytes bytes e.extent) e.extent.bytes 
 -- The entry's extent opens as this segment, with the dead numbers of its deletion list; no other
 -- one is deleted.
 pub record OpensAsSegment (bytes : List ℕ) (e : Entry) (o : OpenSegment) : Type 0 where
+  pub entry : o.entry ≡ e
   pub opened : ExtentOpensAs bytes e o.segment
   pub list : OpensAsList bytes e.dead (count_of o.segment) o.dead
   pub deleted : o.deleted ≡ o.dead

@@ -14,6 +14,7 @@ pub fn put_copies(
 {
     for segment in opened {
         out.push(OpenSegment {
+            entry: segment.entry,
             segment: segment.segment,
             dead: segment.dead.copy(alloc)?,
             deleted: segment.deleted.copy(alloc)?,

@@ -1,13 +1,13 @@
 //! Open segments: the segments that a body names, with what is deleted of each, and their documents
 //! by number.
 //!
-//! An `OpenSegment` is what a session keeps of a segment: what opening read of it, the numbers of
-//! its deletion list, and all that are deleted: those, and the pending ones, whose deletion no
-//! commit has taken.
+//! An `OpenSegment` is what a session keeps of a segment: its entry, what opening read of it, the
+//! numbers of its deletion list, and all that are deleted: those, and the pending ones, whose
+//! deletion no commit has taken.
 //!
-//! A caller hands the disk, the entries of the body in force and their open segments, each at the
-//! place of its entry. What the entries stand for is said by pk_state (`SpellsEntries`). What is
-//! left of it once each deletion counts is `present`; the clauses hold for whatever that is.
+//! A caller hands the disk and the open segments. What their entries (`entries_of`) stand for is
+//! said by pk_state (`SpellsEntries`). What is left of it once each deletion counts is `present`;
+//! the clauses hold for whatever that is.
 //!
 //! | call | answers | reads |
 //! |---|---|---|

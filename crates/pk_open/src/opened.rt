@@ -1,13 +1,16 @@
-//! A segment that is open, and which of its documents are deleted.
+//! A segment that is open, with its entry, and which of its documents are deleted.
 ghost use Rattle.std.specs.Prelude.{◌≡◌};
 ghost use Rattle.pk_open.specs.Opened.{left_of, pends};
 
 use pk_dead::Dead;
+use pk_manifest::Part;
 use pk_segment::Segment;
 
 /// An open segment, and which of its documents are deleted.
 #[derive(Drop)]
 pub struct OpenSegment {
+    /// Its entry: its id, where it lies, its kind, and where its deletion list lies, if it has one.
+    pub entry: Part,
     /// What opening read of it.
     pub segment: Segment,
     /// The numbers of its deletion list.

@@ -6,6 +6,7 @@
 
 ghost use Rattle.std.specs.Prelude.{◌≡◌, ℕ, List, length, All, IfOk, IsErrOf};
 ghost use Rattle.pk_manifest.specs.Spelling.{view};
+ghost use Rattle.pk_open.specs.Opened.{entries_of};
 ghost use Rattle.pk_open.specs.Opening.{
   ExtentOpensAs,
   IsGrown,
@@ -100,6 +101,7 @@ fn open_entry<D: Disk>(alloc: Global, disk: &mut D, entry: Part) -> Result<OpenS
     requires segment { EndsInside (length (D.content disk.old)) entry.extent }
     requires list { ListEndsInside (length (D.content disk.old)) entry.dead }
     ensures opened { D.honest → ReadsOne (OpensAsSegment (D.content disk.old) entry) result }
+    ensures entry { IfOk result (λ o. o.entry ≡ entry) }
     ensures grown { IfOk result IsGrown }
     ensures left { ReadsDisk D.Disk CountsReads result disk.old disk.new }
 {
@@ -109,6 +111,7 @@ fn open_entry<D: Disk>(alloc: Global, disk: &mut D, entry: Part) -> Result<OpenS
         return Err(ReadFault::Memory);
     };
     Ok(OpenSegment {
+        entry,
         segment,
         dead,
         deleted,
@@ -127,6 +130,7 @@ fn open_next<D: Disk>(
     requires segment { EndsInside (length (D.content disk.old)) entry.extent }
     requires list { ListEndsInside (length (D.content disk.old)) entry.dead }
     ensures opened { D.honest → ReadsOne (OpensNext (D.content disk.old) low next entry) result }
+    ensures entry { IfOk result (λ o. o.entry ≡ entry) }
     ensures grown { IfOk result IsGrown }
     ensures left { ReadsDisk D.Disk CountsReads result disk.old disk.new }
 {
@@ -150,7 +154,7 @@ pub fn open_segments<D: Disk>(
     requires kinds { HaveKinds manifest.now.entries.items }
     requires inside { LieInside (length (D.content disk.old)) manifest.now.entries.items }
     ensures opened { D.honest → SegmentsAs (D.content disk.old) (view manifest.now) result }
-    ensures count { IfOk result (λ v. length v.items ≡ length manifest.now.entries.items) }
+    ensures entries { IfOk result (λ v. entries_of v.items ≡ manifest.now.entries.items) }
     ensures grown { IfOk result (λ v. All IsGrown v.items) }
     ensures left { ReadsDisk D.Disk CountsReads result disk.old disk.new }
 {

@@ -2,12 +2,12 @@
 ghost use Rattle.std.specs.Prelude.{◌≡◌, ◌≤◌, ◌<◌, ◌+◌, ◌^◌, ℕ, List, length};
 ghost use Rattle.std.specs.Prelude.{IfOk, IfSome, IsErrOf, MatchOption, None, Ok, OnOk};
 ghost use Rattle.std.specs.Prelude.{slice_index_or};
-ghost use Rattle.pk_disk.specs.Units.{extent_bytes, start_of};
+ghost use Rattle.pk_disk.specs.Units.{extent_bytes};
 ghost use Rattle.pk_model.specs.Collection.{Doc, IsCollection};
 ghost use Rattle.pk_model.specs.Limits.{max_segments};
 ghost use Rattle.pk_open.specs.Seeking.{IsUnreached, IsWhole, SeeksPlace, SeeksText};
 ghost use Rattle.pk_open.specs.Showing.{LivesAt, LooksUpAs, Spans};
-ghost use Rattle.pk_open.specs.Opened.{AreOpenOf, present};
+ghost use Rattle.pk_open.specs.Opened.{AreOpenOf, entries_of, present};
 ghost use Rattle.pk_segment.specs.Opened.{IsSegmentOf};
 ghost use Rattle.pk_segment.specs.Spelling.{SegmentSpells};
 ghost use Rattle.pk_segment.specs.OnlyRead.{ReadsDisk};
@@ -15,14 +15,13 @@ ghost use Rattle.pk_segment.specs.Reading.{ContainsAs, CountsReads, TextAs};
 ghost use Rattle.pk_posting.specs.Source.{CountsFaults};
 ghost use Rattle.pk_state.specs.Committed.{Committed, live_in, whole_of};
 ghost use Rattle.pk_state.specs.Holds.{SpellsEntries};
-ghost use Rattle.pk_state.specs.Kept.{LieInside};
+ghost use Rattle.pk_state.specs.Kept.{EndsInside, LieInside};
 
 use crate::opened::OpenSegment;
-use pk_disk::{Disk, Extent};
-use pk_manifest::Part;
+use pk_disk::Disk;
 use pk_model::DocNo;
 use pk_posting::SourceFault;
-use pk_segment::{ExtentSource, ReadFault, Segment};
+use pk_segment::{ExtentSource, ReadFault};
 use std::alloc::Global;
 
 // The place of the segment whose span the number lies in.
@@ -40,65 +39,56 @@ fn place_of(opened: &[OpenSegment], number: DocNo) -> Option<usize>
 fn text_in<D: Disk>(
     alloc: Global,
     disk: &mut D,
-    extent: Extent,
-    segment: &Segment,
+    opened: &OpenSegment,
     number: DocNo,
 ) -> Result<Option<String>, ReadFault>
-    requires { start_of extent + extent.bytes ≤ length (D.content disk.old) }
+    requires { EndsInside (length (D.content disk.old)) opened.now.entry.extent }
     ensures text { D.honest → (docs : List Doc) (kind : ℕ)
-        → SegmentSpells (extent_bytes (D.content disk.old) extent) docs kind
-        → IsSegmentOf segment.now docs → TextAs docs number.0 result }
-    ensures whole { OnOk result (IsWhole extent segment.now) }
+        → SegmentSpells (extent_bytes (D.content disk.old) opened.now.entry.extent) docs kind
+        → IsSegmentOf opened.now.segment docs → TextAs docs number.0 result }
+    ensures whole { OnOk result (IsWhole opened.now) }
     ensures left { ReadsDisk D.Disk CountsReads result disk.old disk.new }
 {
-    if extent.bytes < segment.postings() {
+    if opened.entry.extent.bytes < opened.segment.postings() {
         return Err(ReadFault::Damaged);
     }
-    let mut source = ExtentSource::on(disk, extent);
-    segment.text_of(alloc, &mut source, number.0)
+    let mut source = ExtentSource::on(disk, opened.entry.extent);
+    opened.segment.text_of(alloc, &mut source, number.0)
 }
 
 // Whether the segment has a document of this number. One that goes past its extent is damaged.
-fn has_in<D: Disk>(
-    disk: &mut D,
-    extent: Extent,
-    segment: &Segment,
-    number: DocNo,
-) -> Result<bool, SourceFault>
-    requires { start_of extent + extent.bytes ≤ length (D.content disk.old) }
+fn has_in<D: Disk>(disk: &mut D, opened: &OpenSegment, number: DocNo) -> Result<bool, SourceFault>
+    requires { EndsInside (length (D.content disk.old)) opened.now.entry.extent }
     ensures has { D.honest → (docs : List Doc) (kind : ℕ)
-        → SegmentSpells (extent_bytes (D.content disk.old) extent) docs kind
-        → IsSegmentOf segment.now docs → ContainsAs docs number.0 result }
-    ensures whole { OnOk result (IsWhole extent segment.now) }
-    ensures cut { IsErrOf result SourceFault.Damaged → IsWhole extent segment.now → ⊥ }
+        → SegmentSpells (extent_bytes (D.content disk.old) opened.now.entry.extent) docs kind
+        → IsSegmentOf opened.now.segment docs → ContainsAs docs number.0 result }
+    ensures whole { OnOk result (IsWhole opened.now) }
+    ensures cut { IsErrOf result SourceFault.Damaged → IsWhole opened.now → ⊥ }
     ensures left { ReadsDisk D.Disk CountsFaults result disk.old disk.new }
 {
-    if extent.bytes < segment.postings() {
+    if opened.entry.extent.bytes < opened.segment.postings() {
         return Err(SourceFault::Damaged);
     }
-    let mut source = ExtentSource::on(disk, extent);
-    segment.contains(&mut source, number.0)
+    let mut source = ExtentSource::on(disk, opened.entry.extent);
+    opened.segment.contains(&mut source, number.0)
 }
 
-/// The text of the live document of this number, if one of the segments has it. Each open segment
-/// stands at the place of its entry; of the one whose numbers reach over this one the directory is
-/// read by halving, and the text.
+/// The text of the live document of this number, if one of the segments has it. Of the one whose
+/// numbers reach over this one the directory is read by halving, and the text.
 ///
 /// Answers `Damaged` where that segment is none, `Disk` where a read failed, or `Memory`.
 pub fn text_stored<D: Disk>(
     alloc: Global,
     disk: &mut D,
-    entries: &[Part],
     opened: &[OpenSegment],
     number: DocNo,
 ) -> Result<Option<String>, ReadFault>
-    requires inside { LieInside (length (D.content disk.old)) entries.now }
-    requires same { length opened.now ≡ length entries.now }
+    requires { LieInside (length (D.content disk.old)) (entries_of opened.now) }
     ensures text { D.honest → (c : Committed)
-        → SpellsEntries (D.content disk.old) entries.now c.stored → AreOpenOf opened.now c.stored
-        → IsCollection (whole_of c)
+        → SpellsEntries (D.content disk.old) (entries_of opened.now) c.stored
+        → AreOpenOf opened.now c.stored → IsCollection (whole_of c)
         → LooksUpAs (live_in (present opened.now c.stored)) number.0 result }
-    ensures sought { SeeksText entries.now opened.now number.0 result }
+    ensures sought { SeeksText opened.now number.0 result }
     ensures unreached { IsUnreached opened.now number.0
         → (result ≡ Ok None) × (disk.new ≡ disk.old) }
     ensures left { ReadsDisk D.Disk CountsReads result disk.old disk.new }
@@ -106,31 +96,28 @@ pub fn text_stored<D: Disk>(
     let Some(place) = place_of(opened, number) else {
         return Ok(None);
     };
-    let entry = &entries[place];
     let here = &opened[place];
     if here.deleted.contains(number.0) {
         return Ok(None);
     }
-    text_in(alloc, disk, entry.extent, &here.segment, number)
+    text_in(alloc, disk, here, number)
 }
 
-/// The place of the open segment that has the live document of this number, if one of them does.
-/// Each stands at the place of its entry; of the one whose numbers reach over this one the
-/// directory is read by halving. It takes no memory.
+/// The place of the open segment that has the live document of this number, if one of them does. Of
+/// the one whose numbers reach over this one the directory is read by halving. It takes no memory.
 ///
 /// Answers `Damaged` where that segment is none, or `Disk` where a read failed.
 pub fn place_stored<D: Disk>(
     disk: &mut D,
-    entries: &[Part],
     opened: &[OpenSegment],
     number: DocNo,
 ) -> Result<Option<usize>, SourceFault>
-    requires inside { LieInside (length (D.content disk.old)) entries.now }
-    requires same { length opened.now ≡ length entries.now }
+    requires { LieInside (length (D.content disk.old)) (entries_of opened.now) }
     ensures place { D.honest → (c : Committed)
-        → SpellsEntries (D.content disk.old) entries.now c.stored → AreOpenOf opened.now c.stored
-        → IsCollection (whole_of c) → LivesAt opened.now c.stored number.0 result }
-    ensures sought { SeeksPlace entries.now opened.now number.0 result }
+        → SpellsEntries (D.content disk.old) (entries_of opened.now) c.stored
+        → AreOpenOf opened.now c.stored → IsCollection (whole_of c)
+        → LivesAt opened.now c.stored number.0 result }
+    ensures sought { SeeksPlace opened.now number.0 result }
     ensures unreached { IsUnreached opened.now number.0
         → (result ≡ Ok None) × (disk.new ≡ disk.old) }
     ensures within { IfOk result (λ place. IfSome place (λ i. (1 ≤ number.0)
@@ -143,12 +130,11 @@ pub fn place_stored<D: Disk>(
     let Some(place) = place_of(opened, number) else {
         return Ok(None);
     };
-    let entry = &entries[place];
     let here = &opened[place];
     if here.deleted.contains(number.0) {
         return Ok(None);
     }
-    let has = has_in(disk, entry.extent, &here.segment, number)?;
+    let has = has_in(disk, here, number)?;
     Ok(has.then_some(place))
 }
 

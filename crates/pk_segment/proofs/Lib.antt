@@ -4,6 +4,7 @@ pub mod IndexLemmas
 pub mod ListingLemmas
 pub mod OnlyReadLemmas
 pub mod OpeningLemmas
+pub mod PlacedLemmas
 pub mod PlanLemmas
 pub mod SegmentLemmas
 pub mod ReadLemmas

@@ -5,6 +5,7 @@ pub mod Indexed
 pub mod Listing
 pub mod OnlyRead
 pub mod Opened
+pub mod Placed
 pub mod Planning
 pub mod Reading
 pub mod Said

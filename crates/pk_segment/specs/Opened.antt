@@ -54,6 +54,9 @@ pub record IsOpened (bytes : List ℕ) (size kind : ℕ) (s : Segment) : Type 0 
   pub inside : 24 + 12 * header.count ≤ length bytes
   pub count_is : count_of s ≡ header.count
   pub texts_is : texts_of s ≡ header.texts
+  pub lists_is : s.lists ≡ header.postings
+  pub dictionary_is : s.dictionary ≡ header.dictionary
+  pub terms_is : s.terms ≡ header.terms
   pub first_is : first_of s ≡ number_at 0 (entry_field bytes 0)
   pub last_is : last_of s ≡ number_at 0 (entry_field bytes (header.count - 1))
   pub least : 1 ≤ first_of s

@@ -33,10 +33,10 @@
 //! halves the directory; `text_of` does so too, and then reads the one text, at most 4,096 bytes at
 //! once. Whoever wants many documents reads the `directory` into memory, in stretches as long, and
 //! then with `document_in` each text once. Of kind 2, `list_of` looks a word up in the dictionary,
-//! whose entry leads to its list, `dictionary` says where that lies, for whoever looks many up by
-//! one reading of the header, and `terms` gives all words. Each call that reads is handed the
-//! source; `ExtentSource` is an extent of a disk as one, and can be turned to another. It reads by
-//! `read_front`, and so may other sources over a disk.
+//! whose entry leads to its list, `dictionary_place` says where that lies, as opening read it, and
+//! `terms` gives all words. Each call that reads is handed the source; `ExtentSource` is an extent
+//! of a disk as one, and can be turned to another. It reads by `read_front`, and so may other
+//! sources over a disk.
 //!
 //! # What is refused
 //!

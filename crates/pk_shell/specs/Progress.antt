@@ -1,5 +1,5 @@
 -- What `serve` has read and done, between two reads.
-use Rattle.std.specs.Prelude.{ℕ, List, Option, Result, ◌≤◌, ◌*◌, length}
+use Rattle.std.specs.Prelude.{ℕ, List, Option, ◌≤◌, ◌*◌, length}
 use Rattle.std.specs.Io.KnownBytes.{Consumes}
 use Rattle.pk_shell.specs.Asked.{Asked}
 use Rattle.pk_shell.specs.Transcript.{Transcript}

@@ -28,7 +28,7 @@ use Rattle.pk_layout.specs.declared.planning.Plan.{Plan}
 
 -- the open segment without its pending deletions
 abbrev settled : OpenSegment → OpenSegment
-settled o = record { segment = o.segment; dead = o.dead; deleted = o.dead }
+settled o = record { entry = o.entry; segment = o.segment; dead = o.dead; deleted = o.dead }
 
 settled_of : (os : List OpenSegment) (stored : List Stored) → AreOpenOf os stored → AreOpenOf (map settled os) stored
 settled_of [] [] are = tt
@@ -37,6 +37,7 @@ settled_of (o ∷ os) [] are = absurd are
 settled_of (o ∷ os) (s ∷ stored) are = (
   record {
     segment = are.0.segment;
+    dictionary = are.0.dictionary;
     dead = are.0.dead;
     kept = λ n is. subst (λ (ns : List ℕ). lists n ns ≡ true) (sym are.0.dead) is;
     names = λ n is. are.0.names n (are.0.kept n (subst (λ (ns : List ℕ). lists n ns ≡ true) are.0.dead is));

@@ -1,8 +1,8 @@
 -- A merge passes over no word whose list goes past its segment, where the segments leave a document.
-use Rattle.std.proofs.Common.{◌≡◌, ◌⊎◌, ◌∙◌, ◌+◌, ◌-◌, ◌<◌, ◌++◌, inl, inr, ℕ, List, [], ◌∷◌, length, min, take, drop, sym, ap, subst, arith, Option, Some, None, Result, Ok, Err}
+use Rattle.std.proofs.Common.{◌≡◌, ◌∙◌, ◌+◌, ◌-◌, inl, inr, ℕ, List, [], ◌∷◌, length, take, drop, sym, ap, subst, arith, Option, Some, None, Result, Ok, Err}
 use Rattle.std.specs.Prelude.{All, OnOk}
 use Rattle.std.specs.List.{sum_by}
-use Rattle.std.proofs.lemmas.List.{drop-drop, length-drop, length-take, take-append-drop, take_all}
+use Rattle.std.proofs.lemmas.List.{drop-drop, take-append-drop, take_all}
 use Rattle.std.proofs.lemmas.List.Elements.{All-cons, All-head, All-nil, All-tail}
 use Rattle.std.proofs.lemmas.List.Sums.{sum_by-append}
 use Rattle.pk_disk.specs.declared.disk.Disk.{Ghosts}
@@ -18,6 +18,8 @@ use Rattle.pk_merge.specs.declared.prepared.Prepared.{Prepared}
 use Rattle.pk_merge.specs.Said.{NameWithin, NamesWithin}
 use Rattle.pk_model.specs.declared.commands.Refusal.{Refusal}
 use Rattle.pk_open.specs.declared.opened.OpenSegment.{OpenSegment}
+use Rattle.pk_open.specs.Opened.{entries_of}
+use Rattle.pk_open.proofs.PlaceLemmas.{entries_many}
 use Rattle.pk_segment.specs.Said.{ListsLieWithin}
 use Rattle.pk_state.specs.Writing.{replaced}
 use Rattle.pk_store.specs.Losing.{LosesNone, committed_left}
@@ -56,7 +58,7 @@ named_run bytes inputs (Some p) new b opened from n m opens plans none within = 
 named_run bytes inputs None (Some new) b opened from n m opens plans none within = absurd opens
 named_run bytes inputs None None b opened from n m opens plans none within = λ some.
     let left : m.plan.opened.items ≡ replaced from n [] opened =
-    plans.5.opened_is ∙ ap (λ (os : List OpenSegment). replaced from n os opened) plans.1 in
+    plans.6.opened_is ∙ ap (λ (os : List OpenSegment). replaced from n os opened) plans.1 in
     absurd (omega (arith, none, some, ap (sum_by committed_left) left, sum_without committed_left from n opened))
 
 -- ---- the entries of the inputs
@@ -76,20 +78,16 @@ pub entries_within : (bytes : List ℕ) (is : List MergeInput) (es : List Entry)
     → AreOf is es → InputsWithin bytes is opened → AreWithin bytes es opened
 entries_within bytes is es opened of within = λ some. each_within bytes is es of (within some)
 
--- runs of two lists are as long as each other
-pub length_run : {X Y : Type 0} (from n : ℕ) (xs : List X) (ys : List Y) → length xs ≡ length ys
-    → length (run_of from n xs) ≡ length (run_of from n ys)
-length_run from n xs ys same =
-    let back = length-drop from xs ∙ ap (λ (k : ℕ). k - from) same ∙ sym (length-drop from ys) in
-    length-take n (drop from xs) ∙ ap (min n) back ∙ sym (length-take n (drop from ys))
-
 -- ---- a store
 
 -- a volume that is merged has an open segment for each entry
+as_many : (os : List OpenSegment) (es : List Entry) → entries_of os ≡ es → length os ≡ length es
+as_many os es same = sym (entries_many os) ∙ ap length same
+
 pub opened_each : {D T : Type 0} (d : Ghosts D) (old new : VolumeView D) (from n : ℕ) (r : Result T Refusal)
     → MergesRun d old from n r new → length old.opened ≡ length old.body.entries
-opened_each d old new from n r (inl none) = none.3.ready.opened
-opened_each d old new from n r (inr done) = done.5.ready.opened
+opened_each d old new from n r (inl none) = as_many old.opened old.body.entries none.3.ready.opened
+opened_each d old new from n r (inr done) = as_many old.opened old.body.entries done.5.ready.opened
 
 -- the run of all
 pub all_within : {D T E : Type 0} (d : Ghosts D) (v : VolumeView D) (n : ℕ) (r : Result T E)

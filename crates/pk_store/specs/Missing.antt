@@ -12,7 +12,7 @@ use Rattle.pk_store.specs.View.{StoreView}
 -- No uncommitted document has the number; and no committed one was told to have it.
 pub record IsMissing {D : Type 0} (s : StoreView D) (n : ℕ) : Type 0 where
   pub buffered : is_live n s.buffer ≡ false
-  pub stored : IsUnknown s.volume.body.entries s.volume.opened n
+  pub stored : IsUnknown s.volume.opened n
 
 -- the text of the uncommitted document of a number, none exactly where none has it, or no memory
 abbrev pub ShowsBuffered : List Doc → ℕ → Result (String Global) Refusal → Type 0

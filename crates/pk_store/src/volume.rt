@@ -75,7 +75,7 @@ pub(crate) struct Volume<D: Disk> {
     pub(crate) disk: D,
     /// What the body in force says.
     manifest: Manifest,
-    /// The segments that it names, each at the place of its entry.
+    /// The segments that it names, in the order of its entries.
     opened: Vec<OpenSegment>,
     /// The half that the next body goes to.
     spare: Half,
@@ -174,7 +174,7 @@ impl<D: Disk> Volume<D> {
             self.old.body.entries stored → AreOpenOf self.old.opened stored → self.old.reopen ≡ false
             → FoundAs (tree_of query.now) (live_in (present self.old.opened stored)) found.old.items
             found.new.items result }
-        ensures whole { OnOk result (AreWhole self.old.body.entries self.old.opened) }
+        ensures whole { OnOk result (AreWhole self.old.opened) }
         ensures keeps { KeepsVolume D.Disk self.old self.new }
         ensures reads { CountsReads (D.failed_reads self.old.disk) (D.failed_reads self.new.disk)
             result }
@@ -184,7 +184,6 @@ impl<D: Disk> Volume<D> {
             &mut self.disk,
             &mut self.cache,
             &mut self.pivots,
-            &self.manifest.entries,
             &self.opened,
             query,
             found,
@@ -200,20 +199,14 @@ impl<D: Disk> Volume<D> {
         ensures text { D.honest → (stored : List Stored) → StandFor D.Disk self.old stored
             → self.old.reopen ≡ false → IsCollection (whole_of (committed_by self.old stored))
             → LooksUpAs (live_in (present self.old.opened stored)) number.0 result }
-        ensures sought { SeeksText self.old.body.entries self.old.opened number.0 result }
+        ensures sought { SeeksText self.old.opened number.0 result }
         ensures unreached { IsUnreached self.old.opened number.0
             → (result ≡ Ok None) × (self.new ≡ self.old) }
         ensures keeps { KeepsVolume D.Disk self.old self.new }
         ensures reads { CountsReads (D.failed_reads self.old.disk) (D.failed_reads self.new.disk)
             result }
     {
-        text_stored(
-            alloc,
-            &mut self.disk,
-            &self.manifest.entries,
-            &self.opened,
-            number,
-        )
+        text_stored(alloc, &mut self.disk, &self.opened, number)
     }
 
     /// What the disk holds, by the body that is kept: each segment and each deletion list is read.
@@ -253,7 +246,7 @@ impl<D: Disk> Volume<D> {
     pub(crate) fn delete(&mut self, number: DocNo) -> Result<(), Refusal>
         ensures { DeletesIn D.Disk self.old number.0 result self.new }
     {
-        match place_stored(&mut self.disk, &self.manifest.entries, &self.opened, number) {
+        match place_stored(&mut self.disk, &self.opened, number) {
             Ok(Some(place)) => self.delete_at(place, number),
             Ok(None) => Err(Refusal::NoSuchDocument),
             Err(SourceFault::Damaged) => Err(Refusal::Damaged),
@@ -444,7 +437,7 @@ impl<D: Disk> Volume<D> {
     {
         // The inputs borrow their deletion lists, and the volume's own are going to change.
         let run = copy_of(alloc, &self.opened[from..from + count])?;
-        let inputs = inputs_of(alloc, &self.manifest.entries[from..from + count], &run)?;
+        let inputs = inputs_of(alloc, &run)?;
         self.merge_inputs(alloc, from, count, &inputs)
     }
 

@@ -7,7 +7,7 @@
 //!
 //! | call | answers | refused as |
 //! |---|---|---|
-//! | `inputs_of` | what pk_merge reads for a merge of a run of segments, with the deletions that are committed | memory |
+//! | `inputs_of` | what pk_merge reads for a merge of a run of open segments, with the deletions that are committed | memory |
 //! | `new_segment` | the segment of what is prepared, for a plan; none where nothing is to be written | `NoSegment` |
 //! | `refusal_of` | the refusal that a fault of a merge becomes | never |
 //!

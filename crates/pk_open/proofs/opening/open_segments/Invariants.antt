@@ -1,6 +1,7 @@
 -- The entries so far are open, and the disk was only read.
-use Rattle.std.proofs.Common.{◌≡◌, length, drop, Ok}
+use Rattle.std.proofs.Common.{◌≡◌, drop, take, Ok}
 use Rattle.std.specs.Prelude.{All}
+use Rattle.pk_open.specs.Opened.{entries_of}
 use Rattle.pk_open.specs.Opening.{IsOpenSoFar}
 use Rattle.pk_open.specs.Opening.{IsGrown}
 use Rattle.pk_segment.specs.OnlyRead.{ReadsDisk}
@@ -12,7 +13,7 @@ invariant-loop-entry g l =
     let D = g.D.Disk in
     record {
       left : ReadsDisk D CountsReads (Ok (tt {0})) l.fn.disk l.disk;
-      count : length l.segments.items ≡ l.entry-index;
+      entries : entries_of l.segments.items ≡ take l.entry-index l.manifest.entries.items;
       grown : All IsGrown l.segments.items;
       open_so_far : D.honest → IsOpenSoFar (D.content l.fn.disk) l.manifest.next_number l.manifest.entries.items l.low l.segments.items (drop l.entry-index l.manifest.entries.items);
     }

@@ -1,6 +1,5 @@
 -- One number more is written behind those so far.
-use Rattle.std.proofs.Common.{arith, length, take, ◌≤◌, ◌≡◌, ◌+◌, ◌-◌, ◌∙◌, sym, length-drop}
-use Rattle.std.proofs.lemmas.Grind.{common_steps}
+use Rattle.std.proofs.Common.{arith, length, take, ◌≡◌, ◌-◌, ◌∙◌, length-drop}
 use borrow.Rule.Slice.PartMut.{put_mid}
 use Rattle.pk_shell.specs.ReplyText.{spaced}
 use Rattle.pk_model.specs.declared.documents.DocNo.{DocNo}
