@@ -119,6 +119,8 @@ impl SharedFile for ChangingFile {
 
 /// Nothing is kept away: it changes when it is to.
 impl HeldFile for ChangingFile {
+    ghost is_held = { λ _. false };
+
     fn hold(&mut self) -> bool {
         false
     }

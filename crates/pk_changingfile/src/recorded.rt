@@ -125,6 +125,8 @@ impl<'a> SharedFile for RecordedFile<'a> {
 
 /// While it is held it has the content that it had.
 impl<'a> HeldFile for RecordedFile<'a> {
+    ghost is_held = { λ f. f.is_held };
+
     fn hold(&mut self) -> bool {
         self.is_held = true;
         true

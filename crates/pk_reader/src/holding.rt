@@ -1,6 +1,6 @@
 //! What is asked while no one writes, or between two tries at that.
 
-ghost use Rattle.std.specs.Prelude.{◌≤◌, IfSome};
+ghost use Rattle.std.specs.Prelude.{◌≡◌, ◌≤◌, false, IfSome};
 ghost use Rattle.pk_manifest.specs.Evolves.{in_force};
 ghost use Rattle.pk_model.specs.Views.{reply_of};
 ghost use Rattle.pk_reader.specs.Asking.{request_of};
@@ -21,8 +21,8 @@ const MOST_HOLDS: u32 = 100;
 
 const WAIT_MILLIS: u64 = 10;
 
-// Asks once while no one writes. There is no reply where there is a writer; where what is read is
-// outdated all the same, it is `Refusal::Disk`.
+// Asks once while no one writes, and lets writers come then. There is no reply where there is a
+// writer; where what is read is outdated all the same, it is `Refusal::Disk`.
 fn ask_alone<F: HeldFile + Drop>(
     alloc: Global,
     caches: Caches,
@@ -34,6 +34,7 @@ fn ask_alone<F: HeldFile + Drop>(
         (F.SharedFile.content result.1)) }
     ensures later { F.SharedFile.honest → in_force (F.SharedFile.content file)
         ≤ in_force (F.SharedFile.content result.1) }
+    ensures released { F.is_held result.1 ≡ false }
 {
     if !file.hold() {
         return (None, file);

@@ -1,6 +1,6 @@
 //! The files of the system that are only read. What they do, no clause says.
 
-ghost use Rattle.std.specs.Prelude.{[]};
+ghost use Rattle.std.specs.Prelude.{[], false};
 
 use crate::held::HeldFile;
 use crate::shared::{ReadFault, SharedFile};
@@ -53,6 +53,8 @@ impl SharedFile for File {
 
 /// By a shared lock of the whole file.
 impl HeldFile for File {
+    ghost is_held = { λ _. false };
+
     fn hold(&mut self) -> bool {
         self.try_lock_shared().is_ok()
     }

@@ -9,7 +9,7 @@ use Rattle.pk_reader.proofs.ReadLemmas.{later_step, older_step}
 use Rattle.pk_reader.proofs.holding.ask_alone.Goals as goal
 
 pub returns-then-not-hold-clause-later : goal.returns-then-not-hold-clause-later
-returns-then-not-hold-clause-later g c = λ h. (c.hold.ensures h).rises
+returns-then-not-hold-clause-later g c = λ h. (c.hold.ensures.evolves h).rises
 
 pub returns-in-Some-clause-step : goal.returns-in-Some-clause-step
 returns-in-Some-clause-step g c =
@@ -18,18 +18,18 @@ returns-in-Some-clause-step g c =
     let now = f.content c.release.new.self in
     let request = request_of c.args.question in
     let reply = reply_of c.in-Some.reply in
-    older_step f.honest (f.content c.args.file) asked now request reply (λ h. (c.hold.ensures h).rises)
-    (later_step f.honest asked (f.content c.file_of-file.result) now request reply c.release.ensures
+    older_step f.honest (f.content c.args.file) asked now request reply (λ h. (c.hold.ensures.evolves h).rises)
+    (later_step f.honest asked (f.content c.file_of-file.result) now request reply c.release.ensures.evolves
     (subst (λ (l : List ℕ). ReadStep f.honest asked request reply l) (sym c.file_of-file.ensures) (rw c.in-Some.is at c.turn-reply.ensures.step)))
 
 pub returns-in-Some-clause-later : goal.returns-in-Some-clause-later
 returns-in-Some-clause-later g c = λ h.
     let f = g.F.SharedFile in
     let same : in_force (f.content c.file_of-file.result) ≡ in_force (held_bytes c.turn-reply.result.1 f.content (λ s. f.content s.store.volume.disk.disk.file)) = ap in_force c.file_of-file.ensures in
-    omega (arith, (c.hold.ensures h).rises, c.turn-reply.ensures.later h, same, (c.release.ensures h).rises)
+    omega (arith, (c.hold.ensures.evolves h).rises, c.turn-reply.ensures.later h, same, (c.release.ensures.evolves h).rises)
 
 pub returns-in-None-clause-later : goal.returns-in-None-clause-later
 returns-in-None-clause-later g c = λ h.
     let f = g.F.SharedFile in
     let same : in_force (f.content c.file_of-file.result) ≡ in_force (held_bytes c.turn-reply.result.1 f.content (λ s. f.content s.store.volume.disk.disk.file)) = ap in_force c.file_of-file.ensures in
-    omega (arith, (c.hold.ensures h).rises, c.turn-reply.ensures.later h, same, (c.release.ensures h).rises)
+    omega (arith, (c.hold.ensures.evolves h).rises, c.turn-reply.ensures.later h, same, (c.release.ensures.evolves h).rises)
