@@ -39,6 +39,6 @@ mod planning;
 mod plans;
 mod words;
 
-pub use planning::plan;
+pub use planning::{plan, plan_with};
 pub use plans::{Plan, Planned};
 pub use words::words_of;

@@ -13,6 +13,7 @@ use crate::operands::{Operands, united};
 use crate::plans::{Plan, Planned};
 use crate::words::words_of;
 use pk_model::Query;
+use smallvec::SmallVec;
 use std::alloc::{AllocError, Global};
 
 /// The plan of a query, and its words. The table has for the place of each word the number of
@@ -35,6 +36,26 @@ pub fn plan<'a>(
         RestsOnWords (operation_of (texts planned.words.items) planned.plan)) }
 {
     let words = words_of(alloc, query)?;
+    plan_with(alloc, query, words, frequencies)
+}
+
+/// The same, where the words are at hand: just those that [`words_of`](crate::words_of) has of the
+/// query.
+pub fn plan_with<'a>(
+    alloc: Global,
+    query: &Query,
+    words: SmallVec<&'a str, 4>,
+    frequencies: &[u32],
+) -> Result<Planned<'a>, AllocError>
+    requires { texts words.items ≡ leaves (tree_of query.now) }
+    ensures words { IfOk result (λ planned. planned.words.items ≡ words.entry.items) }
+    ensures means { IfOk result (λ planned. IsPlanFor planned (tree_of query.now)) }
+    ensures ordered { IfOk result (λ planned. is_ordered frequencies.now planned.plan ≡ true) }
+    ensures texts { IfOk result (λ planned. has_phrase (tree_of query.now) ≡ false
+        → reads_texts planned.plan ≡ false) }
+    ensures rows { IfOk result (λ planned.
+        RestsOnWords (operation_of (texts planned.words.items) planned.plan)) }
+{
     let mut place = words.len();
     let plan = plan_of(alloc, query, frequencies, &mut place)?;
     Ok(Planned { words, plan })

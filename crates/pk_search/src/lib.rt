@@ -48,6 +48,7 @@ mod lists;
 mod pivots;
 mod planned;
 mod repeats;
+mod rows;
 mod span;
 mod stored;
 
