@@ -7,8 +7,10 @@ from . import scripts
 TEXTS = ("", "a", "a b", "one two", "three", "four five six", "seven")
 
 # What opening reads: two gates, two generations of 8 bytes, a body of 8,192, a table of 40 bytes a
-# segment, and of each segment the header of 24 bytes and two entries of 12.
-OPENING = 2 + 16 + 8192 + 3 * 40 + 3 * 48
+# segment, and the segments, each whole, since none has more than 4,097 bytes: headers of 24 bytes,
+# entries of 12, texts, lists, dictionaries.
+OPENING = 2 + 16 + 8192 + 3 * 40 \
+    + 3 * 24 + 107 * 12 + (479 + 34 + 7) + (178 + 46 + 10) + (76 + 74 + 19)
 
 
 def text_of(number):

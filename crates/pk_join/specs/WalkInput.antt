@@ -2,7 +2,7 @@
 use Rattle.std.specs.Prelude.{◌≡◌, ◌≤◌, ◌+◌, ◌-◌, ℕ, List, [], map, slice_get, Option, None, Some}
 use Rattle.pk_disk.specs.Units.{extent_bytes, start_of}
 use Rattle.pk_disk.specs.declared.units.Extent.{Extent}
-use Rattle.pk_join.specs.Ahead.{HoldsNone, HoldsOf}
+use Rattle.pk_segment.specs.Ahead.{HoldsNone, HoldsOf}
 use Rattle.pk_join.specs.declared.input.MergeInput.{MergeInput}
 use Rattle.pk_join.specs.declared.lists.InputLists.{InputLists}
 use Rattle.pk_join.specs.declared.walk_input.Input.{Input}

@@ -17,8 +17,6 @@
 //! | `read_lists` | those of a segment of either kind |
 //! | `Input` | an input of a walk: its words with their lists, and how far the walk has come |
 //! | `Walk` | goes through the words that the inputs leave, each with its numbers |
-//! | `Ahead` | bytes of an extent that were read ahead, 32,768 at once, or fewer of many inputs |
-//! | `AheadSource` | an extent as a source that reads ahead |
 //!
 //! Of an input of kind 2 the terms are in memory, end to end, and 6 bytes and a sixteenth for each:
 //! 2 and a sixteenth for where it ends, and 4 for where its list does, which begins where the one
@@ -27,28 +25,26 @@
 //! of each input of kind 2, and lends lists of them as long as they last, since they lie in the
 //! order of their words. A longer list is read beside, block by block. Of an input of kind 1 there
 //! is an index of the texts, in memory. Of the lists that are joined one word's is in memory at a
-//! time. After `read_lists`, `Input::new`, `Walk::new` and `Ahead::new` no call takes memory.
+//! time. After `read_lists`, `Input::new` and `Walk::new` no call takes memory.
 //!
 //! # What is refused
 //!
 //! `Damaged` is a segment that is none, or numbers that don't rise, or are more than there is room
 //! for; `Disk` is answered exactly where a read failed, and then nothing of that input is held; and
-//! `Memory` where memory was refused, by `read_lists`, `Input::new`, `Walk::new` and `Ahead::new`
-//! alone. The disk is only read. Whatever the bytes are, the words of an input of kind 2 are all
-//! that its dictionary says, and no word is passed whose list goes past the segment.
+//! `Memory` where memory was refused, by `read_lists`, `Input::new` and `Walk::new` alone. The disk
+//! is only read. Whatever the bytes are, the words of an input of kind 2 are all that its
+//! dictionary says, and no word is passed whose list goes past the segment.
 //!
-//! Where the words are: `specs/Ahead` says what is held of an extent, `specs/Inputs` has what
-//! inputs spell, `specs/Words` how words lie end to end, `specs/Ends` where they end and
-//! `specs/Places` where their lists lie, `specs/Listed` what the words and lists of an input are,
-//! `specs/Said` what any bytes say they are, `specs/Marks` what the marks of deleted numbers say,
+//! Where the words are: `specs/Ahead` says how much is read ahead, `specs/Inputs` has what inputs
+//! spell, `specs/Words` how words lie end to end, `specs/Ends` where they end and `specs/Places`
+//! where their lists lie, `specs/Listed` what the words and lists of an input are, `specs/Said`
+//! what any bytes say they are, `specs/Marks` what the marks of deleted numbers say,
 //! `specs/Joining` what is joined, `specs/Keys` the keys of words, `specs/Walking` the words side
 //! by side, `specs/Noted` which inputs have the least of them, `specs/WalkInput` the inputs of a
 //! walk, `specs/Walk` where it has come. Lemma pages: `TermWalkLemmas` on the walk, whose words are
 //! the terms of the documents that are left; `JoinLemmas` on one word's list.
 #![tactic(auto)]
 
-mod ahead;
-mod ahead_source;
 mod ends;
 mod input;
 mod joined;
@@ -66,10 +62,8 @@ mod walk_input;
 mod walking;
 mod words;
 
-pub use ahead::{Ahead, READ_AHEAD};
-pub use ahead_source::AheadSource;
 pub use input::MergeInput;
 pub use lists::InputLists;
 pub use reading::read_lists;
 pub use walk::Walk;
-pub use walk_input::Input;
+pub use walk_input::{Input, READ_AHEAD};

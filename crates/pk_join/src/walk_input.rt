@@ -4,23 +4,27 @@ ghost use Rattle.std.specs.Prelude.{◌≡◌, ◌≤◌, ◌<◌, ◌+◌, ◌+
 ghost use Rattle.std.specs.Prelude.{IfOk, MatchResult, OnOk};
 ghost use Rattle.std.specs.Option.{option_map};
 ghost use Rattle.pk_disk.specs.Units.{extent_bytes, start_of};
-ghost use Rattle.pk_join.specs.Ahead.{HoldsNone, HoldsOf, ahead_room, bytes_ahead};
+ghost use Rattle.pk_join.specs.Ahead.{bytes_ahead};
 ghost use Rattle.pk_join.specs.Joining.{MayJoin, joined_in};
 ghost use Rattle.pk_join.specs.Keys.{HasKey};
 ghost use Rattle.pk_join.specs.Listed.{AreListsOf, room_for, words_in};
 ghost use Rattle.pk_posting.specs.Source.{CountsFaults};
+ghost use Rattle.pk_segment.specs.Ahead.{HoldsNone, HoldsOf, ahead_room};
 ghost use Rattle.pk_segment.specs.Indexed.{list_with};
 ghost use Rattle.pk_segment.specs.OnlyRead.{ReadsDisk};
 ghost use Rattle.pk_segment.specs.Spelling.{SegmentSpells};
 ghost use Rattle.pk_state.specs.Committed.{Stored, live_of};
 
-use crate::ahead::{Ahead, READ_AHEAD};
 use crate::joined::WordList;
 use crate::keys::key_at;
 use crate::lists::{InputLists, StoredList, join_indexed, join_stored};
 use pk_disk::{Disk, Extent};
 use pk_posting::SourceFault;
+use pk_segment::Ahead;
 use std::alloc::{AllocError, Global};
+
+/// How many bytes of an input are read at once; where there are many, fewer.
+pub const READ_AHEAD: usize = 32_768;
 
 // How many bytes of all inputs are read ahead at most: where they are more than 2,048, of each
 // fewer than of one alone.

@@ -29,7 +29,7 @@ ghost use Rattle.pk_state.specs.Committed.{Stored, all_in, live_in};
 use crate::fault::MergeFault;
 use crate::gathered::Gathered;
 use pk_dead::Dead;
-use pk_disk::{Disk};
+use pk_disk::Disk;
 use pk_join::MergeInput;
 use pk_posting::ByteSource;
 use pk_segment::{Directory, ExtentSource, Segment};

@@ -35,9 +35,9 @@ ghost use Rattle.pk_state.specs.Committed.{Stored, all_in};
 use crate::fault::MergeFault;
 use crate::left::{InputDocuments, Left};
 use pk_disk::{Disk, UNIT};
-use pk_join::{Ahead, AheadSource, Input, InputLists, MergeInput, READ_AHEAD, read_lists};
+use pk_join::{Input, InputLists, MergeInput, READ_AHEAD, read_lists};
 use pk_posting::ByteSource;
-use pk_segment::Segment;
+use pk_segment::{Ahead, AheadSource, Segment};
 use std::alloc::Global;
 
 // The words of an input whose segment is all of a source, and whose bytes begin at a position of

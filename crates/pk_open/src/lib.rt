@@ -11,14 +11,15 @@
 //!
 //! | call | answers | reads |
 //! |---|---|---|
-//! | `open_segments` | the segments of a body | headers, ends of directories, deletion lists |
+//! | `open_segments` | the segments of a body | first bytes, ends of directories, deletion lists |
 //! | `text_stored` | the text of the live document of a number, or none | one text, by halving |
 //! | `place_stored` | the place of the segment that has it, or none | one directory, by halving |
 //! | `count_stored` | how many documents there are | nothing |
 //! | `copy_of`, `put_copies` | copies of open segments | nothing |
 //!
 //! A call is refused as damaged where a segment is none, as disk where a read failed, or as memory.
-//! None of them writes.
+//! None of them writes. An opening reads 4,097 bytes of a segment at once, or all of a shorter one,
+//! into a buffer that is taken once: of the longer ones a page cache below keeps no page.
 //!
 //! In specs/: `Opened` says of what a segment is the open one, and what is present, `Opening` what
 //! the entries of a body open as, `Showing` what a look-up answers.

@@ -1,10 +1,11 @@
 //! The segments of a body, opened.
 //!
-//! Of each the header and the first and the last entry of the directory are read, and its deletion
-//! list as a whole. A deletion list has to spell a list, one no longer than the segment has
-//! documents; whether its numbers are numbers of these is not asked.
+//! Of each the first 4,097 bytes are read at once, or all of a shorter one, the last entry of a
+//! directory that goes on behind these by another read, and its deletion list as a whole. A
+//! deletion list has to spell a list, one no longer than the segment has documents; whether its
+//! numbers are numbers of these is not asked.
 
-ghost use Rattle.std.specs.Prelude.{◌≡◌, ℕ, List, length, All, IfOk, IsErrOf};
+ghost use Rattle.std.specs.Prelude.{◌≡◌, ◌≤◌, ℕ, List, length, All, IfOk, IsErrOf};
 ghost use Rattle.pk_manifest.specs.Spelling.{view};
 ghost use Rattle.pk_open.specs.Opened.{entries_of};
 ghost use Rattle.pk_open.specs.Opening.{
@@ -17,6 +18,8 @@ ghost use Rattle.pk_open.specs.Opening.{
   SegmentsAs,
   SpellsFew,
 };
+ghost use Rattle.pk_posting.specs.Limits.{most_lent};
+ghost use Rattle.pk_segment.specs.Ahead.{ahead_room};
 ghost use Rattle.pk_segment.specs.OnlyRead.{ReadsDisk};
 ghost use Rattle.pk_segment.specs.Reading.{CountsReads};
 ghost use Rattle.pk_segment.specs.Spelling.{IsKind};
@@ -27,8 +30,12 @@ use pk_dead::Dead;
 use pk_disk::{Disk, Extent};
 use pk_manifest::{Manifest, Part};
 use pk_posting::{DecodeFault, SourceFault};
-use pk_segment::{ExtentSource, ReadFault, Segment};
+use pk_segment::{Ahead, AheadSource, ReadFault, Segment};
 use std::alloc::Global;
+
+// How many bytes of a segment are read at once: one more than a page, so that a page cache
+// (pk_pages) keeps none of them.
+const READ_AHEAD: usize = 4_097;
 
 // No list has more bytes than these, for its count,
 const LIST_COUNT_BYTES: u64 = 4;
@@ -37,13 +44,15 @@ const LIST_COUNT_BYTES: u64 = 4;
 const LIST_NUMBER_BYTES: u64 = 5;
 
 // The segment of an entry.
-fn open_segment<D: Disk>(disk: &mut D, entry: Part) -> Result<Segment, ReadFault>
+fn open_segment<D: Disk>(disk: &mut D, ahead: &mut Ahead, entry: Part) -> Result<Segment, ReadFault>
     requires kind { IsKind entry.kind }
     requires inside { EndsInside (length (D.content disk.old)) entry.extent }
+    requires room { most_lent ≤ ahead_room ahead.old }
     ensures opened { D.honest → ReadsOne (ExtentOpensAs (D.content disk.old) entry) result }
+    ensures room { most_lent ≤ ahead_room ahead.new }
     ensures left { ReadsDisk D.Disk CountsReads result disk.old disk.new }
 {
-    let mut source = ExtentSource::on(disk, entry.extent);
+    let mut source = AheadSource::on(disk, entry.extent, ahead);
     match Segment::open(&mut source, entry.extent.bytes, entry.kind) {
         Ok(segment) => Ok(segment),
         Err(SourceFault::Damaged) => Err(ReadFault::Damaged),
@@ -96,16 +105,23 @@ fn read_list<D: Disk>(
 }
 
 // The segment of an entry with the numbers of its deletion list, and no others deleted.
-fn open_entry<D: Disk>(alloc: Global, disk: &mut D, entry: Part) -> Result<OpenSegment, ReadFault>
+fn open_entry<D: Disk>(
+    alloc: Global,
+    disk: &mut D,
+    ahead: &mut Ahead,
+    entry: Part,
+) -> Result<OpenSegment, ReadFault>
     requires kind { IsKind entry.kind }
     requires segment { EndsInside (length (D.content disk.old)) entry.extent }
     requires list { ListEndsInside (length (D.content disk.old)) entry.dead }
+    requires room { most_lent ≤ ahead_room ahead.old }
     ensures opened { D.honest → ReadsOne (OpensAsSegment (D.content disk.old) entry) result }
     ensures entry { IfOk result (λ o. o.entry ≡ entry) }
     ensures grown { IfOk result IsGrown }
+    ensures room { most_lent ≤ ahead_room ahead.new }
     ensures left { ReadsDisk D.Disk CountsReads result disk.old disk.new }
 {
-    let segment = open_segment(disk, entry)?;
+    let segment = open_segment(disk, ahead, entry)?;
     let dead = read_list(alloc, disk, entry.dead, segment.count())?;
     let Ok(deleted) = dead.copy(alloc) else {
         return Err(ReadFault::Memory);
@@ -118,24 +134,34 @@ fn open_entry<D: Disk>(alloc: Global, disk: &mut D, entry: Part) -> Result<OpenS
     })
 }
 
-// The segment of an entry, if its numbers are above `low` and below the next number.
+// What the numbers of a segment are to be above and below.
+#[derive(Clone, Copy)]
+struct Bounds {
+    low: u32,
+    next: u32,
+}
+
+// The segment of an entry, if its numbers are within the bounds.
 fn open_next<D: Disk>(
     alloc: Global,
     disk: &mut D,
+    ahead: &mut Ahead,
     entry: Part,
-    low: u32,
-    next: u32,
+    bounds: Bounds,
 ) -> Result<OpenSegment, ReadFault>
     requires kind { IsKind entry.kind }
     requires segment { EndsInside (length (D.content disk.old)) entry.extent }
     requires list { ListEndsInside (length (D.content disk.old)) entry.dead }
-    ensures opened { D.honest → ReadsOne (OpensNext (D.content disk.old) low next entry) result }
+    requires room { most_lent ≤ ahead_room ahead.old }
+    ensures opened { D.honest
+        → ReadsOne (OpensNext (D.content disk.old) bounds.low bounds.next entry) result }
     ensures entry { IfOk result (λ o. o.entry ≡ entry) }
     ensures grown { IfOk result IsGrown }
+    ensures room { most_lent ≤ ahead_room ahead.new }
     ensures left { ReadsDisk D.Disk CountsReads result disk.old disk.new }
 {
-    let opened = open_entry(alloc, disk, entry)?;
-    if opened.segment.first() <= low || opened.segment.last() >= next {
+    let opened = open_entry(alloc, disk, ahead, entry)?;
+    if opened.segment.first() <= bounds.low || opened.segment.last() >= bounds.next {
         return Err(ReadFault::Damaged);
     }
     Ok(opened)
@@ -158,10 +184,12 @@ pub fn open_segments<D: Disk>(
     ensures grown { IfOk result (λ v. All IsGrown v.items) }
     ensures left { ReadsDisk D.Disk CountsReads result disk.old disk.new }
 {
+    let mut ahead = Ahead::new(alloc, READ_AHEAD)?;
     let mut segments = Vec::new(alloc);
     let mut low = 0;
     for entry in &manifest.entries {
-        let opened = open_next(alloc, disk, *entry, low, manifest.next_number)?;
+        let next = manifest.next_number;
+        let opened = open_next(alloc, disk, &mut ahead, *entry, Bounds { low, next })?;
         low = opened.segment.last();
         let Ok(()) = segments.push(opened) else {
             return Err(ReadFault::Memory);

@@ -1,3 +1,4 @@
+pub mod AheadLemmas
 pub mod DirectoryLemmas
 pub mod BegunLemmas
 pub mod IndexLemmas

@@ -1,3 +1,4 @@
+pub mod Ahead
 pub mod Building
 pub mod Directory
 pub mod Fields

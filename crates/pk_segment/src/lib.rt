@@ -35,8 +35,8 @@
 //! then with `document_in` each text once. Of kind 2, `list_of` looks a word up in the dictionary,
 //! whose entry leads to its list, `dictionary_place` says where that lies, as opening read it, and
 //! `terms` gives all words. Each call that reads is handed the source; `ExtentSource` is an extent
-//! of a disk as one, and can be turned to another. It reads by `read_front`, and so may other
-//! sources over a disk.
+//! of a disk as one, and can be turned to another; `AheadSource` is one that reads ahead, into the
+//! buffer of an `Ahead`, as much as this has room for. Both read by `read_front`.
 //!
 //! # What is refused
 //!
@@ -61,13 +61,15 @@
 //! Where the words are: `specs/Spelling` has the spelling, `specs/Indexed` the index behind the
 //! texts, `specs/Listing` what is answered of words, `specs/Planning` what is known before writing,
 //! `specs/Opened` and `specs/Reading` what the readers answer, `specs/Said` what any bytes say of
-//! words, `specs/OnlyRead` what readers leave of a source or a disk, `specs/Directory` what a
-//! directory in memory says. Lemma pages: `SegmentLemmas` reads a spelling again, field by field,
-//! `DirectoryLemmas` a directory, `IndexLemmas` and `ListingLemmas` the index, `PlanLemmas` serves
-//! its writing, `ReadLemmas` and `OpeningLemmas` the readers, `OnlyReadLemmas` calls one after the
-//! other.
+//! words, `specs/OnlyRead` what readers leave of a source or a disk, `specs/Ahead` what is held of
+//! an extent that is read ahead, `specs/Directory` what a directory in memory says. Lemma pages:
+//! `SegmentLemmas` reads a spelling again, field by field, `DirectoryLemmas` a directory,
+//! `IndexLemmas` and `ListingLemmas` the index, `PlanLemmas` serves its writing, `ReadLemmas` and
+//! `OpeningLemmas` the readers, `OnlyReadLemmas` calls one after the other.
 #![tactic(auto)]
 
+mod ahead;
+mod ahead_source;
 mod building;
 mod directory;
 mod extent;
@@ -82,6 +84,8 @@ mod listing;
 mod segment;
 mod stretch;
 
+pub use ahead::Ahead;
+pub use ahead_source::AheadSource;
 pub use building::{BuildFault, build, build_indexed, size_of};
 pub use directory::{Directory, Entry};
 pub use extent::{ExtentSource, read_front};

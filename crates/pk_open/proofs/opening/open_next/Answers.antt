@@ -12,6 +12,6 @@ pub returns-in_err-opened-clause-opened : goal.returns-in_err-opened-clause-open
 returns-in_err-opened-clause-opened g c = λ honest.
     let bytes = g.D.Disk.content c.args.disk.now in
     let found = err_from_is_err_and c.from_residual.result c.from_residual.ensures.1 in
-    subst (λ (r : Result OpenSegment ReadFault). ReadsOne (OpensNext bytes c.args.low c.args.next c.args.entry) r) (sym found.1)
-    (fault_next bytes c.args.low c.args.next c.args.entry found.0
+    subst (λ (r : Result OpenSegment ReadFault). ReadsOne (OpensNext bytes c.args.bounds.low c.args.bounds.next c.args.entry) r) (sym found.1)
+    (fault_next bytes c.args.bounds.low c.args.bounds.next c.args.entry found.0
     (subst (λ (why : ReadFault). ReadsOne (OpensAsSegment bytes c.args.entry) (Err why)) (sym found.2) (c.in_err-opened.ensures.opened honest)))

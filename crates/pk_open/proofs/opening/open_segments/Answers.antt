@@ -19,7 +19,7 @@ returns-in_err-opened-clause-opened g c = λ honest.
     let bytes = D.content c.args.disk.now in
     let table = view c.args.manifest.now in
     let l = c.loop-entry in
-    let found = err_from_is_err_and c.from_residual.result c.from_residual.ensures.1 in
+    let found = err_from_is_err_and c.from_residual-in_err-opened.result c.from_residual-in_err-opened.ensures.1 in
     subst (λ (r : Result (Vec OpenSegment) ReadFault). SegmentsAs bytes table r) (sym (found.1 ∙ ap Err found.2))
     (fault_so_far bytes table l.low l.segments.items l.entry-index (omega arith) (l.invariant.open_so_far honest)
     (D.content l.disk) (l.invariant.left.keeps.read honest).bytes c.deref-entry-items.result.now c.deref-entry-items.ensures.value
@@ -32,8 +32,10 @@ loop-entry-preserved g c =
     let table = view c.args.manifest.now in
     let l = c.loop-entry in
     let s = c.in_ok-opened.opened in
+    let left = disk_then l.invariant.left c.in_ok-opened.ensures.left in
     record {
-      left = search rules;
+      left = record { keeps = left.keeps; reads = record { later = left.reads.later; ok = left.reads.ok; damaged = λ e. absurd (cc); memory = λ e. absurd (cc); disk = λ e. absurd (cc) } };
+      room = search rules;
       entries = ap entries_of c.in-Ok.ensures.items ∙ map-append (λ (o : OpenSegment). o.entry) l.segments.items (s ∷ [])
           ∙ ap₂ (λ (es : List Entry) (e : Entry). es ++ e ∷ []) l.invariant.entries (c.in_ok-opened.ensures.entry ∙ ap (λ (es : List Entry). get_or es l.entry-index no_entry) c.deref-entry-items.ensures.value)
           ∙ sym (take_more c.args.manifest.now.entries.items l.entry-index no_entry (omega arith));
