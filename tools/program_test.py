@@ -246,6 +246,17 @@ class CallsOfTheSystem(NotedTest):
                                   "set_length 3 0 65536", "sync 3 0 0", "write 3 9216 8192",
                                   "sync_data 3 0 0", "write 3 512 1", "sync_data 3 0 0"])
 
+    def test_a_growth_shuts_an_open_gate_under_the_sync_of_the_length(self):
+        self.make()
+        self.run_program("run", "s", lines=b"add a\ncommit\n")
+        grown, notes = self.noted(*self.GROW)
+        self.assertEqual(grown, (0, b"grown to 128 units\n", b""))
+        others = [note for note in notes if not note.startswith(("read", "print"))]
+        self.assertEqual(others, ["open s", self.LOCKED, "sync 3 0 0", "length 3 0 0",
+                                  "set_length 3 0 65536", "write 3 0 1", "sync 3 0 0",
+                                  "write 3 1024 8192", "sync_data 3 0 0", "write 3 0 1",
+                                  "sync_data 3 0 0"])
+
     def test_each_call_of_a_growth_fails(self):
         self.make()
         self.run_program("run", "s", lines=b"add a\ncommit\n")

@@ -1,8 +1,8 @@
 //! The disk in a file.
 
-ghost use Rattle.std.specs.Prelude.{◌≡◌, ◌≤◌, ◌+◌, ◌*◌, length, replicate, take};
+ghost use Rattle.std.specs.Prelude.{◌≡◌, ◌≤◌, ◌<◌, ◌+◌, ◌*◌, length, replicate};
 ghost use Rattle.std.specs.Prelude.{IfErr, IfOk, IfSome, IsSome, IsTrue, false};
-ghost use Rattle.pk_disk.specs.Disk.{nowhere};
+ghost use Rattle.pk_disk.specs.Disk.{in_range, nowhere, opened, written};
 ghost use Rattle.pk_disk.specs.Sizes.{least_units, most_units};
 ghost use Rattle.pk_disk.specs.Since.{OnlyNew};
 ghost use Rattle.pk_filedisk.specs.File.{IsDiskLength, IsOfLock, IsOfMake, IsOfOpening};
@@ -128,37 +128,41 @@ impl<F: RawFile + Drop> FileDisk<F> {
         Ok(FileDisk::of_file(file, len))
     }
 
-    /// The same file made longer, by zeros, and synced with its length. No write of the disk counts
-    /// as failed so far.
+    /// The same file made longer, by zeros, with these bytes put in the part that it had, and both
+    /// synced at once. No write of the disk counts as failed so far.
     ///
-    /// `Err` hands the file back, where the system refused that, or where a sync failed before: it
-    /// begins with the bytes of the disk, and is as long as it was or longer, and so is what a crash
-    /// leaves of it.
+    /// `Err` hands the file back, where the system refused that, or where a sync failed before: as
+    /// long as it was it has the bytes of the disk; and longer, it begins with them, but for those that
+    /// were to be put. So does what a crash leaves of it.
     #[tactic(auto, using(crate::proofs::ResizedLemmas::length_resized, crate::specs::Resized::resized_same, crate::proofs::ResizedLemmas::start_same, crate::proofs::ResizedLemmas::start_self))]
-    pub fn lengthen(self, len: u64) -> Result<FileDisk<F>, F>
-        requires { length (⟦<FileDisk<F> as Disk>⟧.content self) ≤ len }
+    pub fn lengthen(self, len: u64, at: u64, bytes: &[u8]) -> Result<FileDisk<F>, F>
+        requires longer { length (⟦<FileDisk<F> as Disk>⟧.content self) < len }
+        requires inside { at + length bytes.now ≤ length (⟦<FileDisk<F> as Disk>⟧.content self) }
         ensures size { IfOk result
             (λ d. length (⟦<FileDisk<F> as Disk>⟧.content d) ≡ len) }
         ensures content { F.honest → IfOk result (λ d. ⟦<FileDisk<F> as Disk>⟧.content d
-            ≡ resized len (⟦<FileDisk<F> as Disk>⟧.content self)) }
+            ≡ resized len (written (⟦<FileDisk<F> as Disk>⟧.content self) at bytes.now)) }
         ensures closed { F.honest → IfOk result
             (λ d. ⟦<FileDisk<F> as Disk>⟧.is_open d ≡ nowhere) }
         ensures images { F.honest → IfOk result
             (λ d. OnlyNew F.moment F.images_since self.file d.file
             (IsExtended (⟦<FileDisk<F> as Disk>⟧.content self)
-            (⟦<FileDisk<F> as Disk>⟧.is_open self))) }
+            (opened (⟦<FileDisk<F> as Disk>⟧.is_open self) at (length bytes.now)))) }
         ensures same { IfOk result (λ d. IsSameFile F.is_new F.path self.file d.file) }
         ensures reads { IfOk result (λ d. ⟦<FileDisk<F> as Disk>⟧.failed_reads d ≡ 0) }
         ensures writes { IfOk result (λ d. ⟦<FileDisk<F> as Disk>⟧.failed_writes d ≡ 0) }
 
-        // What it leaves of the file where it is refused.
+        // What it leaves of the file where it is refused: nothing was written, unless it is longer.
+        ensures unchanged { F.honest → IfErr result
+            (λ f. length (F.content f) ≡ length (⟦<FileDisk<F> as Disk>⟧.content self)
+            → F.content f ≡ ⟦<FileDisk<F> as Disk>⟧.content self) }
         ensures start { F.honest → IfErr result
-            (λ f. take (length (⟦<FileDisk<F> as Disk>⟧.content self)) (F.content f)
-            ≡ ⟦<FileDisk<F> as Disk>⟧.content self) }
+            (λ f. IsExtended (⟦<FileDisk<F> as Disk>⟧.content self)
+            (in_range at (length bytes.now)) (F.content f)) }
         ensures images_left { F.honest → IfErr result
             (λ f. OnlyNew F.moment F.images_since self.file f
             (IsExtended (⟦<FileDisk<F> as Disk>⟧.content self)
-            (⟦<FileDisk<F> as Disk>⟧.is_open self))) }
+            (opened (⟦<FileDisk<F> as Disk>⟧.is_open self) at (length bytes.now)))) }
         ensures same_left { IfErr result (λ f. IsSameFile F.is_new F.path self.file f) }
     {
         let FileDisk {
@@ -166,7 +170,13 @@ impl<F: RawFile + Drop> FileDisk<F> {
             unsure,
             ..
         } = self;
-        if unsure || file.set_len(len).is_err() || file.sync_all().is_err() {
+        if unsure || file.set_len(len).is_err() {
+            return Err(file);
+        }
+        let Ok(()) = write_whole(&mut file, at, bytes) else {
+            return Err(file);
+        };
+        if file.sync_all().is_err() {
             return Err(file);
         }
         Ok(FileDisk::of_file(file, len))

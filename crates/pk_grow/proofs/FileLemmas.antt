@@ -1,16 +1,16 @@
 -- What a growth in a file comes to: a file that was made longer holds the store that it held.
-use Rattle.std.proofs.Common.{Result, Ok, Err, None, IfOk, ◌≡◌, ⊎_elim, ℕ, ◌*◌, ◌-◌, ◌^◌, ◌<◌, ◌≤◌, ◌++◌, replicate, Bool, List, length, take, sym, ap, subst, ◌∙◌, arith}
-use Rattle.std.proofs.lemmas.List.{take-append-le, take-take, take_all}
-use Rattle.pk_disk.specs.Disk.{IsImage, nowhere}
+use Rattle.std.proofs.Common.{Result, Ok, Err, None, IfOk, ◌≡◌, ⊎_elim, ℕ, ◌+◌, ◌*◌, ◌-◌, ◌^◌, ◌<◌, ◌≤◌, Bool, List, length, sym, ap, subst, ◌∙◌, arith}
+use Rattle.pk_disk.specs.Disk.{IsImage, in_range, nowhere, opened, written}
 use Rattle.pk_disk.specs.Since.{NoneNew, OnlyNew}
 use Rattle.pk_disk.proofs.Images.{closed_image}
 use Rattle.pk_disk.proofs.Moments.{none_only, none_then_only, only_then, weaker}
 use Rattle.pk_filedisk.specs.Raw.{IsExtended}
-use Rattle.pk_filedisk.specs.Resized.{resized, resized_is}
+use Rattle.pk_filedisk.specs.Resized.{resized, resized_same}
 use Rattle.pk_filedisk.specs.declared.raw.RawFile.{Ghosts}
 use Rattle.pk_manifest.specs.declared.fault.ManifestFault.{ManifestFault}
 use Rattle.pk_manifest.specs.declared.fault.ManifestFault.TheVariants.{NotAStore, Damaged, Disk, UsedUp, Memory}
 use Rattle.pk_manifest.specs.declared.half.Half.{Half}
+use Rattle.pk_manifest.specs.Bodies.{bodies_end, gate_place, has_open_gate, other}
 use Rattle.pk_manifest.specs.Current.{HasBodyOf, units_of_disk}
 use Rattle.pk_manifest.specs.Spelling.{Body}
 use Rattle.pk_manifest.specs.Said.{said_units}
@@ -18,16 +18,13 @@ use Rattle.pk_model.specs.Collection.{Collection}
 use Rattle.pk_state.specs.Holds.{Holds}
 use Rattle.pk_grow.specs.Growth.{GrowsAs, HoldsEither, HoldsStore, IsDue, IsSoundFault, session_units, store_bytes}
 use Rattle.pk_grow.specs.GrownFile.{GrowsFile, greater}
+use Rattle.pk_grow.specs.Shutting.{GetsLonger, shut_places, shutting}
 use Rattle.pk_grow.specs.declared.fault.GrowFault.{GrowFault}
 use Rattle.pk_grow.specs.declared.fault.GrowFault.TheVariants.{Shorter, Store}
 use Rattle.pk_grow.specs.declared.fault.Growth.TheVariants.{AsItWas, Grown}
 use Rattle.pk_grow.proofs.GrowthLemmas.{either_stores, failed_as}
-use Rattle.pk_grow.proofs.StoreLemmas.{holds_longer, starts_hold, store_fits, units_of_sound}
-
--- an image of a file that was made longer, with nothing open
-pub extended_holds : (bytes image : List ℕ) (o : ℕ → Bool) (c : Collection) → o ≡ nowhere → 64 ≤ units_of_disk bytes → IsExtended bytes o image → HoldsStore bytes c → HoldsStore image c
-extended_holds bytes image o c closed least is holds =
-    starts_hold bytes image (closed_image bytes (take (length bytes) image) (subst (λ (p : ℕ → Bool). IsImage bytes p (take (length bytes) image)) closed is)) c least holds
+use Rattle.pk_grow.proofs.ShutLemmas.{begins_itself, begins_written, shut_holds, shut_stores, shuts_within}
+use Rattle.pk_grow.proofs.StoreLemmas.{store_fits, units_of_sound}
 
 -- a refusal of the body that was due is one of the growth
 pub due_refused : (fault : GrowFault) (units : ℕ) (bytes : List ℕ) → IsDue units bytes (Err fault) → GrowsAs units bytes (Err fault)
@@ -38,20 +35,10 @@ due_refused (Store Disk) units bytes due = tt
 due_refused (Store UsedUp) units bytes due = absurd due
 due_refused (Store Memory) units bytes due = tt
 
--- what is there of what was made longer, by its answer
-pub start_by : {S E : Type 0} (r : Result S E) (content : S → List ℕ) (bytes : List ℕ) (len : ℕ) → length bytes ≤ len → IfOk r (λ d. content d ≡ resized len bytes)
-    → IfOk r (λ d. take (length bytes) (content d) ≡ bytes)
-start_by (Ok d) content bytes len le is = ap (take (length bytes)) (is ∙ resized_is len bytes) ∙ take-take (length bytes) len (bytes ++ replicate len 0) le ∙ take-append-le (length bytes) bytes (replicate len 0) (omega arith) ∙ take_all (length bytes) bytes (omega arith)
-start_by (Err e) content bytes len le is = is
-
 -- what a disk's images are is what its file's are
 pub of_file : {D F : Type 0} (file : D → F) (moment : F → ℕ) (images_since : F → ℕ → List ℕ → Type 0) (old new : D) (P : List ℕ → Type 0)
     → OnlyNew (λ (d : D). moment (file d)) (λ (d : D). images_since (file d)) old new P → OnlyNew moment images_since (file old) (file new) P
 of_file file moment images_since old new P only = record { later = only.later; each = only.each }
-
-pub none_of_file : {D F : Type 0} (file : D → F) (moment : F → ℕ) (images_since : F → ℕ → List ℕ → Type 0) (old new : D)
-    → NoneNew (λ (d : D). moment (file d)) (λ (d : D). images_since (file d)) old new → NoneNew moment images_since (file old) (file new)
-none_of_file file moment images_since old new none = record { later = none.later; each = none.each }
 
 -- ---- the body is read, then the file is made longer, and then the store grows
 
@@ -61,17 +48,53 @@ pub record IsRead {F : Type 0} (f : Ghosts F) (bytes : List ℕ) (old mid : F) :
   pub same : f.content mid ≡ bytes
   pub closed : f.is_open mid ≡ nowhere
 
--- then it was made longer, for that body to grow to so many units
-pub record IsLonger {F : Type 0} (f : Ghosts F) (bytes : List ℕ) (units : ℕ) (mid long : F) (half : Half) (b : Body) (more : List ℕ) : Type 0 where
+-- as what its disk shows was
+pub was_read : {D F : Type 0} (f : Ghosts F) (file : D → F) (old mid : D) (bytes : List ℕ) (len : ℕ) → NoneNew (λ (d : D). f.moment (file d)) (λ (d : D). f.images_since (file d)) old mid
+    → length (f.content (file mid)) ≡ len → resized len (f.content (file mid)) ≡ bytes → f.is_open (file mid) ≡ nowhere → IsRead f bytes (file old) (file mid)
+was_read f file old mid bytes len none long same closed = record {
+  none = record { later = none.later; each = none.each };
+  same = sym (resized_same len (f.content (file mid)) long) ∙ same;
+  closed = closed;
+}
+
+-- and its spare gate was shut as it got longer, or the system refused that
+module _ {F : Type 0} {f : Ghosts F} {bytes : List ℕ} {old mid : F} (read : IsRead f bytes old mid) (s : Half) where
+  -- it was not asked for that
+  pub not_asked : GetsLonger f bytes s old mid (f.content mid)
+  not_asked = record {
+    start = subst (λ (l : List ℕ). IsExtended bytes (shut_places bytes s) l) (sym read.same) (begins_itself bytes (shut_places bytes s));
+    images = none_only f.moment f.images_since old mid _ read.none;
+  }
+
+  module _ (at len : ℕ) (new : List ℕ) (place : at ≡ gate_place s) (shuts : new ≡ shutting (has_open_gate bytes s)) where
+    images_of : (long : F) → OnlyNew f.moment f.images_since mid long (IsExtended bytes (opened (f.is_open mid) at (length new))) → OnlyNew f.moment f.images_since old long (IsExtended bytes (shut_places bytes s))
+    images_of long images = none_then_only f.moment f.images_since old mid long _ read.none
+        (subst (λ (o : ℕ → Bool). OnlyNew f.moment f.images_since mid long (IsExtended bytes o)) (λ i. opened (read.closed i) (place i) (length (shuts i))) images)
+
+    start_of : (left : List ℕ) → IsExtended bytes (in_range at (length new)) left → IsExtended bytes (shut_places bytes s) left
+    start_of left is = subst (λ (o : ℕ → Bool). IsExtended bytes o left) (λ i. in_range (place i) (length (shuts i))) is
+
+    pub got_longer : {D : Type 0} (r : Result D F) (file : D → F) (content : D → List ℕ) → bodies_end ≤ length bytes → length bytes ≤ len → IfOk r (λ d. content d ≡ resized len (written bytes at new))
+        → IfOk r (λ d. OnlyNew f.moment f.images_since mid (file d) (IsExtended bytes (opened (f.is_open mid) at (length new)))) → IfOk r (λ d. GetsLonger f bytes s old (file d) (content d))
+    got_longer (Ok d) file content room le is images =
+        let fits : at + length new ≤ length bytes = omega (arith, place, ap length shuts, shuts_within s (has_open_gate bytes s), room) in
+        record { start = start_of (content d) (begins_written bytes (content d) new at len fits le is); images = images_of (file d) images }
+    got_longer (Err left) file content room le is images = is
+
+-- the body that it has is to grow
+pub record IsDueOf (bytes : List ℕ) (units : ℕ) (half s : Half) (b : Body) : Type 0 where
   pub has : HasBodyOf (session_units bytes) bytes half b
   pub fewer : session_units bytes < units
   pub least : 64 ≤ b.units
+  pub spare : s ≡ other half
+
+-- then the file was made longer, for that body to grow to so many units
+pub record IsLonger {F : Type 0} (f : Ghosts F) (bytes : List ℕ) (units : ℕ) (s : Half) (mid long : F) (more : List ℕ) : Type 0 where
   pub room : units ≤ units_of_disk more
-  pub start : take (length bytes) more ≡ bytes
   pub size : length more ≡ greater (length bytes) (512 * units)
   pub content : f.content long ≡ more
   pub closed : f.is_open long ≡ nowhere
-  pub images : OnlyNew f.moment f.images_since mid long (IsExtended bytes (f.is_open mid))
+  pub gets : GetsLonger f bytes s mid long more
 
 -- and then the body of the growth was put in force, or not
 pub record IsReplaced {F : Type 0} (f : Ghosts F) (more : List ℕ) (u units : ℕ) (long new : F) : Type 0 where
@@ -114,35 +137,35 @@ module _ {F : Type 0} {f : Ghosts F} {bytes : List ℕ} {old mid : F} (read : Is
     answered = due_refused fault units bytes due;
   }
 
-  module _ (least : 64 ≤ units_of_disk bytes) where
-    as_long : (long : F) → OnlyNew f.moment f.images_since mid long (IsExtended bytes (f.is_open mid)) → (c : Collection) → HoldsStore bytes c → OnlyNew f.moment f.images_since old long (λ image. HoldsStore image c)
-    as_long long images c holds = none_then_only f.moment f.images_since old mid long _ read.none
-        (weaker f.moment f.images_since mid long _ _ (λ image is. extended_holds bytes image (f.is_open mid) c read.closed least is holds) images)
+  module _ {units : ℕ} {half s : Half} {b : Body} (due : IsDueOf bytes units half s b) where
+    as_long : {left : List ℕ} (long : F) → GetsLonger f bytes s mid long left → (c : Collection) → HoldsStore bytes c → OnlyNew f.moment f.images_since old long (λ image. HoldsStore image c)
+    as_long long gets c holds = none_then_only f.moment f.images_since old mid long _ read.none
+        (weaker f.moment f.images_since mid long _ _ (λ image is. shut_stores bytes image b half s due.spare due.least due.has is c holds) gets.images)
 
     -- it was not made longer
-    pub not_longer : {units : ℕ} → (long : F) → OnlyNew f.moment f.images_since mid long (IsExtended bytes (f.is_open mid)) → take (length bytes) (f.content long) ≡ bytes → GrowsFile f bytes old long units (Err (Store Disk))
-    not_longer {units} long images start = record {
-      any_moment = as_long long images;
-      kept = λ c holds. starts_hold bytes (f.content long) start c least holds;
+    pub not_longer : (long : F) → GetsLonger f bytes s mid long (f.content long) → GrowsFile f bytes old long units (Err (Store Disk))
+    not_longer long gets = record {
+      any_moment = as_long long gets;
+      kept = λ c holds. shut_stores bytes (f.content long) b half s due.spare due.least due.has gets.start c holds;
       done = λ c holds. tt;
       size = tt;
       closed = tt;
       answered = tt;
     }
 
-    module _ {units : ℕ} {long new : F} {half : Half} {b : Body} {more : List ℕ} (longer : IsLonger f bytes units mid long half b more) (replaced : IsReplaced f more b.units units long new) where
+    module _ {long new : F} {more : List ℕ} (longer : IsLonger f bytes units s mid long more) (replaced : IsReplaced f more b.units units long new) where
       held : (c : Collection) → HoldsStore bytes c → Holds (store_bytes b.units more) c
-      held = holds_longer bytes more longer.start b half longer.least longer.has
+      held = shut_holds bytes more b half s due.spare due.least due.has longer.gets.start
 
       since_long : (c : Collection) → HoldsStore bytes c → OnlyNew f.moment f.images_since long new (λ image. HoldsStore image c)
-      since_long c holds = either_stores f.moment f.images_since long new more b.units units c longer.least (omega (arith, longer.fewer, units_of_sound (session_units bytes) b longer.has.sound)) longer.room (replaced.moments c (held c holds))
+      since_long c holds = either_stores f.moment f.images_since long new more b.units units c due.least (omega (arith, due.fewer, units_of_sound (session_units bytes) b due.has.sound)) longer.room (replaced.moments c (held c holds))
 
       moments : (c : Collection) → HoldsStore bytes c → OnlyNew f.moment f.images_since old new (λ image. HoldsStore image c)
-      moments c holds = only_then f.moment f.images_since old long new _ (as_long long longer.images c holds) (since_long c holds)
+      moments c holds = only_then f.moment f.images_since old long new _ (as_long long longer.gets c holds) (since_long c holds)
 
       kept : (c : Collection) → HoldsStore bytes c → HoldsStore (f.content new) c
       kept c holds = file_left f long new c replaced.counts_now replaced.only_now longer.closed
-          (subst (λ (x : List ℕ). HoldsStore x c) (sym longer.content) (starts_hold bytes more longer.start c least holds)) (since_long c holds)
+          (subst (λ (x : List ℕ). HoldsStore x c) (sym longer.content) (shut_stores bytes more b half s due.spare due.least due.has longer.gets.start c holds)) (since_long c holds)
 
       pub grew_file : ((c : Collection) → Holds (store_bytes b.units more) c → Holds (store_bytes units (f.content new)) c) → length (f.content new) ≡ length more → f.is_open new ≡ nowhere → GrowsFile f bytes old new units (Ok Grown)
       grew_file done size closed = record {
@@ -151,7 +174,7 @@ module _ {F : Type 0} {f : Ghosts F} {bytes : List ℕ} {old mid : F} (read : Is
         done = λ c holds. done c (held c holds);
         size = size ∙ longer.size;
         closed = closed;
-        answered = (record { half = half; body = b; is = longer.has }, longer.fewer);
+        answered = (record { half = half; body = b; is = due.has }, due.fewer);
       }
 
       pub not_grown : (fault : ManifestFault) → IsSoundFault fault → (fault ≡ UsedUp → b.generation ≡ 2 ^ 64 - 1) → GrowsFile f bytes old new units (Err (Store fault))
@@ -161,5 +184,5 @@ module _ {F : Type 0} {f : Ghosts F} {bytes : List ℕ} {old mid : F} (read : Is
         done = λ c holds. tt;
         size = tt;
         closed = tt;
-        answered = failed_as fault bytes units half b longer.has sound last;
+        answered = failed_as fault bytes units half b due.has sound last;
       }

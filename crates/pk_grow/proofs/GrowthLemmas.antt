@@ -68,7 +68,7 @@ claims_inside units size next (e ∷ es) (s ∷ stored) ends h are =
     ((omega (arith, low), omega (arith, here.0, long, length_segment s.documents e.kind)), list_inside units size e.dead s dead here.1 are.0.list)
     (claims_inside units size next es stored (All-tail (Inside size) e es ends) parts.1 are.1)
 
-table_inside_by : (t : Bool) (units size : ℕ) (b : Body) → (b.table.bytes == 0) ≡ t → 512 * units ≤ size → is_table units (table_size b) b.table ≡ true → Each (IsInside size) (table_claims_by t b)
+pub table_inside_by : (t : Bool) (units size : ℕ) (b : Body) → (b.table.bytes == 0) ≡ t → 512 * units ≤ size → is_table units (table_size b) b.table ≡ true → Each (IsInside size) (table_claims_by t b)
 table_inside_by true units size b is room h = tt
 table_inside_by false units size b is room h =
     let long = table_long units (table_size b) b.table h in
@@ -76,7 +76,7 @@ table_inside_by false units size b is room h =
     let at = fits_in units b.table (table_extent units (table_size b) b.table h some) in
     ((omega (arith, at.0), omega (arith, at.1, room, long, length_table b)), tt)
 
-untouched_by_half : (h : Half) (size : ℕ) (cs : List Claim) → Each (IsInside size) cs → Each (IsUntouched (touched_by h (places []))) cs
+pub untouched_by_half : (h : Half) (size : ℕ) (cs : List Claim) → Each (IsInside size) cs → Each (IsUntouched (touched_by h (places []))) cs
 untouched_by_half h size [] inside = tt
 untouched_by_half h size (c ∷ cs) inside = (λ p le lt. or_both (half_places h p) false (half_untouched h c inside.0.0 p le lt) refl, untouched_by_half h size cs inside.1)
 

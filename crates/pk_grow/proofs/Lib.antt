@@ -1,5 +1,6 @@
 -- The lemma pages.
 pub mod FileLemmas
 pub mod GrowthLemmas
+pub mod ShutLemmas
 pub mod StoreLemmas
 pub mod WiderLemmas

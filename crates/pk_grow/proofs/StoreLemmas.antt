@@ -3,7 +3,7 @@ use Rattle.std.proofs.Common.{◌≡◌, Result, Ok, Err, IfErr, IfOk, ◌⊎◌
 use Rattle.std.specs.Prelude.{if◌then◌else◌}
 use Rattle.std.proofs.lemmas.Bool.{and_from, and_parts, leb-true, le-leb}
 use Rattle.std.proofs.lemmas.Bool.Decides.{nat_tests}
-use Rattle.std.proofs.lemmas.List.{drop-take, length-take, length-take-le, get_or-take, take-take}
+use Rattle.std.proofs.lemmas.List.{drop-take, length-take-le, get_or-take, take-take}
 use Rattle.pk_disk.specs.Units.{start_of, units_in}
 use Rattle.pk_disk.specs.declared.units.Extent.{Extent}
 use Rattle.pk_manifest.specs.declared.fault.ManifestFault.{ManifestFault}
@@ -95,9 +95,6 @@ pub least_store : (all : ℕ) (said : Option ℕ) → 64 ≤ all → 64 ≤ stor
 least_store all None le = le
 least_store all (Some said) le = least_by (leb 64 said && leb said all) all said refl le
 
-pub most_store : (size : ℕ) (said : Option ℕ) → store_units (units_in size) said ≤ 2 ^ 31
-most_store size said = omega (arith, fits_disk (units_in size) said, most size)
-
 takes_said : (t : Bool) (all said : ℕ) → t ≡ true → (if t then said else all) ≡ said
 takes_said true all said is = refl
 takes_said false all said is = cc
@@ -129,7 +126,7 @@ has_first bytes u half b room le has =
       sound = subst (λ (n : ℕ). IsBody n b) (sym (ap units_in (length-take-le (512 * u) bytes fits) ∙ units_again u (length bytes) le)) has.sound;
     }
 
-first_has : (bytes : List ℕ) (u : ℕ) (half : Half) (b : Body) → bodies_end ≤ 512 * u → u ≤ units_of_disk bytes → HasBody (store_bytes u bytes) half b → HasBodyOf u bytes half b
+pub first_has : (bytes : List ℕ) (u : ℕ) (half : Half) (b : Body) → bodies_end ≤ 512 * u → u ≤ units_of_disk bytes → HasBody (store_bytes u bytes) half b → HasBodyOf u bytes half b
 first_has bytes u half b room le has =
     let fits : 512 * u ≤ length bytes = omega (arith, le, units_room (length bytes)) in
     let sound : IsBody u b = subst (λ (n : ℕ). IsBody n b) (ap units_in (length-take-le (512 * u) bytes fits) ∙ units_again u (length bytes) le) has.sound in
@@ -195,26 +192,16 @@ undamaged_read bytes now said_now c r same units least holds answer =
 -- ---- a disk that begins with these bytes
 
 module _ (bytes more : List ℕ) (start : take (length bytes) more ≡ bytes) where
-  pub no_shorter : length bytes ≤ length more
-  no_shorter = omega (arith, ap length start, length-take (length bytes) more)
-
   -- what lies in the first bytes
   pub first_same : (size : ℕ) → size ≤ length bytes → take size bytes ≡ take size more
   first_same size le = ap (take size) (sym start) ∙ take-take size (length bytes) more le
-
-  pub starts_hold : (c : Collection) → 64 ≤ units_of_disk bytes → HoldsStore bytes c → HoldsStore more c
-  starts_hold c least holds =
-      let u = session_units bytes in
-      let fits : 512 * u ≤ length bytes = store_fits (length bytes) (said_units bytes) in
-      opened_holds more u c (least_store (units_of_disk bytes) (said_units bytes) least) (most_store (length bytes) (said_units bytes)) (omega (arith, fits, no_shorter))
-      (subst (λ (b : List ℕ). Holds b c) (first_same (512 * u) fits) holds)
 
 -- the body in force of a store is that of the same units of what begins with it
 module _ (bytes more : List ℕ) (start : take (length bytes) more ≡ bytes) (b : Body) (half : Half) (least : 64 ≤ b.units) (has : HasBodyOf (session_units bytes) bytes half b) where
   same_units : b.units ≡ session_units bytes
   same_units = units_of_sound (session_units bytes) b has.sound
 
-  has_room : b.units ≤ units_of_disk bytes
+  pub has_room : b.units ≤ units_of_disk bytes
   has_room = subst (λ (m : ℕ). m ≤ units_of_disk bytes) (sym same_units) (fits_disk (units_of_disk bytes) (said_units bytes))
 
   first_units : store_bytes b.units bytes ≡ store_bytes b.units more

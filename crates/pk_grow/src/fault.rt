@@ -17,7 +17,7 @@ pub enum GrowFault {
     /// The store has more units than were asked for. Nothing was written.
     Shorter,
     /// Its body was not read, or none was put in its place. At `Disk` each image has the store with
-    /// the units that it had or with those that were asked for; at the others nothing was written.
+    /// the units that it had or with those that were asked for; at the others no body was written.
     Store(ManifestFault),
 }
 

@@ -10,6 +10,9 @@
 //! entries and the same table. So it is a replacement (pk_replace) whose writer writes nothing: no
 //! document and no list is written again, however much the store has.
 //!
+//! `grow_file` makes a file longer first that has fewer units, and shuts the spare gate where it is
+//! open, both under one sync. So the replacement finds it shut, and syncs twice.
+//!
 //! # What stops it, and what stays
 //!
 //! | fault | when | what stays |

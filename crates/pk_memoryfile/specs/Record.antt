@@ -1,7 +1,7 @@
 -- The images of a file in memory, by its record of calls, the newest first.
-use Rattle.std.specs.Prelude.{◌⊎◌, ◌-◌, Bool, false, ℕ, zero, suc, List, [], ◌∷◌, length, reverse}
-use mathlib.Core.Logic.{inl}
-use Rattle.std.proofs.Common.{subst}
+use Rattle.std.specs.Prelude.{◌⊎◌, ◌-◌, ◌≤◌, Bool, false, ℕ, zero, suc, List, [], ◌∷◌, length, reverse}
+use mathlib.Core.Logic.{inl, inr}
+use Rattle.std.proofs.Common.{arith, subst}
 use Rattle.std.proofs.Math.Nat.{sub_self}
 use Rattle.pk_disk.specs.Disk.{IsImage, opened, written}
 use Rattle.pk_memoryfile.specs.declared.record.Call.{Call}
@@ -51,3 +51,17 @@ pub only_image_now : (n : ℕ) (calls : List Call) (bytes image : List ℕ)
     → ImageBack (n - n) calls bytes image → IsImage bytes (open_after calls) image
 only_image_now n calls bytes image since =
     subst (λ (k : ℕ). ImageBack k calls bytes image) (sub_self n) since
+
+-- a later moment has no more calls behind it
+pub fewer_left : (n t u : ℕ) → t ≤ u → n - u ≤ n - t
+fewer_left n t u le = omega (arith, le)
+
+-- an image before one of the last few calls is one before one of more
+pub image_before : (few more : ℕ) (calls : List Call) (bytes image : List ℕ) → few ≤ more
+    → ImageBack few calls bytes image → ImageBack more calls bytes image
+image_before zero more calls bytes image le was = image_now more calls bytes image was
+image_before (suc few) zero calls bytes image le was = absurd (omega (arith, le))
+image_before (suc few) (suc more) [] bytes image le was = was
+image_before (suc few) (suc more) (call ∷ older) bytes image le (inl now) = inl now
+image_before (suc few) (suc more) (call ∷ older) bytes image le (inr was) =
+    inr (image_before few more older (undone call bytes) image (omega (arith, le)) was)

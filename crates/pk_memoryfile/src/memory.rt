@@ -1,11 +1,11 @@
 //! A file in memory, whose calls are short, interrupted or refused by a script.
 
-ghost use Rattle.std.specs.Prelude.{◌≡◌, ◌+◌, [], string_bytes};
+ghost use Rattle.std.specs.Prelude.{◌≡◌, ◌+◌, [], length, string_bytes};
 ghost use Rattle.std.specs.Prelude.{IfOk, IsTrue, false, true};
 ghost use Rattle.pk_disk.specs.Since.{IsOnlyRead};
 ghost use Rattle.pk_filedisk.specs.Raw.{IsSameFile, refusals, refusals_by, transfer_refusals};
 ghost use Rattle.pk_memoryfile.specs.Record.{ImageSince, moment_of, open_in};
-ghost use Rattle.pk_memoryfile.specs.Record.{image_now, only_image_now};
+ghost use Rattle.pk_memoryfile.specs.Record.{fewer_left, image_before, image_now, only_image_now};
 
 use crate::record::Recorded;
 use pk_filedisk::{CallFault, LockFault, RawFile};
@@ -245,6 +245,9 @@ impl RawFile for MemoryFile {
     }
 
     ghost counts_now = { λ m t image honest settled le now. image_now _ _ _ _ now };
+
+    ghost counts_before = { λ m t u image honest le since.
+        image_before _ _ _ _ _ (fewer_left (length m.memory.calls.items) t u le) since };
 
     ghost only_now = { λ m image honest settled since. only_image_now _ _ _ _ since };
 }

@@ -168,6 +168,8 @@ impl<'a, F: RawFile> RawFile for NotedFile<'a, F> {
 
     ghost counts_now = { λ f. F.counts_now f.file };
 
+    ghost counts_before = { λ f. F.counts_before f.file };
+
     ghost only_now = { λ f. F.only_now f.file };
 }
 
@@ -565,23 +567,39 @@ fn a_bad_length_is_told(mut rt: HostRuntime) -> Result<(), Fail> {
     Ok(())
 }
 
-// A disk is made longer by zeros, and keeps what it had.
+// A disk is made longer by zeros, and keeps what it had, but for the bytes that are put; without any
+// nothing is written.
 #[test]
 fn a_disk_is_lengthened(rt: HostRuntime) -> Result<(), Fail> {
     let system = FakeSystem::new(rt.alloc(), 0, FileFault::Disk);
     let mut disk = made(&system, "s")?;
     assert!(rt; make_call(&mut disk, Call::Write) == Ok(()));
     assert!(rt; disk.len() == LEN);
-    let Ok(mut disk) = disk.lengthen(LEN + 1_000) else {
+    let Ok(disk) = disk.lengthen(LEN + 500, 1, &[9, 8]) else {
         return Err(Fail::from(FileFault::Disk));
     };
-    assert!(rt; has_noted_next(&system, ", write_at file, set_len file, sync_all file"));
+    assert!(rt;
+        has_noted_next(
+            &system,
+            ", write_at file, set_len file, write_at file, sync_all file"
+        )
+    );
+    assert!(rt; disk.len() == LEN + 500);
+    let Ok(mut disk) = disk.lengthen(LEN + 1_000, 0, &[]) else {
+        return Err(Fail::from(FileFault::Disk));
+    };
+    assert!(rt;
+        has_noted_next(
+            &system,
+            ", write_at file, set_len file, write_at file, sync_all file, set_len file, sync_all file",
+        )
+    );
     assert!(rt; disk.len() == LEN + 1_000);
     let mut first = [0u8; 5];
     let mut last = [7u8; 2];
     assert!(rt; disk.len() > 5 && disk.read(0, &mut first) == Ok(()));
     assert!(rt; disk.read(disk.len() - 2, &mut last) == Ok(()));
-    assert!(rt; (first, last) == ([7, 7, 7, 7, 0], [0, 0]));
+    assert!(rt; (first, last) == ([7, 9, 8, 7, 0], [0, 0]));
     Ok(())
 }
 
@@ -589,10 +607,14 @@ fn a_disk_is_lengthened(rt: HostRuntime) -> Result<(), Fail> {
 // there.
 #[test]
 fn each_failing_call_of_a_growth_is_told(rt: HostRuntime) -> Result<(), Fail> {
-    for (k, noted) in [(6, ", set_len file"), (7, ", set_len file, sync_all file")] {
+    for (k, noted) in [
+        (6, ", set_len file"),
+        (7, ", set_len file, write_at file"),
+        (8, ", set_len file, write_at file, sync_all file"),
+    ] {
         let system = FakeSystem::new(rt.alloc(), k, FileFault::Disk);
         let disk = made(&system, "s")?;
-        let Err(mut file) = disk.lengthen(2 * LEN) else {
+        let Err(mut file) = disk.lengthen(2 * LEN, 0, &[9]) else {
             return Err(Fail::from(FileFault::Exists));
         };
         assert!(rt; has_noted_next(&system, noted), "call {k}");
@@ -611,7 +633,7 @@ fn no_growth_after_a_failed_sync(rt: HostRuntime) -> Result<(), Fail> {
     let system = FakeSystem::new(rt.alloc(), 6, FileFault::Disk);
     let mut disk = made(&system, "s")?;
     assert!(rt; disk.sync() == Err(DiskFault));
-    assert!(rt; disk.lengthen(2 * LEN).is_err());
+    assert!(rt; disk.lengthen(2 * LEN, 0, &[9]).is_err());
     assert!(rt; has_noted_next(&system, ", sync_data file"));
     Ok(())
 }
