@@ -187,14 +187,14 @@ fn with_document(rt: &impl Abort, alloc: Global) -> Result<MemoryDisk, Fail> {
     Ok(store.close())
 }
 
-// Opening makes ten calls, so the commands meet the first lie.
+// Opening makes eight calls, so the commands meet the first lie.
 #[test]
 fn a_disk_that_begins_to_lie_is_answered(rt: HostRuntime) -> Result<(), Fail> {
     let alloc = rt.alloc();
     for served in 0..120 {
         let below = with_document(&rt, alloc)?;
         let is_store = has_store(&rt, alloc, Liar { below, served })?;
-        assert_eq!(rt; is_store, served >= 10, "{served} calls");
+        assert_eq!(rt; is_store, served >= 8, "{served} calls");
     }
     Ok(())
 }
