@@ -10,54 +10,72 @@
 //! by `no ..`. A line that is refused memory is asked once more, and answered a second time.
 //! `tests/layers` plays such lines.
 //!
-//! | line | answers |
-//! |---|---|
-//! | `put N` | the five bytes of a buffer of `EE` into which a number is put |
-//! | `take BYTES` | a number by its variable bytes, and how many these are |
-//! | `digits XS` | the bytes of each number in decimal, behind a space, written one after the other |
-//! | `key BYTES` | a word's key |
-//! | `around KEYS WORDS KEY` | what a table of pivots decides: the range, and its place |
-//! | `keep KEYS NODE KEY` | the table with that key put in |
-//! | `width XS`, `pack XS` | of 128 numbers |
-//! | `unpack BITS BYTES`, `sums BITS SEED BYTES` | 128 numbers |
-//! | `differ SEED XS`, `restore SEED XS`, `ascending SEED XS` | of 128 numbers |
-//! | `rising XS` | whether a set rises |
-//! | `sets SPARE XS YS` | what both have, in each of three ways, what either has, and the one without the other, by way of rooms with so many places to spare |
-//! | `encode XS`, `into XS`, `decode BYTES` | a posting list's bytes, also by way of a room of its length, and its numbers |
-//! | `shape BYTES`, `skip BYTES` | a list's shape, and an entry of its skips |
-//! | `lend BYTES AT:N ..` | bytes that a slice lends, and how often it was asked |
-//! | `dead XS`, `alive BYTES N ..` | a deletion list's bytes, and of each number whether a list has it |
-//! | `source BYTES`, `other BYTES` | the bytes that the lines below are about |
-//! | `walk PASSES AT BYTES STEP ..` | where a cursor stands behind each of `next`, `pass`, `seek:N`, or `rest`, what it holds |
-//! | `blocks ROOM SEGMENT:BLOCK:PASSES ..` | blocks by way of a cache, and whether the source was asked |
-//! | `dict TERM:FREQUENCY:AT:BYTES ..` | a dictionary's length and bytes |
-//! | `look TERMS TERM ..`, `begun TERMS PREFIX` | entries of a dictionary in memory |
-//! | `look-in PASSES AT BYTES TERMS TERM ..`, also `near-in` | entries of one in a source, also by pivots |
-//! | `begun-in PASSES AT BYTES TERMS PREFIX` | those of a prefix |
-//! | `look-windows ..`, `near-windows ..`, `begun-windows ..` | the same by windows, and how often these were asked |
-//! | `pivots KEYS` | the table that look-ups by pivots go by and fill |
-//! | `window AT:N ..` | how often the source was asked behind each stretch that windows lend, and its bytes |
-//! | `build KIND N M TEXT TEXT` | the length and the bytes of a segment of two documents |
-//! | `choose SIZES` | where the least run of eight begins |
-//! | `disk N BYTES` | a new disk of so many bytes: those, and zeros |
-//! | `set AT BYTES`, `bytes AT N` | puts bytes on the disk; shows some |
-//! | `crash BYTES N` | a crash that leaves the bytes at open positions, `N` times one after the other |
-//! | `fail K`, `stop K` | of the calls of the next line about the disk the `K`th fails; all from it on |
-//! | `reads` | how many bytes the line before read from the disk |
-//! | `calls STEP ..`, `pages N STEP ..` | calls of the disk, `read:AT:N`, `write:AT:BYTES` and `sync`, also by way of some pages that are kept, and how many bytes were read below |
-//! | `extent FIRST BYTES UNITS FIRST BYTES` | how many units an extent has, where it begins and ends, whether it lies within some units, and whether it overlaps another |
-//! | `units N` | how many units a disk of so many bytes has |
-//! | `manifest VERSION GENERATION UNITS NUMBER ID FIRST:BYTES PART ..` | the bytes of a body, which is kept, and of its table, at an extent; a part is `ID:FIRST:BYTES:KIND`, and `:FIRST:BYTES` of its deletion list |
-//! | `next` | the generation behind that of the kept body |
-//! | `current` | which half is in force, what it says, and where its extents begin |
-//! | `gate HALF` | whether a gate is open |
-//! | `install HALF`, `establish` | puts the kept body in force, by a half, or as the first |
-//! | `replace HALF AGAIN AT BYTES AT BYTES` | the same with two pieces; begun again where a read fails, if `AGAIN` is 1 |
-//! | `copy HALF AGAIN FROM TO N`, `follow HALF AGAIN FROM TO N AT BYTES` | with a copy, and a piece behind it |
-//! | `segment FIRST BYTES SIZE KIND READER ..` | what readers of the segment in an extent answer, each behind a bar: `ends`, `postings`, `asked`, `numbers`, `has:N`, `text:N`, `document:I`, `directory`, `dictionary`, `list:WORD`, `terms`, `begun:PREFIX`, and bytes that the source lends, `lend:AT:N` |
-//! | `merge KIND XS YS` | what deletion lists leave of the segments in units 1 and 2, of 52 and 37 bytes, on a disk of 2,048 |
-//! | `merge-nothing` | whether anything is left of no input |
-//! | `prepare XS YS`, `merge-into XS YS` | how long that is in kind 2; also written into unit 3 |
+//! - `put N`: the five bytes of a buffer of `EE` into which a number is put
+//! - `take BYTES`: a number by its variable bytes, and how many these are
+//! - `digits XS`: the bytes of each number in decimal, behind a space, written one after the other
+//! - `key BYTES`: a word's key
+//! - `around KEYS WORDS KEY`: what a table of pivots decides: the range, and its place
+//! - `keep KEYS NODE KEY`: the table with that key put in
+//! - `width XS`, `pack XS`: of 128 numbers
+//! - `unpack BITS BYTES`, `sums BITS SEED BYTES`: 128 numbers
+//! - `differ SEED XS`, `restore SEED XS`, `ascending SEED XS`: of 128 numbers
+//! - `rising XS`: whether a set rises
+//! - `sets SPARE XS YS`: what both have, in each of three ways, what either has, and the one
+//!   without the other, by way of rooms with so many places to spare
+//! - `encode XS`, `into XS`, `decode BYTES`: a posting list's bytes, also by way of a room of its
+//!   length, and its numbers
+//! - `shape BYTES`, `skip BYTES`: a list's shape, and an entry of its skips
+//! - `lend BYTES AT:N ..`: bytes that a slice lends, and how often it was asked
+//! - `dead XS`, `alive BYTES N ..`: a deletion list's bytes, and of each number whether a list has
+//!   it
+//! - `source BYTES`, `other BYTES`: the bytes that the lines below are about
+//! - `walk PASSES AT BYTES STEP ..`: where a cursor stands behind each of `next`, `pass`, `seek:N`,
+//!   or `rest`, what it holds
+//! - `blocks ROOM SEGMENT:BLOCK:PASSES ..`: blocks by way of a cache, and whether the source was
+//!   asked
+//! - `dict TERM:FREQUENCY:AT:BYTES ..`: a dictionary's length and bytes
+//! - `look TERMS TERM ..`, `begun TERMS PREFIX`: entries of a dictionary in memory
+//! - `look-in PASSES AT BYTES TERMS TERM ..`, also `near-in`: entries of one in a source, also by
+//!   pivots
+//! - `begun-in PASSES AT BYTES TERMS PREFIX`: those of a prefix
+//! - `look-windows ..`, `near-windows ..`, `begun-windows ..`: the same by windows, and how often
+//!   these were asked
+//! - `pivots KEYS`: the table that look-ups by pivots go by and fill
+//! - `window AT:N ..`: how often the source was asked behind each stretch that windows lend, and
+//!   its bytes
+//! - `build KIND N M TEXT TEXT`: the length and the bytes of a segment of two documents
+//! - `choose SIZES`: where the least run of eight begins
+//! - `disk N BYTES`: a new disk of so many bytes: those, and zeros
+//! - `set AT BYTES`, `bytes AT N`: puts bytes on the disk; shows some
+//! - `crash BYTES N`: a crash that leaves the bytes at open positions, `N` times one after the
+//!   other
+//! - `fail K`, `stop K`: of the calls of the next line about the disk the `K`th fails; all from it
+//!   on
+//! - `reads`: how many bytes the line before read from the disk
+//! - `calls STEP ..`, `pages N STEP ..`: calls of the disk, `read:AT:N`, `write:AT:BYTES` and
+//!   `sync`, also by way of some pages that are kept, and how many bytes were read below
+//! - `extent FIRST BYTES UNITS FIRST BYTES`: how many units an extent has, where it begins and
+//!   ends, whether it lies within some units, and whether it overlaps another
+//! - `units N`: how many units a disk of so many bytes has
+//! - `manifest VERSION GENERATION UNITS NUMBER ID FIRST:BYTES PART ..`: the bytes of a body, which
+//!   is kept, and of its table, at an extent; a part is `ID:FIRST:BYTES:KIND`, and `:FIRST:BYTES`
+//!   of its deletion list
+//! - `next`: the generation behind that of the kept body
+//! - `current`: which half is in force, what it says, and where its extents begin
+//! - `gate HALF`: whether a gate is open
+//! - `install HALF`, `establish`: puts the kept body in force, by a half, or as the first
+//! - `replace HALF AGAIN AT BYTES AT BYTES`: the same with two pieces; begun again where a read
+//!   fails, if `AGAIN` is 1
+//! - `copy HALF AGAIN FROM TO N`, `follow HALF AGAIN FROM TO N AT BYTES`: with a copy, and a piece
+//!   behind it
+//! - `segment FIRST BYTES SIZE KIND READER ..`: what readers of the segment in an extent answer,
+//!   each behind a bar: `ends`, `postings`, `asked`, `numbers`, `has:N`, `text:N`, `document:I`,
+//!   `directory`, `dictionary`, `list:WORD`, `terms`, `begun:PREFIX`, and bytes that the source
+//!   lends, `lend:AT:N`
+//! - `merge KIND XS YS`: what deletion lists leave of the segments in units 1 and 2, of 52 and 37
+//!   bytes, on a disk of 2,048
+//! - `merge-nothing`: whether anything is left of no input
+//! - `prepare XS YS`, `merge-into XS YS`: how long that is in kind 2; also written into unit 3
 //!
 //! A source whose call behind `PASSES` others is made fails then, once. Below the answers of such
 //! a line stands how often it was asked, and how often it failed.
