@@ -33,7 +33,7 @@
 //! for; `Disk` is answered exactly where a read failed, and then nothing of that input is held; and
 //! `Memory` where memory was refused, by `read_lists`, `Input::new` and `Walk::new` alone. The disk
 //! is only read. Whatever the bytes are, the words of an input of kind 2 are all that its
-//! dictionary says, and no word is passed whose list goes past the segment.
+//! dictionary says, and no word is passed whose list is none, or goes past the segment.
 //!
 //! Where the words are: `specs/Ahead` says how much is read ahead, `specs/Inputs` has what inputs
 //! spell, `specs/Words` how words lie end to end, `specs/Ends` where they end and `specs/Places`
@@ -41,7 +41,8 @@
 //! what any bytes say they are, `specs/Marks` what the marks of deleted numbers say,
 //! `specs/Joining` what is joined, `specs/Keys` the keys of words, `specs/Walking` the words side
 //! by side, `specs/Noted` which inputs have the least of them, `specs/WalkInput` the inputs of a
-//! walk, `specs/Walk` where it has come. Lemma pages: `TermWalkLemmas` on the walk, whose words are
+//! walk, `specs/Walk` where it has come, `specs/Whole`
+//! that it passes whole lists, and `specs/WholeLists` that all of a segment are. Lemma pages: `TermWalkLemmas` on the walk, whose words are
 //! the terms of the documents that are left; `JoinLemmas` on one word's list.
 #![tactic(auto)]
 

@@ -47,8 +47,8 @@ pub struct Input {
 }
 
 impl Input {
-    ghost use Rattle.pk_join.specs.Inside.{HeadLiesWithin};
     ghost use Rattle.pk_join.specs.WalkInput.{StandsAs, passed_of};
+    ghost use Rattle.pk_join.specs.Whole.{HeadIsWhole};
 
     /// One of so many inputs, before its first word. Nothing is read of it yet, and where its lists
     /// are on the disk there is memory to read ahead 32,768 bytes, or its share of 67,108,864.
@@ -136,8 +136,8 @@ impl Input {
             → MayJoin list.old.joined (list_with w (live_of s)) → MatchResult result
             (λ _. joined_in list.new.joined
             ≡ joined_in list.old.joined ++ list_with w (live_of s)) (λ e. e ≡ SourceFault.Disk) }
-        // Whatever the bytes are, a list that goes past the extent is not joined.
-        ensures inside { OnOk result (HeadLiesWithin self.old) }
+        // Whatever the bytes are, a list that is none, or that goes past the extent, is not joined.
+        ensures whole { OnOk result (HeadIsWhole D.honest (D.content disk.old) self.old) }
         ensures holds { D.honest
             → HoldsOf (extent_bytes (D.content disk.old) self.old.extent) self.old.ahead
             → HoldsOf (extent_bytes (D.content disk.new) self.new.extent) self.new.ahead }

@@ -22,7 +22,6 @@ ghost use Rattle.std.specs.Prelude.{
 };
 ghost use Rattle.std.specs.Option.{option_map};
 ghost use Rattle.pk_join.specs.Inputs.{SpellsInputs};
-ghost use Rattle.pk_join.specs.Inside.{NotedLieWithin, PassedWithin};
 ghost use Rattle.pk_join.specs.Joining.{joined_in, room_in};
 ghost use Rattle.pk_join.specs.Listed.{words_in};
 ghost use Rattle.pk_join.specs.Noted.{AreNoted, NotesAs, next_noted, order_of};
@@ -49,6 +48,7 @@ ghost use Rattle.pk_join.specs.Walking.{
   lesser_of,
   to_come,
 };
+ghost use Rattle.pk_join.specs.Whole.{NotedAreWhole, PassWhole};
 ghost use Rattle.pk_join.specs.declared.input.MergeInput.{MergeInput};
 ghost use Rattle.pk_posting.specs.Source.{CountsFaults};
 ghost use Rattle.pk_segment.specs.Indexed.{list_with};
@@ -219,8 +219,9 @@ fn join_noted<D: Disk>(
         → IsAtHeads (lists_of inputs.old) (heads_of inputs.old) w stored → MatchResult result
         (λ _. joined_in list.new.joined ≡ list_with w (live_in stored))
         (λ e. e ≡ SourceFault.Disk) }
-    // Whatever the bytes are, no list that goes past its extent is joined.
-    ensures inside { OnOk result (NotedLieWithin inputs.old found.now) }
+    // Whatever the bytes are, no list that is none, or that goes past its extent, is joined.
+    ensures whole { OnOk result
+        (NotedAreWhole D.honest (D.content disk.old) inputs.old found.now) }
     ensures hold { D.honest → All (Holds (D.content disk.old)) inputs.old
         → OnOk result (All (Holds (D.content disk.new)) inputs.new) }
     ensures stand { StandAs inputs.old inputs.new }
@@ -260,10 +261,9 @@ pub(crate) fn next_word<D: Disk>(
         → Walks (lists_of inputs.old) (heads_of inputs.old) stored xs ys
         → MatchResult result (PassedAs (lists_of inputs.new) (heads_of inputs.new) stored xs ys
         (joined_in list.new.joined)) (λ e. e ≡ SourceFault.Disk) }
-    // Whatever the bytes are, no word is passed whose list goes past its extent.
-    ensures inside { OnOk result (All PassedWithin inputs.old → All PassedWithin inputs.new) }
-    ensures hold { D.honest → All (Holds (D.content disk.old)) inputs.old
-        → OnOk result (All (Holds (D.content disk.new)) inputs.new) }
+    // Whatever the bytes are, no word is passed whose list is none, or goes past its extent.
+    ensures whole { OnOk result
+        (PassWhole D.honest (D.content disk.old) inputs.old inputs.new) }
     ensures lists { lists_of inputs.new ≡ lists_of inputs.old }
     ensures extents { extents_of inputs.new ≡ extents_of inputs.old }
     ensures keys { keys.new ≡ keys_of inputs.new }

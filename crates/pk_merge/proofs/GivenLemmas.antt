@@ -12,7 +12,9 @@ use Rattle.pk_disk.proofs.Images.{same_part}
 use Rattle.pk_disk.proofs.Ranges.{outside_range}
 use Rattle.pk_join.specs.declared.input.MergeInput.{MergeInput}
 use Rattle.pk_join.specs.Inputs.{HasSameBytes, SpellsInputs}
+use Rattle.pk_join.specs.declared.walk_input.Input.{Input}
 use Rattle.pk_join.proofs.ComeLemmas.{spells_same}
+use Rattle.pk_join.proofs.WholeLemmas.{SameIn}
 use Rattle.pk_model.specs.Collection.{Doc}
 use Rattle.pk_model.specs.Terms.{terms_of}
 use Rattle.pk_posting.specs.Spelling.{spelling as list_spelling}
@@ -23,6 +25,7 @@ use Rattle.pk_segment.specs.Indexed.{list_with, lists_of, postings}
 use Rattle.pk_segment.proofs.PlanLemmas.{lists_all}
 use Rattle.pk_state.specs.Committed.{Stored}
 use Rattle.pk_merge.specs.declared.output.Output.{Output}
+use Rattle.pk_merge.specs.Apart.{IsApart}
 use Rattle.pk_merge.specs.Output.{AreGiven, IsGiven, LiesApart, given, places_of}
 use Rattle.pk_merge.proofs.FaultLemmas.{passed_on}
 use Rattle.pk_merge.proofs.OutputLemmas.{stretch_then, writes_next}
@@ -49,6 +52,13 @@ pub same_bytes : (b b' : List ℕ) (is : List MergeInput) (start end : ℕ) → 
     → All (LiesApart start end) is
     → All (HasSameBytes b b') is
 same_bytes b b' is start end long same apart = All-weaker (LiesApart start end) (HasSameBytes b b')
+    (λ x one. extent_stays b b' x.extent start end long same one) is apart
+
+-- nor does it change those of a walk
+pub inputs_stay : (b b' : List ℕ) (is : List Input) (start end : ℕ) → length b' ≡ length b
+    → ((p : ℕ) → in_range start (end - start) p ≡ false → get_or b' p 0 ≡ get_or b p 0)
+    → All (IsApart start end) is → All (SameIn b b') is
+inputs_stay b b' is start end long same apart = All-weaker (IsApart start end) (SameIn b b')
     (λ x one. extent_stays b b' x.extent start end long same one) is apart
 
 pub spells_stays : (b b' : List ℕ) (is : List MergeInput) (ss : List Stored) (start end : ℕ)

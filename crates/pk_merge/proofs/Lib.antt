@@ -4,7 +4,6 @@ pub mod FaultLemmas
 pub mod GatherLemmas
 pub mod GivenLemmas
 pub mod InputLemmas
-pub mod InsideLemmas
 pub mod KeepLemmas
 pub mod LiveLemmas
 pub mod OpenLemmas
@@ -14,3 +13,4 @@ pub mod RiseLemmas
 pub mod SpanLemmas
 pub mod StreamLemmas
 pub mod TextLemmas
+pub mod WholeLemmas

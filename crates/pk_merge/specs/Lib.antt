@@ -1,4 +1,5 @@
 -- The definitions that the contracts cite.
+pub mod Apart
 pub mod Choosing
 pub mod Counting
 pub mod Endings

@@ -4,9 +4,9 @@ use Rattle.pk_disk.specs.Units.{extent_bytes}
 use Rattle.pk_join.specs.declared.input.MergeInput.{MergeInput}
 use Rattle.pk_join.specs.declared.lists.InputLists.{InputLists}
 use Rattle.pk_join.specs.Said.{AreSaidIn}
+use Rattle.pk_join.specs.WholeLists.{ListsAreWhole}
 use Rattle.pk_merge.specs.declared.fault.MergeFault.{MergeFault}
 use Rattle.pk_merge.specs.declared.prepared.Prepared.{Prepared}
-use Rattle.pk_segment.specs.Said.{ListsLieWithin}
 
 -- the words of each input, with their lists, are those that the bytes of its extent say
 abbrev pub AreAllSaid : List ℕ → List MergeInput → List InputLists → Type 0
@@ -16,12 +16,12 @@ AreAllSaid bytes (i ∷ is) [] = ⊥
 AreAllSaid bytes (i ∷ is) (l ∷ ls) =
     AreSaidIn (extent_bytes bytes i.extent) i.kind l × AreAllSaid bytes is ls
 
--- the lists that an input of kind 2 names lie within its extent
-abbrev pub NamesWithin : List ℕ → MergeInput → Type 0
-NamesWithin bytes i = i.kind ≡ 2 → ListsLieWithin (extent_bytes bytes i.extent)
+-- the lists that an input of kind 2 names are whole in its extent
+abbrev pub NamesWhole : List ℕ → MergeInput → Type 0
+NamesWhole bytes i = i.kind ≡ 2 → ListsAreWhole (extent_bytes bytes i.extent)
 
 -- so it is of each input, where documents are left
-abbrev pub NameWithin : List ℕ → List MergeInput → Result (Option Prepared) MergeFault → Type 0
-NameWithin bytes inputs (Ok None) = Unit {0}
-NameWithin bytes inputs (Ok (Some p)) = All (NamesWithin bytes) inputs
-NameWithin bytes inputs (Err fault) = Unit {0}
+abbrev pub NameWhole : List ℕ → List MergeInput → Result (Option Prepared) MergeFault → Type 0
+NameWhole bytes inputs (Ok None) = Unit {0}
+NameWhole bytes inputs (Ok (Some p)) = All (NamesWhole bytes) inputs
+NameWhole bytes inputs (Err fault) = Unit {0}

@@ -68,7 +68,7 @@
 //! input, also where a list has them. `Disk` is answered exactly where a read failed, and `Memory`
 //! where memory was refused. The disk was only read, whatever is answered, and the call may be made
 //! again. Whatever was read, what `merged` answers is the bytes of a segment; and where `prepare`
-//! leaves a document, each dictionary is one, and the lists that it names lie in its extent.
+//! leaves a document, each dictionary is one, and so is each list that it names, in its extent.
 //!
 //! `merge_into` answers `Damaged` where what it reads isn't what was prepared, `Disk` exactly where
 //! a read failed and `NotWritten` exactly where a write did: then a part of the segment may stand
@@ -79,12 +79,13 @@
 //! chosen, `specs/Prepared` what is prepared, `specs/Lists` its posting lists, `specs/Counting` how
 //! many documents are left at the least, whatever the bytes are, `specs/Said` what these say of
 //! words, `specs/Keeping` where the texts stand that are kept, `specs/Spans` which of them are read
-//! at once, `specs/Output` what was given to be written, `specs/Streaming` what `MergeWriter`
-//! promises. Lemma pages: `FaultLemmas` on faults that are passed on, `RiseLemmas` on the order of
-//! the numbers, `CountLemmas` on their count, `GatherLemmas` on what was gathered, `InputLemmas` on
-//! the inputs, each with what it spells, `LiveLemmas` on the documents that are left, `SpanLemmas`
-//! on texts that are read at once, `GivenLemmas` and `StreamLemmas` on what is given part after
-//! part; pk_join's `TermWalkLemmas` on the walk through the words.
+//! at once, `specs/Output` what was given to be written, `specs/Apart` what lies apart from it,
+//! `specs/Streaming` what `MergeWriter` promises. Lemma pages: `FaultLemmas` on faults that are
+//! passed on, `RiseLemmas` on the order of the numbers, `CountLemmas` on their count,
+//! `GatherLemmas` on what was gathered, `InputLemmas` on the inputs, each with what it spells,
+//! `LiveLemmas` on the documents that are left, `SpanLemmas` on texts that are read at once,
+//! `GivenLemmas` and `StreamLemmas` on what is given part after part, `WholeLemmas` on lists that
+//! are whole; pk_join's `TermWalkLemmas` on the walk through the words.
 #![tactic(auto)]
 
 mod choosing;

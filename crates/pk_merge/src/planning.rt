@@ -1,8 +1,8 @@
 //! The index of a merge, planned by going through the words of all inputs.
 
 ghost use Rattle.std.specs.Prelude.{◌≡◌, [], List, length, IfOk, OnOk};
-ghost use Rattle.pk_join.specs.Inside.{WalkedWithin};
 ghost use Rattle.pk_join.specs.Walk.{HasCome, IsSameWalk, WalksWithin, words_to_come};
+ghost use Rattle.pk_join.specs.Whole.{WalksWhole};
 ghost use Rattle.pk_join.specs.declared.input.MergeInput.{MergeInput};
 ghost use Rattle.pk_merge.specs.Merging.{CountsMerge};
 ghost use Rattle.pk_merge.specs.Planned.{PlansWordsAs};
@@ -34,8 +34,8 @@ pub(crate) fn plan_words<D: Disk>(
     ensures same { IsSameWalk walk.old walk.new }
     // Whatever the bytes are, each word of each input was passed.
     ensures ended { OnOk result (words_to_come walk.new ≡ 0) }
-    // And no list that goes past its segment.
-    ensures inside { OnOk result (WalkedWithin walk.old → WalkedWithin walk.new) }
+    // And no list that is none, or that goes past its segment.
+    ensures whole { OnOk result (WalksWhole D.honest (D.content disk.old) walk.old walk.new) }
     ensures left { ReadsDisk D.Disk CountsMerge result disk.old disk.new }
 {
     let mut index = IndexWriter::new(alloc, MOST_KEPT_LISTS);

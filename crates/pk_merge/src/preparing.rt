@@ -3,17 +3,17 @@
 ghost use Rattle.std.specs.Prelude.{◌≡◌, ◌⊎◌, ◌<◌, ℕ, List, length, All, IfErr, IfOk, OnOk};
 ghost use Rattle.std.specs.List.Sorted.{IsStrictlyIncreasing};
 ghost use Rattle.pk_join.specs.Inputs.{HasKind, LiesInside, SpellsInputs};
-ghost use Rattle.pk_join.specs.Inside.{AllWithin};
 ghost use Rattle.pk_join.specs.Walk.{walk_lists, walk_room};
 ghost use Rattle.pk_join.specs.WalkInput.{HaveExtentsOf, IsBefore, IsWithin, lists_of};
 ghost use Rattle.pk_join.specs.Walking.{AreListed, CanHold};
+ghost use Rattle.pk_join.specs.Whole.{AllAreWhole};
 ghost use Rattle.pk_merge.specs.Counting.{LeavesEnough};
 ghost use Rattle.pk_merge.specs.Keeping.{AreKept};
 ghost use Rattle.pk_merge.specs.Left.{kept_in};
 ghost use Rattle.pk_merge.specs.Lists.{AreOfInputs};
 ghost use Rattle.pk_merge.specs.Merging.{CountsMerge};
 ghost use Rattle.pk_merge.specs.Prepared.{IsReady, PreparesAs, PreparesOneAs};
-ghost use Rattle.pk_merge.specs.Said.{NameWithin};
+ghost use Rattle.pk_merge.specs.Said.{NameWhole};
 ghost use Rattle.pk_model.specs.Collection.{numbers_of};
 ghost use Rattle.pk_model.specs.Terms.{terms_of};
 ghost use Rattle.pk_segment.specs.OnlyRead.{ReadsDisk};
@@ -94,8 +94,8 @@ fn prepare_left<D: Disk>(
     ensures disk_bytes { IfOk result (λ p. p.disk_bytes ≡ left.disk_bytes) }
     ensures inputs { (inputs : List MergeInput) → HaveExtentsOf inputs read.items
         → IfOk result (λ p. AreOfInputs inputs p.lists) }
-    // Whatever the bytes are, each list that an input names lies within its segment.
-    ensures inside { OnOk result (All AllWithin read.items) }
+    // Whatever the bytes are, each list that an input names is one, and lies within its segment.
+    ensures whole { OnOk result (All (AllAreWhole D.honest (D.content disk.old)) read.items) }
     ensures left { ReadsDisk D.Disk CountsMerge result disk.old disk.new }
 {
     let mut walk = Walk::new(alloc, read, left.documents.len())?;
@@ -110,7 +110,8 @@ fn prepare_left<D: Disk>(
 /// Answers `TooLarge` exactly where the segment would be too long, `Damaged` where an input is no
 /// segment or the numbers don't rise, `Disk` where a read failed, or `Memory`. Whatever the bytes
 /// are, of the documents that their headers say no more are left out than the lists have numbers,
-/// and where any are left, the posting list of each word that a dictionary says lies in its extent.
+/// and where any are left, the posting list of each word that a dictionary says is one, and lies in
+/// its extent.
 pub fn prepare<D: Disk>(
     alloc: Global,
     disk: &mut D,
@@ -124,7 +125,7 @@ pub fn prepare<D: Disk>(
         → PreparesAs (D.content disk.old) inputs.now stored result }
     ensures ready { IsReady (length (D.content disk.old)) inputs.now result }
     ensures enough { D.honest → LeavesEnough (D.content disk.old) inputs.now result }
-    ensures inside { D.honest → NameWithin (D.content disk.old) inputs.now result }
+    ensures whole { D.honest → NameWhole (D.content disk.old) inputs.now result }
     ensures left { ReadsDisk D.Disk CountsMerge result disk.old disk.new }
 {
     let (read, left) = read_all(alloc, disk, inputs)?;

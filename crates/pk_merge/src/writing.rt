@@ -17,9 +17,10 @@ ghost use Rattle.std.specs.Prelude.{
   false,
 };
 ghost use Rattle.pk_disk.specs.Frames.{KeepsDisk};
-ghost use Rattle.pk_join.specs.Inside.{WalkedWithin};
 ghost use Rattle.pk_join.specs.Walk.{GoesAs, HasCome, IsSameWalk, WalksWithin, words_to_come};
+ghost use Rattle.pk_join.specs.Whole.{WalksWhole};
 ghost use Rattle.pk_join.specs.declared.input.MergeInput.{MergeInput};
+ghost use Rattle.pk_merge.specs.Apart.{WalksApart};
 ghost use Rattle.pk_merge.specs.Output.{AreGiven, IsGiven, LiesApart};
 ghost use Rattle.pk_posting.specs.Posting.{IsPosting};
 ghost use Rattle.pk_posting.specs.Spelling.{spelling as list_spelling};
@@ -44,7 +45,7 @@ fn go_on<D: Disk>(disk: &mut D, walk: &mut Walk) -> Result<bool, StreamFault>
     ensures fewer { IfOk result (λ more. IsTrue more
         → words_to_come walk.new < words_to_come walk.old) }
     ensures ended { IfOk result (λ more. more ≡ false → words_to_come walk.new ≡ 0) }
-    ensures inside { OnOk result (WalkedWithin walk.old → WalkedWithin walk.new) }
+    ensures whole { OnOk result (WalksWhole D.honest (D.content disk.old) walk.old walk.new) }
     ensures same { IsSameWalk walk.old walk.new }
     ensures keeps { KeepsDisk D.Disk disk.old disk.new }
     ensures cause { IsCause D.Disk disk.old disk.new result }
@@ -93,8 +94,10 @@ pub(crate) fn write_lists<D: Disk>(
     ensures given { IsGiven D.Disk disk.old disk.new output.old output.new result }
     // Whatever the bytes are, each word of each input was passed.
     ensures ended { OnOk result (words_to_come walk.new ≡ 0) }
-    // And no list that goes past its segment.
-    ensures inside { OnOk result (WalkedWithin walk.old → WalkedWithin walk.new) }
+    // And no list that is none, where the inputs lie apart from it, or that goes past its segment.
+    ensures whole { OnOk result
+        (WalksWhole (D.honest × WalksApart output.old.start output.old.end walk.old)
+        (D.content disk.old) walk.old walk.new) }
     ensures bytes { D.honest → (inputs : List MergeInput) (stored : List Stored)
         → HasCome (D.content disk.old) inputs stored walk.old [] (terms_of (live_in stored))
         → All (LiesApart output.old.start output.old.end) inputs

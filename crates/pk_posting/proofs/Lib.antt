@@ -1,5 +1,6 @@
 pub mod BlockLemmas
 pub mod ByteLemmas
+pub mod DecoderLemmas
 pub mod DifferenceLemmas
 pub mod EntryLemmas
 pub mod LeastLemmas
@@ -13,6 +14,7 @@ pub mod PuttingLemmas
 pub mod ReadingLemmas
 pub mod RisingLemmas
 pub mod ShapeLemmas
+pub mod SourceLemmas
 pub mod SpellingLemmas
 pub mod TailLemmas
 pub mod WholeLemmas

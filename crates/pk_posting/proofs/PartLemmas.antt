@@ -1,6 +1,7 @@
 -- The parts of a list, from what a source lends of them.
-use Rattle.std.proofs.Common.{◌≡◌, ◌∷◌, [], ◌≤◌, ◌<◌, ◌+◌, ◌-◌, ◌*◌, ◌/◌, ◌%◌, ◌^◌, ◌∙◌, ◌++◌, ℕ, zero, suc, List, length, take, drop, slice_index, sym, ap, refl, arith, inl, inr}
+use Rattle.std.proofs.Common.{◌≡◌, ◌∷◌, [], ◌≤◌, ◌<◌, ◌+◌, ◌-◌, ◌*◌, ◌/◌, ◌%◌, ◌^◌, ◌∙◌, ◌++◌, ℕ, zero, suc, List, length, drop, slice_index, sym, ap, subst, refl, arith, inl, inr}
 use Rattle.std.proofs.lemmas.Bool.{cases_lt}
+use Rattle.std.proofs.lemmas.Bool.Decides.{eqb_tells}
 use Rattle.std.proofs.lemmas.List.{take_all, length-drop, length-append, ext_get_or, append-nil, nil_from_length}
 use Rattle.pk_vbyte.specs.VariableByte.{vbyte}
 use Rattle.pk_vbyte.proofs.CallerLemmas.{most_bytes}
@@ -16,7 +17,7 @@ use Rattle.pk_posting.proofs.EntryLemmas.{total_more, total_rises}
 use Rattle.pk_posting.proofs.LentLemmas.{Lent, length_bytes_at, lent_part}
 use Rattle.pk_posting.proofs.RisingLemmas.{orders_at, rises_at, tail_climbs}
 use Rattle.pk_posting.proofs.ShapeLemmas.{ends_at}
-use Rattle.pk_posting.proofs.TailLemmas.{length_left}
+use Rattle.pk_posting.proofs.TailLemmas.{length_left, tail_all, tail_over}
 
 -- where the packed blocks end, from three reads of one source
 pub tail_read : (place : ListPlace) (first second third : List ℕ) (B row entry width_at width : ℕ) (xs : List ℕ) → second ≡ first → third ≡ second
@@ -191,12 +192,22 @@ tail_is bytes shape ys before l none some =
     }
 
 -- the bytes from the tail on, as they were lent
+rest_lent : (content : List ℕ) (place : ListPlace) (n at : ℕ) (stretch : List ℕ) → place.at + place.bytes ≤ length content → n ≡ place.bytes - at
+    → Lent content place n at stretch → stretch ≡ drop at (bytes_at content place)
+rest_lent content place n at stretch lies e l =
+    let L = bytes_at content place in
+    sym (lent_part content place n at stretch l) ∙ take_all n (drop at L) (omega (arith, length-drop at L, length_bytes_at content place lies))
+
 pub tail_lent : (content : List ℕ) (place : ListPlace) (n at : ℕ) (stretch : List ℕ) (before count : ℕ) (ys : List ℕ) → place.at + place.bytes ≤ length content → n ≡ place.bytes - at
     → Lent content place n at stretch → IsTail (bytes_at content place) at before count ys → IsTail stretch 0 before count ys
 tail_lent content place n at stretch before count ys lies e l t =
-    let L = bytes_at content place in
-    let all : take n (drop at L) ≡ drop at L = take_all n (drop at L) (omega (arith, length-drop at L, length_bytes_at content place lies)) in
-    record { long = t.long; climbs = t.climbs; spelled = sym (lent_part content place n at stretch l) ∙ all ∙ t.spelled }
+    record { long = t.long; climbs = t.climbs; spelled = rest_lent content place n at stretch lies e l ∙ t.spelled }
+
+-- and back
+pub tail_back : (content : List ℕ) (place : ListPlace) (n at : ℕ) (stretch : List ℕ) (before count : ℕ) (ys : List ℕ) → place.at + place.bytes ≤ length content → n ≡ place.bytes - at
+    → Lent content place n at stretch → IsTail stretch 0 before count ys → IsTail (bytes_at content place) at before count ys
+tail_back content place n at stretch before count ys lies e l t =
+    record { long = t.long; climbs = t.climbs; spelled = sym (rest_lent content place n at stretch lies e l) ∙ t.spelled }
 
 -- all numbers of the tail were taken
 pub tail_taken : (bytes : List ℕ) (before n at here : ℕ) (out ys : List ℕ) → TailTo bytes 0 before n n at here [] out → IsTail bytes 0 before n ys → out ≡ ys
@@ -204,6 +215,16 @@ tail_taken bytes before n at here out ys t u =
     let left = t.only ys u in
     let size = length_left bytes 0 before n n at here [] out ys t u left in
     t.out_is ∙ sym (left.split ∙ ap (λ xs. t.done ++ xs) (nil_from_length left.rest (omega (arith, size))) ∙ append-nil t.done)
+
+-- they are the tail where they end with the bytes, and where there is one they do
+pub taken_is : (bytes : List ℕ) (before n at here : ℕ) (out : List ℕ) → TailTo bytes 0 before n n at here [] out → at ≡ length bytes → IsTail bytes 0 before n out
+taken_is bytes before n at here out t e = let r = tail_all bytes 0 before n at here [] out t e in subst (IsTail bytes 0 before n) (sym r.out_is) r.tail
+
+pub taken_ends : (bytes : List ℕ) (before n at here : ℕ) (out ys : List ℕ) → TailTo bytes 0 before n n at here [] out → IsTail bytes 0 before n ys → at ≡ length bytes
+taken_ends bytes before n at here out ys t u = elim (eqb_tells at (length bytes)) [
+  | inl e ↦ e.1
+  | inr e ↦ absurd (tail_over bytes 0 before n at here [] out t e.1 ys u)
+]
 
 -- a tail takes five bytes a number at most
 pub tail_most : (before : ℕ) (ys : List ℕ) → Climbs before ys → length (tail_bytes before ys) ≤ 5 * length ys

@@ -31,10 +31,6 @@ tail_none bytes start before n old h = record {
   only = λ ys t. record { rest = ys; split = refl; climbs = t.climbs; bytes_left = t.spelled };
 }
 
--- the numbers that were read climb
-pub read_climbs : (bytes : List ℕ) (start before n i at here : ℕ) (out : List ℕ) → TailTo bytes start before n i at here [] out → Climbs before out
-read_climbs bytes start before n i at here out t = rw t.out_is t.climbs
-
 -- the next number of a tail that is there
 pub record Next (bytes : List ℕ) (at here gap used : ℕ) (rest : List ℕ) : Type 0 where
   pub others : List ℕ

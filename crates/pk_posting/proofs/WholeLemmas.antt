@@ -15,14 +15,19 @@ climbs_at before [] c i h = absurd (omega arith)
 climbs_at before (x ∷ xs) c zero h = (c.0, c.1)
 climbs_at before (x ∷ xs) c (suc i) h = climbs_at x xs c.2 i (omega arith)
 
--- from whatever number they climb, they rise from 0
-pub climbs_rise : (before n : ℕ) (xs : List ℕ) → n ≤ length xs → Climbs before (take n xs) → (i : ℕ) → i < n → slice_index (0 ∷ xs) i < slice_index xs i
-climbs_rise before n xs h c zero l =
+-- from the number that they climb from on they rise
+pub climbs_on : (before n : ℕ) (xs : List ℕ) → n ≤ length xs → Climbs before (take n xs) → (i : ℕ) → i < n → slice_index (before ∷ xs) i < slice_index xs i
+climbs_on before n xs h c zero l =
     let long = length-take-le n xs h in
     omega (arith, (climbs_at before (take n xs) c 0 (omega (arith, long))).0, get_or-take n xs 0 0 l)
-climbs_rise before n xs h c (suc i) l =
+climbs_on before n xs h c (suc i) l =
     let long = length-take-le n xs h in
     omega (arith, (climbs_at before (take n xs) c (suc i) (omega (arith, long))).0, get_or-take n xs i 0 (omega arith), get_or-take n xs (suc i) 0 l)
+
+-- so they do from 0 on
+pub climbs_rise : (before n : ℕ) (xs : List ℕ) → n ≤ length xs → Climbs before (take n xs) → (i : ℕ) → i < n → slice_index (0 ∷ xs) i < slice_index xs i
+climbs_rise before n xs h c zero l = let u = climbs_on before n xs h c 0 l in omega (arith, u)
+climbs_rise before n xs h c (suc i) l = climbs_on before n xs h c (suc i) l
 
 pub climbs_from : (before : ℕ) (xs : List ℕ) → ((i : ℕ) → i < length xs → slice_index (before ∷ xs) i < slice_index xs i) → ((i : ℕ) → i < length xs → slice_index xs i < 2 ^ 32) → Climbs before xs
 climbs_from before [] f g = tt

@@ -74,7 +74,7 @@ pub fn decode(alloc: Global, bytes: &[u8]) -> Result<Vec<u32>, DecodeFault>
 
 // How many bytes a list of so many blocks, and so many numbers in its tail, takes at least. A width
 // is at least 3, since numbers that rise differ by at least 4 over four numbers.
-fn least_length(blocks: usize, left: usize) -> usize
+pub(crate) fn least_length(blocks: usize, left: usize) -> usize
     requires blocks { blocks ≤ longest_list / 128 }
     requires left { left < 128 }
     ensures { result ≡ 4 + 68 * blocks + 16 * ((blocks + 15) / 16) + left }
@@ -129,7 +129,13 @@ fn put_numbers(xs: &[u32; 128], out: &mut Vec<u32>)
 
 // Whether the numbers that a block's packed bytes restore make it right: they rise, and no fewer
 // bits hold its differences.
-fn is_right_block(bytes: &[u8], at: usize, b: usize, seed: &[u32; 4], xs: &[u32; 128]) -> bool
+pub(crate) fn is_right_block(
+    bytes: &[u8],
+    at: usize,
+    b: usize,
+    seed: &[u32; 4],
+    xs: &[u32; 128],
+) -> bool
     requires small { b ≤ 32 }
     requires room { at + 16 * b ≤ length bytes.now }
     requires restored { IsRestored bytes.now at b seed.now xs.now }
@@ -189,16 +195,31 @@ fn begin(bytes: &[u8], blocks: usize, k: usize, at: usize, widths: usize) -> Opt
     if bytes.len() - at < 16 {
         return None;
     }
-    for j in 0..16 {
-        if k + j >= blocks && bytes[at + j] != 0 {
-            return None;
-        }
+    let row = &bytes[at..at + 16];
+    if !is_padded(row, k, blocks) {
+        return None;
     }
     Some((at + 16, at))
 }
 
+// Whether the widths of the metablock that begins with block k are 0 past the last block.
+pub(crate) fn is_padded(widths: &[u8], k: usize, blocks: usize) -> bool
+    requires one { k < blocks }
+    requires most { blocks ≤ longest_list / 128 }
+    requires all { length widths.now ≡ 16 }
+    ensures { IsTrue result ↔ ((j : ℕ) → j < 16 → blocks ≤ k + j
+        → slice_index widths.now j ≡ 0) }
+{
+    for j in 0..16 {
+        if k + j >= blocks && widths[j] != 0 {
+            return false;
+        }
+    }
+    true
+}
+
 // Whether four numbers stand at one place that end a block.
-fn ends_with(bytes: &[u8], at: usize, xs: &[u32; 128]) -> bool
+pub(crate) fn ends_with(bytes: &[u8], at: usize, xs: &[u32; 128]) -> bool
     requires { at + 16 ≤ length bytes.now }
     ensures { IsTrue result ↔ ((c : ℕ) → c < 4
         → word bytes.now (at + 4 * c) ≡ slice_index xs.now (124 + c)) }

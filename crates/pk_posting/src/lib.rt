@@ -37,8 +37,11 @@
 //!
 //! Where the bytes spell a list these give its parts, and are not Damaged. Over other bytes each
 //! returns, and may be Damaged or not: whether a width is the least, whether the widths past the
-//! last block are 00, and whether each entry's numbers are those of its block, `decode` alone
-//! tells.
+//! last block are 00, and whether each entry's numbers are those of its block, they don't tell.
+//!
+//! A `ListDecoder` takes a list out whole, as strictly as `decode`, without memory: `open`, by a
+//! call of the source at most, `next_block` for each block in turn, by three, and `tail`, by one.
+//! What was given is what the bytes spell so far (`HasGiven` in `specs/Decoder.antt`).
 //!
 //! In contracts, `longest_list` (`specs/Limits.antt`) is how many numbers a list has at most, and
 //! `asks_for` how often a source is asked for so many bytes. `Spells` (`specs/Posting.antt`) says
@@ -48,6 +51,7 @@
 //! sorted integers (2016).
 #![tactic(auto)]
 
+mod decoder;
 mod decoding;
 mod encoding;
 mod fields;
@@ -57,6 +61,7 @@ mod packed;
 mod parts;
 pub mod source;
 
+pub use decoder::ListDecoder;
 pub use decoding::{DecodeFault, decode};
 pub use encoding::{encode, encode_into, length_of};
 pub use fields::{LONGEST_LIST, ListPlace, Shape, Skip, skip_of};

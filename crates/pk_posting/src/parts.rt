@@ -2,7 +2,7 @@
 
 ghost use Rattle.std.specs.Prelude.{◌≡◌, ◌+◌, ◌*◌, ◌/◌, ◌%◌, ◌<◌, ◌≤◌, ◌∷◌};
 ghost use Rattle.std.specs.Prelude.{ℕ, List, length, take, drop, slice_index};
-ghost use Rattle.std.specs.Prelude.{IfOk, IfErr, IsOk, IsTrue, MatchResult, true};
+ghost use Rattle.std.specs.Prelude.{IfOk, IfErr, IsOk, IsTrue, MatchResult, OnOk, true};
 ghost use Rattle.pk_posting.specs.Posting.{Spells, base, block, tail_place, word};
 ghost use Rattle.pk_posting.specs.Tails.{Climbs, IsTail};
 ghost use Rattle.pk_posting.specs.Parts.{Fits, HasShape, LiesIn, bytes_at};
@@ -201,8 +201,8 @@ fn number_before<S: ByteSource>(
     word_in(source, place, 20 * blocks)
 }
 
-// The numbers of the tail, which rise from the number before them.
-fn read_tail_in<S: ByteSource>(
+// The numbers of the tail, which rise from the number before them, and end where the list does.
+pub(crate) fn read_tail_in<S: ByteSource>(
     source: &mut S,
     place: ListPlace,
     tail: u32,
@@ -213,6 +213,8 @@ fn read_tail_in<S: ByteSource>(
     requires lies { LiesIn place (length (S.content source.old)) }
     requires inside { tail ≤ place.bytes }
     requires few { count < 128 }
+    ensures value { S.honest → OnOk result
+        (IsTail (bytes_at (S.content source.old) place) tail before count (take count xs.new)) }
     ensures spelled { S.honest → (ys : List ℕ)
         → IsTail (bytes_at (S.content source.old) place) tail before count ys
         → MatchResult result (λ _. take count xs.new ≡ ys) (λ e. e ≡ SourceFault.Disk) }
@@ -230,10 +232,10 @@ fn read_tail_in<S: ByteSource>(
     Ok(())
 }
 
-// Whether the first bytes are so many numbers that rise; then they are the front of `xs`.
+// Whether the bytes are so many numbers that rise; then they are the front of `xs`.
 fn take_tail(bytes: &[u8], before: u32, count: usize, xs: &mut [u32; 128]) -> bool
     requires { count < 128 }
-    ensures climbs { IsTrue result → Climbs before (take count xs.new) }
+    ensures is { IsTrue result → IsTail bytes.now 0 before count (take count xs.new) }
     ensures only { (ys : List ℕ) → IsTail bytes.now 0 before count ys
         → (result ≡ true) × (take count xs.new ≡ ys) }
 {
@@ -250,5 +252,5 @@ fn take_tail(bytes: &[u8], before: u32, count: usize, xs: &mut [u32; 128]) -> bo
         xs[i] = here;
         at += used;
     }
-    true
+    at == bytes.len()
 }

@@ -3,10 +3,10 @@ use Rattle.std.proofs.Common.{◌≡◌, ◌<◌, ℕ, List, Ok, Some, get_or, l
 use Rattle.std.specs.Prelude.{All}
 use Rattle.pk_join.specs.declared.input.MergeInput.{MergeInput}
 use Rattle.pk_join.specs.Inputs.{SpellsInputs}
-use Rattle.pk_join.specs.Inside.{HeadLiesWithin}
 use Rattle.pk_join.specs.Joining.{joined_in}
 use Rattle.pk_join.specs.WalkInput.{HaveExtentsOf, Holds, StandAs, heads_of, lists_of}
 use Rattle.pk_join.specs.Walking.{AreListed, CanHold, IsAtHeads, least_of}
+use Rattle.pk_join.specs.Whole.{WordIsWhole}
 use Rattle.pk_posting.specs.Source.{CountsFaults}
 use Rattle.pk_segment.specs.Indexed.{list_with}
 use Rattle.pk_segment.specs.OnlyRead.{ReadsDisk}
@@ -25,7 +25,9 @@ invariant-loop-k g l =
       made : length l.list.made.items ≡ length l.fn.list.made.items;
       within : AllNotedWithin l.found l.inputs;
       stand : StandAs l.fn.inputs l.inputs;
-      inside : (j : ℕ) (d : Input) → j < l.k → HeadLiesWithin (get_or l.fn.inputs (slice_index l.found j) d);
+      whole : (j : ℕ) (d : Input) → j < l.k
+          → WordIsWhole (disk.honest × All (Holds (disk.content l.fn.disk)) l.fn.inputs) (disk.content l.fn.disk)
+          (get_or l.fn.inputs (slice_index l.found j) d) (get_or l.fn.inputs (slice_index l.found j) d).head;
       hold : disk.honest → All (Holds (disk.content l.fn.disk)) l.fn.inputs
           → All (Holds (disk.content l.disk)) l.inputs;
       joined : disk.honest → (given : List MergeInput) (stored : List Stored) (w : List ℕ)

@@ -3,10 +3,10 @@ use Rattle.std.proofs.Common.{◌≡◌, ◌≤◌, List, ℕ, Ok, length}
 use Rattle.std.specs.Prelude.{All}
 use Rattle.pk_join.specs.declared.input.MergeInput.{MergeInput}
 use Rattle.pk_join.specs.Inputs.{SpellsInputs}
-use Rattle.pk_join.specs.Inside.{PassedWithin}
 use Rattle.pk_join.specs.Joining.{room_in}
 use Rattle.pk_join.specs.WalkInput.{HaveExtentsOf, Holds, extents_of, heads_of, keys_of, lists_of}
 use Rattle.pk_join.specs.Walking.{AreListed, CanHold, Walks, to_come}
+use Rattle.pk_join.specs.Whole.{PassWhole}
 use Rattle.pk_posting.specs.Source.{CountsFaults}
 use Rattle.pk_segment.specs.OnlyRead.{ReadsDisk}
 use Rattle.pk_state.specs.Committed.{Stored}
@@ -29,9 +29,7 @@ invariant-words g l =
       keys : l.keys ≡ keys_of l.inputs;
       fewer : to_come (lists_of l.fn.inputs) (heads_of l.inputs) (length (lists_of l.fn.inputs))
           ≤ to_come (lists_of l.fn.inputs) (heads_of l.fn.inputs) (length (lists_of l.fn.inputs));
-      inside : All PassedWithin l.fn.inputs → All PassedWithin l.inputs;
-      hold : disk.honest → All (Holds (disk.content l.fn.disk)) l.fn.inputs
-          → All (Holds (disk.content l.disk)) l.inputs;
+      whole : PassWhole disk.honest (disk.content l.fn.disk) l.fn.inputs l.inputs;
       walks : disk.honest → (given : List MergeInput) (stored : List Stored) (xs ys : List (List ℕ))
           → HaveExtentsOf given l.fn.inputs → All (Holds (disk.content l.fn.disk)) l.fn.inputs
           → SpellsInputs (disk.content l.fn.disk) given stored → AreListed given (lists_of l.fn.inputs) stored

@@ -1,8 +1,8 @@
 -- The terms that were passed are planned, and the others are to come.
 use Rattle.std.proofs.Common.{◌≡◌, List, Ok, ℕ, []}
 use Rattle.pk_join.specs.declared.input.MergeInput.{MergeInput}
-use Rattle.pk_join.specs.Inside.{WalkedWithin}
 use Rattle.pk_join.specs.Walk.{HasCome, IsSameWalk, words_to_come}
+use Rattle.pk_join.specs.Whole.{WalksWhole}
 use Rattle.pk_model.specs.Terms.{terms_of}
 use Rattle.pk_merge.specs.declared.lists.TheConstants.{MOST_KEPT_LISTS}
 use Rattle.pk_merge.specs.Merging.{CountsMerge}
@@ -20,7 +20,7 @@ invariant-words g l =
     record {
       left : ReadsDisk disk CountsMerge (Ok (tt {0})) l.fn.disk l.disk;
       same : IsSameWalk l.fn.walk l.walk;
-      inside : WalkedWithin l.fn.walk → WalkedWithin l.walk;
+      whole : WalksWhole disk.honest (disk.content l.fn.disk) l.fn.walk l.walk;
       entries : HasEntries l.index;
       most_kept : l.index.most_kept ≡ MOST_KEPT_LISTS;
       come : disk.honest → (inputs : List MergeInput) (stored : List Stored)

@@ -5,6 +5,7 @@ use Rattle.std.specs.List.Sorted.{IsStrictlyIncreasing}
 use Rattle.std.proofs.lemmas.Bool.{cases_lt, eq-eqb, eqb-true}
 use Rattle.pk_join.specs.declared.input.MergeInput.{MergeInput}
 use Rattle.pk_join.specs.Inputs.{LiesInside, SpellsInputs}
+use Rattle.pk_join.specs.Whole.{AllAreWhole}
 use Rattle.pk_join.proofs.ComeLemmas.{within_given}
 use Rattle.pk_model.specs.Collection.{numbers_of}
 use Rattle.pk_segment.specs.Spelling.{AreDocuments}
@@ -16,9 +17,9 @@ use Rattle.pk_merge.specs.Prepared.{IsPrepared, PreparesAs}
 use Rattle.pk_merge.proofs.FaultLemmas.{passed_on}
 use Rattle.pk_merge.proofs.GatherLemmas.{fails_in}
 use Rattle.pk_merge.proofs.InputLemmas.{rise_all}
-use Rattle.pk_merge.proofs.InsideLemmas.{all_name_within}
 use Rattle.pk_merge.proofs.KeepLemmas.{kept_long, none_kept}
 use Rattle.pk_merge.proofs.LiveLemmas.{live_are}
+use Rattle.pk_merge.proofs.WholeLemmas.{all_name_whole}
 use Rattle.pk_merge.proofs.preparing.prepare.Goals as goal
 
 zero_of : (n : ℕ) → (n == 0) ≡ true → n ≡ 0
@@ -122,7 +123,11 @@ returns-clause-enough g c = λ honest. omega (
   ap length c.in_ok-prepared.ensures.documents,
 )
 
-pub returns-clause-inside : goal.returns-clause-inside
-returns-clause-inside g c = λ honest. all_name_within (g.D.Disk.content c.args.disk.now) c.args.inputs.now
-    c.in_ok-read.read.items c.requires.inside c.in_ok-read.ensures.extents (c.in_ok-read.ensures.said honest)
-    c.in_ok-prepared.ensures.inside
+pub returns-clause-whole : goal.returns-clause-whole
+returns-clause-whole g c = λ honest.
+    let K = g.D.Disk.honest in
+    let read = c.in_ok-read.read.items in
+    all_name_whole K (g.D.Disk.content c.args.disk.now) c.args.inputs.now read honest c.requires.inside
+    c.in_ok-read.ensures.extents (c.in_ok-read.ensures.said honest)
+    (subst (λ (b : List ℕ). All (AllAreWhole K b) read) (c.read_all.ensures.left.keeps.read honest).bytes
+    c.in_ok-prepared.ensures.whole)

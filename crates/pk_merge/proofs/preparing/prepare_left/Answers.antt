@@ -10,6 +10,7 @@ use Rattle.pk_join.specs.Inputs.{SpellsInputs}
 use Rattle.pk_join.specs.WalkInput.{HaveExtentsOf, IsBefore, IsWithin, extents_of, lists_of}
 use Rattle.pk_join.specs.Walk.{HasCome, walk_room}
 use Rattle.pk_join.specs.Walking.{AreListed, CanHold}
+use Rattle.pk_join.specs.Whole.{PassWhole}
 use Rattle.pk_join.proofs.ComeLemmas.{come_start}
 use Rattle.pk_model.specs.Terms.{terms_of}
 use Rattle.pk_segment.specs.Spelling.{AreDocuments}
@@ -19,8 +20,8 @@ use Rattle.pk_merge.specs.Keeping.{AreKept}
 use Rattle.pk_merge.specs.Left.{kept_in}
 use Rattle.pk_merge.specs.Prepared.{PreparesOneAs}
 use Rattle.pk_merge.proofs.FaultLemmas.{passed_on}
-use Rattle.pk_merge.proofs.InsideLemmas.{all_within, start_within}
 use Rattle.pk_merge.proofs.KeepLemmas.{kept_long, kept_size}
+use Rattle.pk_merge.proofs.WholeLemmas.{all_whole}
 use Rattle.pk_merge.proofs.preparing.prepare_left.Goals as goal
 
 -- a walk through inputs that were read stands before the first word that they leave
@@ -90,14 +91,14 @@ returns-clause-inputs g c = λ inputs extents. c.in_ok-prepared.ensures.inputs i
     (extents ∙ sym (ap (λ (v : Vec Input). extents_of v.items) c.in_ok-walk.ensures.inputs)
     ∙ sym c.plan_words.ensures.same.extents)
 
-pub returns-clause-inside : goal.returns-clause-inside
-returns-clause-inside g c =
-    let walk = c.in_ok-walk.walk in
-    let is = sym c.in_ok-walk.ensures.inputs in
-    let start = subst (λ (v : Vec Input). All IsBefore v.items) is c.requires.before in
-    let new = c.plan_words.new.walk in
+pub returns-clause-whole : goal.returns-clause-whole
+returns-clause-whole g c =
+    let read = c.args.read in
+    let K = g.D.Disk.honest in
+    let bytes = g.D.Disk.content c.args.disk.now in
+    let is = c.in_ok-walk.ensures.inputs in
+    let new = c.plan_words.new.walk.inputs.items in
     let same = c.plan_words.ensures.same in
-    all_within c.args.read.items new.inputs.items
-    (same.lists ∙ ap (λ (v : Vec Input). lists_of v.items) (sym is))
-    (same.extents ∙ ap (λ (v : Vec Input). extents_of v.items) (sym is))
-    c.in_ok-index.ensures.ended (c.in_ok-index.ensures.inside (start_within walk start))
+    all_whole K bytes read.items new c.requires.before (same.lists ∙ ap (λ (v : Vec Input). lists_of v.items) is)
+    (same.extents ∙ ap (λ (v : Vec Input). extents_of v.items) is) c.in_ok-index.ensures.ended
+    (subst (λ (v : Vec Input). PassWhole K bytes v.items new) is c.in_ok-index.ensures.whole)

@@ -26,7 +26,7 @@ use Rattle.pk_merge.proofs.CountLemmas.{counts_next, numbers_next}
 use Rattle.pk_merge.proofs.FaultLemmas.{passed_on}
 use Rattle.pk_merge.proofs.GatherLemmas.{fails_on, left_next}
 use Rattle.pk_merge.proofs.InputLemmas.{live_here, next_of, rise_all}
-use Rattle.pk_merge.proofs.InsideLemmas.{said_snoc}
+use Rattle.pk_merge.proofs.WholeLemmas.{said_snoc}
 use Rattle.pk_merge.proofs.ReadLemmas.{pushed_extents, pushed_lists}
 use Rattle.pk_merge.proofs.reading.read_all.Goals as goal
 

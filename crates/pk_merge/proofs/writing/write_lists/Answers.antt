@@ -1,17 +1,26 @@
 -- One word after the other.
-use Rattle.std.proofs.Common.{◌≡◌, ◌∙◌, ◌≤◌, ◌++◌, ◌∷◌, [], refl, ap, sym, subst, append_assoc, append-nil, arith, List, ℕ, length}
+use Rattle.std.proofs.Common.{◌≡◌, ◌∙◌, ◌⊎◌, ◌+◌, ◌≤◌, ◌++◌, ◌∷◌, [], refl, ap, sym, subst, append_assoc, append-nil, arith, List, ℕ, length}
 use Rattle.std.specs.Prelude.{All}
+use Rattle.pk_disk.specs.Units.{start_of}
+use Rattle.pk_disk.specs.declared.units.Extent.{Extent}
+use Rattle.pk_join.specs.declared.walk_input.Input.{Input}
 use Rattle.pk_join.specs.Walk.{GoesAs, WalksWithin, walk_word}
+use Rattle.pk_join.specs.Whole.{WalksWhole}
 use Rattle.pk_join.proofs.ComeLemmas.{come_stays, same_walk_then, within_same}
+use Rattle.pk_join.proofs.StandLemmas.{all_stay}
+use Rattle.pk_join.proofs.WholeLemmas.{pass_known, pass_then}
 use Rattle.pk_model.specs.Terms.{terms_of}
 use Rattle.pk_posting.specs.Spelling.{spelling as list_spelling}
 use Rattle.pk_segment.specs.Indexed.{list_with, lists_of, postings}
 use Rattle.pk_segment.proofs.PlanLemmas.{lists_all, lists_next}
 use Rattle.pk_state.specs.Committed.{live_in}
+use Rattle.pk_merge.specs.Apart.{WalksApart}
 use Rattle.pk_merge.specs.Output.{AreGiven}
-use Rattle.pk_merge.proofs.GivenLemmas.{all_mid, are_given_all, are_given_read, are_given_then, err_given, is_given_read, is_given_then, lists_within, same_bytes, well}
+use Rattle.pk_merge.proofs.GivenLemmas.{all_mid, are_given_all, are_given_read, are_given_then, err_given, inputs_stay, is_given_read, is_given_then, lists_within, same_bytes, well}
 use Rattle.pk_merge.proofs.StreamLemmas.{apart_there}
+use Rattle.pk_merge.proofs.writing.write_lists.Given as given
 use Rattle.pk_merge.proofs.writing.write_lists.Goals as goal
+use Rattle.pk_merge.proofs.writing.write_lists.Goals.{After-go_on}
 
 pub returns-in_err-write_list-clause-bytes : goal.returns-in_err-write_list-clause-bytes
 returns-in_err-write_list-clause-bytes g c = λ honest inputs stored start apart enough room.
@@ -39,6 +48,31 @@ returns-in_err-write_list-clause-bytes g c = λ honest inputs stored start apart
     (postings docs) c.from_residual-in_err-write_list.result c.in_err-write_list.field-0.0
     c.from_residual-in_err-write_list.ensures.1 given.undamaged
 
+-- the walk has gone on where the inputs have the bytes that they had
+goes_whole : (g : given.Over) (c : goal.After-go_on g)
+    → WalksWhole g.D.Disk.honest (g.D.Disk.content c.words.disk) c.words.walk c.go_on.new.walk
+    → WalksWhole (g.D.Disk.honest × WalksApart c.args.output.now.start c.args.output.now.end c.args.walk.now)
+    (g.D.Disk.content c.args.disk.now) c.args.walk.now c.go_on.new.walk
+goes_whole g c whole =
+    let start = c.args.output.now.start in
+    let end = c.args.output.now.end in
+    let K = g.D.Disk.honest × WalksApart start end c.args.walk.now in
+    let content = g.D.Disk.content in
+    let is = c.args.walk.now.inputs.items in
+    let js = c.words.walk.inputs.items in
+    let ks = c.go_on.new.walk.inputs.items in
+    let inv = c.words.invariant in
+    let same = c.go_on.ensures.same in
+    pass_then K (content c.args.disk.now) (content c.words.disk) is js ks same.lists same.extents
+    (λ k. inputs_stay (content c.args.disk.now) (content c.words.disk) js start end inv.given.writes.size
+    (inv.given.writes.changed k.0).same
+    (all_stay (λ (z : Input). z.extent)
+    (λ (e : Extent). (start_of e + e.bytes ≤ start) ⊎ (end ≤ start_of e)) is js inv.same.extents k.1))
+    inv.whole (pass_known g.D.Disk.honest K (content c.words.disk) js ks (λ k. k.0) whole)
+
+pub returns-clause-whole : goal.returns-clause-whole
+returns-clause-whole g c = goes_whole g (goal.at.returns-clause-whole g c).After-go_on c.in_ok-go_on.ensures.whole
+
 pub words-preserved : goal.words-preserved
 words-preserved g c =
     let inv = c.words.invariant in
@@ -50,7 +84,7 @@ words-preserved g c =
       given = is_given_then d c.args.disk.now c.go_on.new.disk c.write_list.new.disk c.args.output.now
           c.words.output c.write_list.new.output tt read c.in_ok-write_list.ensures.given;
       same = same_walk_then c.args.walk.now c.words.walk c.go_on.new.walk inv.same c.go_on.ensures.same;
-      inside = λ all. c.in_ok-go_on.ensures.inside (inv.inside all);
+      whole = goes_whole g (goal.at.words-preserved g c).After-go_on c.in_ok-go_on.ensures.whole;
       encoded = omega (arith, c.write_list.auto.encoded, inv.encoded);
       come = λ honest inputs stored start apart enough room.
           let docs = live_in stored in

@@ -2,12 +2,13 @@
 use Rattle.std.proofs.Common.{◌≡◌, ◌≤◌, ◌+◌, List, ℕ, [], Ok, length}
 use Rattle.std.specs.Prelude.{All, Result}
 use Rattle.pk_join.specs.declared.input.MergeInput.{MergeInput}
-use Rattle.pk_join.specs.Inside.{WalkedWithin}
 use Rattle.pk_join.specs.Walk.{HasCome, IsSameWalk, words_to_come}
+use Rattle.pk_join.specs.Whole.{WalksWhole}
 use Rattle.pk_model.specs.Terms.{terms_of}
 use Rattle.pk_posting.specs.Spelling.{spelling as list_spelling}
 use Rattle.pk_replace.specs.declared.stream.StreamFault.{StreamFault}
 use Rattle.pk_segment.specs.Indexed.{list_with, lists_of, postings}
+use Rattle.pk_merge.specs.Apart.{WalksApart}
 use Rattle.pk_merge.specs.Output.{AreGiven, IsGiven, LiesApart}
 use Rattle.pk_state.specs.Committed.{Stored, live_in}
 use Rattle.pk_merge.proofs.writing.write_lists.Given as goal
@@ -25,7 +26,8 @@ invariant-words g l =
     record {
       given : IsGiven disk l.fn.disk l.disk l.fn.output l.output went_well;
       same : IsSameWalk l.fn.walk l.walk;
-      inside : WalkedWithin l.fn.walk → WalkedWithin l.walk;
+      whole : WalksWhole (disk.honest × WalksApart l.fn.output.start l.fn.output.end l.fn.walk)
+          (disk.content l.fn.disk) l.fn.walk l.walk;
       encoded : length l.encoded ≡ length l.fn.encoded;
       come : disk.honest → (inputs : List MergeInput) (stored : List Stored)
           → HasCome (disk.content l.fn.disk) inputs stored l.fn.walk [] (terms_of (live_in stored))

@@ -1,7 +1,7 @@
 use Rattle.std.proofs.Common.{ℕ, List, arith, ap, length, length-drop}
 use Rattle.pk_posting.specs.Parts.{bytes_at}
 use Rattle.pk_posting.proofs.LentLemmas.{length_bytes_at}
-use Rattle.pk_posting.proofs.PartLemmas.{tail_lent, tail_most}
+use Rattle.pk_posting.proofs.PartLemmas.{tail_back, tail_lent, tail_most}
 use Rattle.pk_posting.proofs.ReadingLemmas.{false_is}
 use Rattle.pk_posting.proofs.parts.read_tail_in.Goals as goal
 
@@ -24,3 +24,11 @@ returns-clause-spelled g c h ys t =
     let own = tail_lent (g.S.ByteSource.content c.args.source.now) c.args.place _ c.args.tail c.in_ok-stretch.stretch.now c.args.before c.args.count ys c.requires.lies.inside (omega arith)
     (record { inside = omega arith; is = c.in_ok-stretch.ensures.value h }) t in
     (c.take_tail.ensures.only ys own).1
+
+pub returns-clause-value : goal.returns-clause-value
+returns-clause-value g c h =
+    tail_back (g.S.ByteSource.content c.args.source.now) c.args.place _ c.args.tail c.in_ok-stretch.stretch.now c.args.before c.args.count _ c.requires.lies.inside (omega arith)
+    (record { inside = omega arith; is = c.in_ok-stretch.ensures.value h }) (c.take_tail.ensures.is c.if-not-take_tail.false)
+
+pub returns-clause-climbs : goal.returns-clause-climbs
+returns-clause-climbs g c is = (c.take_tail.ensures.is c.if-not-take_tail.false).climbs

@@ -1,8 +1,9 @@
-use Rattle.std.proofs.Common.{◌≡◌, ◌+◌, [], ◌∙◌, take, drop, arith, refl}
+use Rattle.std.proofs.Common.{◌≡◌, ◌+◌, [], ◌∙◌, take, drop, arith}
 use Rattle.std.proofs.lemmas.List.{take_rest, take_more_set}
+use Rattle.std.proofs.lemmas.Bool.{eq-eqb, eqb-true}
 use Rattle.pk_vbyte.specs.VariableByte.{Takes}
-use Rattle.pk_posting.proofs.TailLemmas.{tail_none, tail_more, no_next, read_climbs}
-use Rattle.pk_posting.proofs.PartLemmas.{tail_taken}
+use Rattle.pk_posting.proofs.TailLemmas.{tail_none, tail_more, no_next}
+use Rattle.pk_posting.proofs.PartLemmas.{taken_ends, taken_is, tail_taken}
 use Rattle.pk_posting.proofs.parts.take_tail.Goals as goal
 use Rattle.pk_posting.proofs.parts.take_tail.Goals.{then-gap-eq0-via-then-gap-eq0, then-gap-eq0-via-else-gap-eq0+then-gap-here}
 
@@ -33,12 +34,17 @@ loop-i-preserved c =
       read = rw (take_more_set c.loop-i.xs c.loop-i.i (c.loop-i.here + c.in-Ok.gap) (omega arith)) more;
     }
 
-pub returns-clause-climbs : goal.returns-clause-climbs
-returns-clause-climbs c h =
+pub returns-clause-is : goal.returns-clause-is
+returns-clause-is c h =
     let all : c.loop-i.i ≡ c.args.count = omega arith in
-    read_climbs c.args.bytes.now 0 c.args.before c.args.count c.args.count c.loop-i.at c.loop-i.here _ (rw all at c.loop-i.invariant.read)
+    let room = c.loop-i.invariant.room in
+    let ends = eqb-true _ _ h in
+    taken_is c.args.bytes.now c.args.before c.args.count c.loop-i.at c.loop-i.here _ (rw all at c.loop-i.invariant.read) (omega (arith, room, ends))
 
 pub returns-clause-only : goal.returns-clause-only
 returns-clause-only c ys t =
     let all : c.loop-i.i ≡ c.args.count = omega arith in
-    (refl, tail_taken c.args.bytes.now c.args.before c.args.count c.loop-i.at c.loop-i.here _ ys (rw all at c.loop-i.invariant.read) t)
+    let read = rw all at c.loop-i.invariant.read in (
+      eq-eqb _ _ (omega (arith, taken_ends c.args.bytes.now c.args.before c.args.count c.loop-i.at c.loop-i.here _ ys read t)),
+      tail_taken c.args.bytes.now c.args.before c.args.count c.loop-i.at c.loop-i.here _ ys read t,
+    )
