@@ -15,6 +15,9 @@ TERMS = (b"", b"a", b"b", b"ne", b"new", b"newt", b"newts", b"o")
 # The first key that is known, at each place, whatever it is.
 PIVOTS = (0, 1, 0x6161_6162_0000_0000, (1 << 64) - 1)
 
+# How many bytes a cursor reads ahead: too few for a word, some words, and the most.
+AHEAD = (0, 40, 4_096)
+
 # The term that is sought over failing sources, the eighteenth of 33, and its entry.
 SOUGHT, FOUND = b"aaade", "18:85:5"
 
@@ -85,7 +88,8 @@ class Dictionaries(unittest.TestCase):
         self.assertEqual(looked.split(), [wanted for _, wanted in asked])
         self.assertEqual(begun.split(), listing)
         there, amid = f"{NEVER} {place(data, count, 7)}", bytes([9] * 7) + data + bytes([9] * 3)
-        self.assertEqual(over(amid, f"begun-in {there} -")[0].split()[:-2], listing)
+        for line in (f"begun-in {there} -", *(f"passed-in {there} {ahead} -" for ahead in AHEAD)):
+            self.assertEqual(over(amid, line)[0].split()[:-2], listing, line)
         parts = [asked[part::4] for part in range(4)]
         told = each_answered([[f"source {hexed(amid)}", *[
             line for term, _ in part for line in self.ways(there, hexed(term))]] for part in parts])
@@ -123,9 +127,14 @@ class Dictionaries(unittest.TestCase):
                                    ("ab", 500, 1_000), ("aj", 4_500, 5_000),
                                    ("ajjji", 4_999, 5_000), ("ajjjj", 5_000, 5_000),
                                    ("b", 5_000, 5_000), ("A", 0, 0)):
-            told = over(data, f"begun 5000 {hexed(prefix.encode())}")[0].split()
-            wanted = [f"{hexed(terms[i])}:{entry(i)}" for i in range(start, end)]
-            self.assertEqual(told, wanted or ["-"], prefix)
+            sought = hexed(prefix.encode())
+            told = over(data, f"begun 5000 {sought}",
+                        *(f"passed-in {NEVER} {place(data, 5_000)} {ahead} {sought}"
+                          for ahead in AHEAD))
+            wanted = [f"{hexed(terms[i])}:{entry(i)}" for i in range(start, end)] or ["-"]
+            self.assertEqual(told[0].split(), wanted, prefix)
+            for by_cursor in told[1:]:
+                self.assertEqual(by_cursor.split()[:-2], wanted, prefix)
 
 
 class Asking(unittest.TestCase):
@@ -189,7 +198,8 @@ class Damage(unittest.TestCase):
         for data, there in ((DICTIONARY, place(DICTIONARY, 2)), (SEGMENT, IN_SEGMENT)):
             listings = [line for term in TERMS for line in (
                 f"begun 2 {hexed(term)}", f"begun-in {NEVER} {there} {hexed(term)}",
-                f"begun-windows {NEVER} {there} {hexed(term)}")]
+                f"begun-windows {NEVER} {there} {hexed(term)}",
+                *(f"passed-in {NEVER} {there} {ahead} {hexed(term)}" for ahead in AHEAD))]
             near = [line for term in TERMS for way in ("near-in", "near-windows") for line in (
                 f"pivots {listed([1] * 16)}", f"{way} {NEVER} {there} {hexed(term)}")]
             asked = [line for damaged in made.damages(data) for line in (
@@ -202,7 +212,7 @@ class Damage(unittest.TestCase):
         """A line about a dictionary is answered by entries, by none, or by damage."""
         name = words[0]
         told = told[:len(told) - {"in": 2, "windows": 3}.get(name.partition("-")[2], 0)]
-        if name.startswith("begun"):
+        if name.startswith(("begun", "passed")):
             self.assertTrue(told in (["-"], ["damaged"]) or len(told) <= 2
                             and all(item.count(":") == 3 for item in told), words)
         elif name not in ("source", "pivots"):
@@ -248,12 +258,14 @@ class Failing(unittest.TestCase):
 
     def test_a_failed_read_of_a_list(self):
         """Five of the words begin with `aaad`."""
-        line = f"begun-in {{}} {self.there} {hexed(b'aaad')}"
-        clean = over(self.data, line.format(NEVER))[0].split()
-        self.assertEqual(len(clean) - 2, 5)
-        for passes in range(int(clean[-2])):
-            told = over(self.data, line.format(passes))[0].split()
-            self.assertEqual((told[0], told[-1]), ("disk", "1"))
+        sought = hexed(b"aaad")
+        for line in (f"begun-in {{}} {self.there} {sought}",
+                     *(f"passed-in {{}} {self.there} {ahead} {sought}" for ahead in AHEAD)):
+            clean = over(self.data, line.format(NEVER))[0].split()
+            self.assertEqual(len(clean) - 2, 5)
+            for passes in range(int(clean[-2])):
+                told = over(self.data, line.format(passes))[0].split()
+                self.assertEqual((told[0], told[-1]), ("disk", "1"))
 
     def test_a_failed_read_of_a_window(self):
         """What a failed call leaves in a window is not lent."""

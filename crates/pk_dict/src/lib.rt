@@ -27,6 +27,9 @@
 //! - [`Dict`] reads a dictionary in memory; [`look_up_in`] and [`entries_in`] read one that lies
 //!   in a source, by short stretches. Both go by the same steps: a slice is a source that lends
 //!   itself.
+//! - [`TermCursor`] goes through the words of one that lies in a source, each with its entry, and
+//!   [`PrefixCursor`] through those that begin with a prefix. Each holds one word and as many bytes
+//!   as its caller lets it read ahead, and is handed the source at each call.
 //! - [`Windows`] are a source over a source with two buffers, one for the offsets and one for the
 //!   groups. They read 128 bytes at once, so few of the stretches of a look-up reach what lies
 //!   below.
@@ -35,17 +38,20 @@
 //! it: a number that ends too early or is too large, a part past the end, a term that keeps more
 //! than the one before has, or that shares less than the order allows. Not each such byte is
 //! seen, since a look-up reads only what it needs; every call returns. What is answered is a
-//! function of the bytes, whatever they are (`look_up_at`, `entries_at`): Ok exactly where it says
-//! so, Damaged exactly where it meets damage. A refusal leaves nothing changed, and any call may
-//! follow.
+//! function of the bytes, whatever they are (`look_up_at`, `entries_at`, `word_at`): Ok exactly
+//! where it says so, Damaged exactly where it meets damage. A refusal leaves nothing changed, and
+//! any call may follow; but a cursor answers the fault that it met from then on.
 //!
 //! The words of the contracts are in `specs`: `Dictionary` has the format, `Writer` what was
-//! added, `LookUp` and `Entries` what any bytes say of a term and of a prefix, `Dict` the same of a
-//! slice, `Windows` what windows hold, `Place` and `Source` what a source has to do with it,
-//! `Reading`, `Scan` and `Search` what each private step finds.
+//! added, `LookUp`, `Entries` and `Words` what any bytes say of a term, of a prefix and of the word
+//! that comes next, `Dict` the same of a slice, `Cursor` and `Prefix` where cursors stand and what
+//! they have left, `Windows` what windows hold, `Place` and `Source` what a source has to do with
+//! it, `Reading`, `Scan` and `Search` what each private step finds.
 #![tactic(auto)]
 
+pub(crate) mod ahead;
 pub(crate) mod compare;
+pub mod cursor;
 pub mod dict;
 pub mod entries;
 pub mod entry;
@@ -54,13 +60,17 @@ pub(crate) mod head;
 pub mod laws;
 pub mod look_up;
 pub(crate) mod near;
+pub mod prefix;
+pub(crate) mod seeking;
 pub(crate) mod steps;
 pub mod windows;
 pub mod writer;
 
+pub use cursor::TermCursor;
 pub use dict::Dict;
 pub use entries::entries_in;
 pub use entry::{DictFault, DictPlace, EntriesFault, Entry};
 pub use look_up::{look_up_in, look_up_near};
+pub use prefix::PrefixCursor;
 pub use windows::Windows;
 pub use writer::DictWriter;

@@ -1,10 +1,14 @@
 //! Dictionaries of terms, by every way of reading.
 
+ghost use Rattle.std.specs.Prelude.{◌≤◌};
+ghost use Rattle.pk_posting.specs.Limits.{most_lent};
+
 use crate::failing::Failing;
 use crate::told::{Fault, Told};
 use crate::words::{Words, bytes_of, halves, number};
 use pk_dict::{
-    Dict, DictPlace, DictWriter, EntriesFault, Entry, Windows, entries_in, look_up_in, look_up_near,
+    Dict, DictPlace, DictWriter, EntriesFault, Entry, PrefixCursor, Windows, entries_in,
+    look_up_in, look_up_near,
 };
 use pk_posting::{ByteSource, ListPlace, MOST_LENT, SourceFault};
 use std::alloc::{AllocError, Global};
@@ -136,6 +140,46 @@ fn tell_begun_in<S: ByteSource>(
     Ok(())
 }
 
+/// The entries of a prefix in a source, one by one by a cursor that reads so many bytes ahead.
+fn passed<S: ByteSource>(
+    alloc: Global,
+    source: &mut S,
+    place: DictPlace,
+    ahead: u32,
+    prefix: &[u8],
+) -> Result<Vec<(Vec<u8>, Entry)>, EntriesFault>
+    requires { ahead ≤ most_lent }
+{
+    if u64::from(source.len()) < u64::from(place.at) + u64::from(place.bytes) {
+        return Err(EntriesFault::Damaged);
+    }
+    let mut cursor = PrefixCursor::open(alloc, place, ahead, prefix);
+    let mut found = Vec::new(alloc);
+    'entries: while let Some(entry) = cursor.next(source)? {
+        let word = Vec::from_slice(alloc, cursor.word())?;
+        let Ok(()) = found.push((word, entry)) else {
+            return Err(EntriesFault::Memory);
+        };
+    }
+    Ok(found)
+}
+
+/// Tells these entries.
+fn tell_passed<S: ByteSource>(
+    source: &mut S,
+    place: DictPlace,
+    words: &mut Words<'_>,
+    told: &mut Told,
+) -> Result<(), AllocError> {
+    let ahead = words.number().min(MOST_LENT as u32);
+    match passed(words.alloc(), source, place, ahead, &words.bytes()?) {
+        Ok(entries) => told.entries(&entries),
+        Err(EntriesFault::Memory) => return Err(AllocError),
+        Err(fault) => told.fault(Fault::from(fault)),
+    }
+    Ok(())
+}
+
 /// What a dictionary in a source is asked by a name.
 pub(crate) fn tell_in(
     name: &str,
@@ -149,6 +193,7 @@ pub(crate) fn tell_in(
     match name {
         "look-in" => tell_each(&mut source, place, *words, told)?,
         "near-in" => tell_each_near(&mut source, place, pivots, *words, told)?,
+        "passed-in" => tell_passed(&mut source, place, words, told)?,
         _ => tell_begun_in(&mut source, place, words, told)?,
     }
     source.tell(told);

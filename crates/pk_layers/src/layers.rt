@@ -67,6 +67,7 @@ impl Layers {
             | "look-in"
             | "near-in"
             | "begun-in"
+            | "passed-in"
             | "look-windows"
             | "near-windows"
             | "begun-windows"
@@ -119,7 +120,7 @@ impl Layers {
             "blocks" => tell_blocks(self.alloc, source, &self.other, words, told),
             "look" => tell_looked_up(self.alloc, source, words, told),
             "begun" => tell_begun(self.alloc, source, words, told),
-            "look-in" | "near-in" | "begun-in" => {
+            "look-in" | "near-in" | "begun-in" | "passed-in" => {
                 tell_in(name, source, &mut self.pivots, words, told)
             }
             "look-windows" | "near-windows" | "begun-windows" => {

@@ -38,6 +38,8 @@
 //! - `look-in PASSES AT BYTES TERMS TERM ..`, also `near-in`: entries of one in a source, also by
 //!   pivots
 //! - `begun-in PASSES AT BYTES TERMS PREFIX`: those of a prefix
+//! - `passed-in PASSES AT BYTES TERMS AHEAD PREFIX`: the same by a cursor that reads so many bytes
+//!   ahead
 //! - `look-windows ..`, `near-windows ..`, `begun-windows ..`: the same by windows, and how often
 //!   these were asked
 //! - `pivots KEYS`: the table that look-ups by pivots go by and fill

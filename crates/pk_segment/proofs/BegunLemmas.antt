@@ -1,5 +1,5 @@
 -- For crates above: the words that begin with a prefix, as the dictionary of documents has them.
-use Rattle.std.proofs.Common.{◌≡◌, ◌∙◌, ◌<◌, ◌||◌, ℕ, zero, suc, Bool, true, false, true≢false, cond, Less, List, [], ◌∷◌, length, get_or, Result, Ok, Err, Some, refl, sym, ap, subst, arith}
+use Rattle.std.proofs.Common.{◌≡◌, ◌∙◌, ◌<◌, ◌||◌, ℕ, Bool, true, false, true≢false, cond, Less, List, [], ◌∷◌, length, Result, Ok, Err, Some, refl, sym, ap, subst}
 use Rattle.std.specs.Cmp.Lexicographic.{slice_cmp}
 use Rattle.std.specs.Global.{Vec}
 use Rattle.std.specs.List.{AllByRecursion, list_any}
@@ -11,7 +11,6 @@ use Rattle.std.proofs.lemmas.Slice.Eq.{bytes_eq-Decides}
 use Rattle.pk_dict.specs.declared.entry.Entry.{Entry}
 use Rattle.pk_dict.specs.Dictionary.{Item, entry_of, items_with_prefix}
 use Rattle.pk_dict.specs.Dictionary.{terms_of as item_terms}
-use Rattle.pk_dict.specs.Entries.{item_from, items_from}
 use Rattle.pk_model.specs.Collection.{Doc}
 use Rattle.pk_model.specs.Terms.{terms_of}
 use Rattle.pk_model.specs.Tree.{begins_with}
@@ -53,7 +52,8 @@ items_lead docs =
     each_leads docs (items_of docs) (entries_own (items_of docs) rise)
 
 -- ---- THOSE that begin so
-abbrev LeadsBegun : List Doc → List ℕ → Item → Type 0
+-- a word leads to its list, and begins so
+abbrev pub LeadsBegun : List Doc → List ℕ → Item → Type 0
 LeadsBegun docs prefix x = LeadsTo docs x.term x.entry × (begins_with prefix x.term ≡ true)
 
 kept_head : (docs : List Doc) (prefix : List ℕ) (x : Item) (xs : List Item) (b : Bool) → begins_with prefix x.term ≡ b → Leads docs x → AllByRecursion (LeadsBegun docs prefix) xs
@@ -65,17 +65,9 @@ kept_lead : (docs : List Doc) (prefix : List ℕ) (xs : List Item) → AllByRecu
 kept_lead docs prefix [] all = tt
 kept_lead docs prefix (x ∷ xs) all = kept_head docs prefix x (items_with_prefix prefix xs) (begins_with prefix x.term) refl all.0 (kept_lead docs prefix xs all.1)
 
-at : (docs : List Doc) (prefix : List ℕ) (terms : List (Vec ℕ × Entry)) → AllByRecursion (LeadsBegun docs prefix) (items_from terms) → (i : ℕ) (e : Vec ℕ × Entry) → i < length terms → e ≡ get_or terms i e
-    → LeadsBegun docs prefix (item_from e)
-at docs prefix [] all i e l is = absurd (omega arith)
-at docs prefix (t ∷ terms) all zero e l is = subst (λ (x : Vec ℕ × Entry). LeadsBegun docs prefix (item_from x)) (sym is) all.0
-at docs prefix (t ∷ terms) all (suc i) e l is = at docs prefix terms all.1 i e (omega arith) is
-
--- a word at its place leads to its list, and begins so
-pub begun_at : (docs : List Doc) (prefix : List ℕ) (terms : List (Vec ℕ × Entry)) → items_from terms ≡ items_with_prefix prefix (items_of docs) → (i : ℕ) (e : Vec ℕ × Entry) → i < length terms → e ≡ get_or terms i e
-    → LeadsTo docs e.0.items e.1 × (begins_with prefix e.0.items ≡ true)
-begun_at docs prefix terms same i e l is =
-    at docs prefix terms (subst (λ (xs : List Item). AllByRecursion (LeadsBegun docs prefix) xs) (sym same) (kept_lead docs prefix (items_of docs) (items_lead docs))) i e l is
+-- the words that begin so lead to their lists
+pub begun_lead : (docs : List Doc) (prefix : List ℕ) → AllByRecursion (LeadsBegun docs prefix) (items_with_prefix prefix (items_of docs))
+begun_lead docs prefix = kept_lead docs prefix (items_of docs) (items_lead docs)
 
 or_right : (a b : Bool) → b ≡ true → (a || b) ≡ true
 or_right true b e = refl
@@ -93,13 +85,7 @@ any_kept : (prefix word : List ℕ) → begins_with prefix word ≡ true → (xs
 any_kept prefix word e [] h = h
 any_kept prefix word e (x ∷ xs) h = any_kept_head prefix word e x xs (bytes_eq word x.term) (begins_with prefix x.term) refl refl h (any_kept prefix word e xs)
 
-any_from : (word : List ℕ) (terms : List (Vec ℕ × Entry)) → list_any (bytes_eq word) (item_terms (items_from terms)) ≡ list_any (λ (e : Vec ℕ × Entry). bytes_eq word e.0.items) terms
-any_from word [] = refl
-any_from word (t ∷ terms) = ap (λ b. bytes_eq word t.0.items || b) (any_from word terms)
-
 -- a word that a document has, and that begins so, is among them
-pub begun_every : (docs : List Doc) (prefix : List ℕ) (terms : List (Vec ℕ × Entry)) → items_from terms ≡ items_with_prefix prefix (items_of docs) → (word : List ℕ) → begins_with prefix word ≡ true → 0 < length (list_with word docs)
-    → list_any (λ (e : Vec ℕ × Entry). bytes_eq word e.0.items) terms ≡ true
-begun_every docs prefix terms same word begins some =
-    let there : list_any (bytes_eq word) (item_terms (items_of docs)) ≡ true = ap (list_any (bytes_eq word)) (items_words docs 0 (terms_of docs)) ∙ term_has word docs some in
-    sym (any_from word terms) ∙ ap (λ (xs : List Item). list_any (bytes_eq word) (item_terms xs)) same ∙ any_kept prefix word begins (items_of docs) there
+pub begun_every : (docs : List Doc) (prefix word : List ℕ) → begins_with prefix word ≡ true → 0 < length (list_with word docs) → list_any (bytes_eq word) (item_terms (items_with_prefix prefix (items_of docs))) ≡ true
+begun_every docs prefix word begins some =
+    any_kept prefix word begins (items_of docs) (ap (list_any (bytes_eq word)) (items_words docs 0 (terms_of docs)) ∙ term_has word docs some)

@@ -1,0 +1,79 @@
+-- The group that was chosen, and then word by word.
+use Rattle.std.proofs.Common.{sym, ap, subst, ◌∙◌, ◌≡◌, ◌+◌, ℕ, List}
+use Rattle.pk_dict.specs.Cursor.{Comes, HoldsOf, ReadsAhead, StandsAt}
+use Rattle.pk_dict.specs.Order.{less}
+use Rattle.pk_dict.specs.Place.{bytes_at}
+use Rattle.pk_dict.specs.Reading.{IsPieceAt}
+use Rattle.pk_dict.proofs.Sought.{passing_first, passing_more, spent_all, spent_first, spent_found, spent_more}
+use Rattle.pk_dict.proofs.cursor.TermCursor.find.Goals as goal
+
+pub loop-self-init : goal.loop-self-init
+loop-self-init g c =
+    let left = c.in_ok-start.ensures.left in
+    record {
+      same = left.same;
+      size = left.size;
+      kept = left.kept;
+      failures = left.faults.ok;
+      place = c.begin.ensures.place;
+      ahead = c.begin.ensures.ahead;
+      fault = c.begin.ensures.fault;
+      holds = λ h held. subst (λ x. IsPieceAt (bytes_at (g.S.ByteSource.content c.args.source.now) c.args.self.now.place) x.from x.bytes.items) (sym c.begin.ensures.held) held;
+      at = λ h es n k.
+          let b = c.in_ok-start.ensures.at h es k.spells k.count in
+          passing_first _ c.begin.new.self es c.args.word.now c.in_ok-start.start.group c.in_ok-start.start.at (c.begin.ensures.at _ c.args.word.now es n k b) b;
+      asks = λ h es n k j m few short.
+          let b = c.in_ok-start.ensures.at h es k.spells k.count in
+          spent_first _ es c.args.word.now c.begin.new.self _ _ (6 + m) c.in_ok-start.start.group c.in_ok-start.start.at c.begin.ensures.read b (c.in_ok-start.ensures.asks j few);
+    }
+
+pub loop-self-preserved : goal.loop-self-preserved
+loop-self-preserved g c =
+    let left = c.in_ok-advance.ensures.left in
+    let before = c.loop-self.self in
+    let after = c.advance.new.self in
+    let i = c.loop-self.invariant in
+    record {
+      same = λ h. left.same h ∙ i.same h;
+      size = left.size ∙ i.size;
+      kept = g.met.S.ByteSource.keeps_then _ _ _ i.kept left.kept;
+      failures = left.faults.ok ∙ i.failures;
+      place = c.in_ok-advance.ensures.place ∙ i.place;
+      ahead = subst (λ (m : ℕ). ReadsAhead m after) i.ahead.0 c.in_ok-advance.ensures.ahead;
+      fault = c.in_ok-advance.ensures.fault ∙ i.fault;
+      holds = λ h held.
+          let bytes : bytes_at (g.S.ByteSource.content c.loop-self.source) before.place ≡ bytes_at (g.S.ByteSource.content c.args.source.now) c.args.self.now.place = ap (bytes_at (g.S.ByteSource.content c.loop-self.source)) i.place ∙ ap (λ (l : List ℕ). bytes_at l c.args.self.now.place) (i.same h) in
+          subst (λ (b : List ℕ). HoldsOf b after) bytes (c.in_ok-advance.ensures.holds h (subst (λ (b : List ℕ). HoldsOf b before) (sym bytes) (i.holds h held)));
+      at = λ h es n k.
+          let p = i.at h es n k in
+          let bytes : bytes_at (g.S.ByteSource.content c.loop-self.source) before.place ≡ bytes_at (g.S.ByteSource.content c.args.source.now) c.args.self.now.place = ap (bytes_at (g.S.ByteSource.content c.loop-self.source)) i.place ∙ ap (λ (l : List ℕ). bytes_at l c.args.self.now.place) (i.same h) in
+          let s = subst (λ (b : List ℕ). StandsAt b after es (before.read + 1)) bytes (c.in_ok-advance.ensures.at h es before.read (subst (λ (b : List ℕ). Comes b before es before.read) (sym bytes) p.comes)) in
+          passing_more _ before after es c.args.word.now p s c.in_ok-advance.ensures.read (ap (λ (l : List ℕ). less l c.args.word.now) (sym c.deref.ensures.value) ∙ sym c.is_less.ensures ∙ c.if-not-is_less.false);
+      asks = λ h es n k j m few short.
+          let p = i.at h es n k in
+          let bytes : bytes_at (g.S.ByteSource.content c.loop-self.source) before.place ≡ bytes_at (g.S.ByteSource.content c.args.source.now) c.args.self.now.place = ap (bytes_at (g.S.ByteSource.content c.loop-self.source)) i.place ∙ ap (λ (l : List ℕ). bytes_at l c.args.self.now.place) (i.same h) in
+          let s = subst (λ (b : List ℕ). StandsAt b after es (before.read + 1)) bytes (c.in_ok-advance.ensures.at h es before.read (subst (λ (b : List ℕ). Comes b before es before.read) (sym bytes) p.comes)) in
+          spent_more _ es c.args.word.now before after _ _ _ m (i.asks h es n k j m few short) s c.in_ok-advance.ensures.read (ap (λ (l : List ℕ). less l c.args.word.now) (sym c.deref.ensures.value) ∙ sym c.is_less.ensures ∙ c.if-not-is_less.false) short (c.in_ok-advance.ensures.asks h);
+    }
+
+pub returns-then-not-is_less-clause-asks : goal.returns-then-not-is_less-clause-asks
+returns-then-not-is_less-clause-asks g c h es n k j m few short =
+    let before = c.loop-self.self in
+    let after = c.advance.new.self in
+    let i = c.loop-self.invariant in
+    let p = i.at h es n k in
+    let bytes : bytes_at (g.S.ByteSource.content c.loop-self.source) before.place ≡ bytes_at (g.S.ByteSource.content c.args.source.now) c.args.self.now.place = ap (bytes_at (g.S.ByteSource.content c.loop-self.source)) i.place ∙ ap (λ (l : List ℕ). bytes_at l c.args.self.now.place) (i.same h) in
+    let s = subst (λ (b : List ℕ). StandsAt b after es (before.read + 1)) bytes (c.in_ok-advance.ensures.at h es before.read (subst (λ (b : List ℕ). Comes b before es before.read) (sym bytes) p.comes)) in
+    spent_found _ es c.args.word.now before after _ _ _ m (i.asks h es n k j m few short) s short (c.in_ok-advance.ensures.asks h)
+
+pub returns-in_err-advance-clause-ahead : goal.returns-in_err-advance-clause-ahead
+returns-in_err-advance-clause-ahead g c = subst (λ (m : ℕ). ReadsAhead m c.advance.new.self) c.loop-self.invariant.ahead.0 c.in_err-advance.ensures.ahead
+
+pub returns-then-not-is_less-clause-ahead : goal.returns-then-not-is_less-clause-ahead
+returns-then-not-is_less-clause-ahead g c = subst (λ (m : ℕ). ReadsAhead m c.advance.new.self) c.loop-self.invariant.ahead.0 c.in_ok-advance.ensures.ahead
+
+pub returns-clause-ahead : goal.returns-clause-ahead
+returns-clause-ahead g c = c.loop-self.invariant.ahead
+
+pub returns-clause-asks : goal.returns-clause-asks
+returns-clause-asks g c h es n k j m few short = spent_all es c.args.word.now c.loop-self.self _ _ m (c.loop-self.invariant.asks h es n k j m few short)

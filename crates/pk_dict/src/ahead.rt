@@ -1,0 +1,176 @@
+//! Words made of what was read ahead of a dictionary, or where that is too short of the source.
+
+ghost use Rattle.std.specs.Prelude.{◌≡◌, ◌≤◌, ◌<◌, ◌+◌, ◌^◌, ℕ, List, length, Ok, None};
+ghost use Rattle.std.specs.Prelude.{IfOk, IfErr, IfSome, OnOk};
+ghost use Rattle.pk_dict.specs.Entries.{IsListed, TermGives};
+ghost use Rattle.pk_dict.specs.Place.{LiesIn, bytes_at};
+ghost use Rattle.pk_dict.specs.Reading.{IsPieceAt};
+ghost use Rattle.pk_dict.specs.Words.{word_at};
+ghost use Rattle.pk_posting.specs.Limits.{asks_for, most_lent};
+
+use crate::compare::is_less;
+use crate::entries::next_term;
+use crate::entry::{DictPlace, EntriesFault, Entry};
+use crate::near::{head_in, number_in};
+use pk_posting::ByteSource;
+use std::alloc::{AllocError, Global};
+use std::vec::Vec;
+
+/// Where a word stands.
+#[derive(Clone, Copy)]
+pub(crate) struct Spot {
+    /// How many words stand before it.
+    pub(crate) index: u32,
+    /// The place in the dictionary of its first byte.
+    pub(crate) at: u32,
+}
+
+/// What was read last of a dictionary.
+#[derive(Drop)]
+pub(crate) struct Held {
+    // The bytes, and the place in the dictionary of the first of them.
+    pub(crate) bytes: Vec<u8>,
+    pub(crate) from: u32,
+    // How many are read at once, at most.
+    pub(crate) most: u32,
+    ghost short: { from + length bytes.items < 2 ^ 32 },
+    ghost few: { length bytes.items ≤ most },
+    ghost lent: { most ≤ most_lent },
+}
+
+impl Held {
+    // Nothing yet.
+    pub(crate) fn new(alloc: Global, most: u32) -> Held
+        requires { most ≤ most_lent }
+        ensures bytes { length result.bytes.items ≡ 0 }
+        ensures from { result.from ≡ 0 }
+        ensures most { result.most ≡ most }
+    {
+        Held {
+            bytes: Vec::new(alloc),
+            from: 0,
+            most,
+        }
+    }
+
+    // Reads from a place on, up to the end of the dictionary at most.
+    fn read<S: ByteSource>(
+        &mut self,
+        source: &mut S,
+        place: DictPlace,
+        at: u32,
+    ) -> Result<(), EntriesFault>
+        requires lies { LiesIn place (length (S.content source.old)) }
+        requires inside { at ≤ place.bytes }
+        ensures value { S.honest → OnOk result
+            (IsPieceAt (bytes_at (S.content source.old) place) self.new.from self.new.bytes.items) }
+        ensures most { self.new.most ≡ self.old.most }
+        ensures fault { IfErr result (λ e. e ≡ EntriesFault.Damaged → ⊥) }
+        ensures left { IsListed S.honest S.content S.failures S.keeps result source.old source.new }
+        ensures asks { S.asked source.new ≤ S.asked source.old + 1 }
+    {
+        self.bytes.clear();
+        self.from = at;
+        let piece = source.bytes(place.at + at, (place.bytes - at).min(self.most))?;
+        self.bytes.extend_from_slice(piece)?;
+        Ok(())
+    }
+
+    // The word that stands there, made of the one before: what is said of it, and the place after
+    // it. None where what is held has not all of it, or damage; then the word before stays.
+    #[tactic(auto, unfolding(crate::specs::Words::word_at, crate::specs::Entries::term_at))]
+    fn word(&self, spot: Spot, word: &mut Vec<u8>) -> Result<Option<(Entry, u32)>, AllocError>
+        ensures value { (bytes : List ℕ) → IsPieceAt bytes self.now.from self.now.bytes.items
+            → IfOk result (λ found. IfSome found (λ r. word_at bytes spot.index word.old.items spot.at
+            ≡ Ok (word.new.items, r.0, r.1))) }
+        ensures none { result ≡ Ok None → word.new ≡ word.old }
+    {
+        let Spot { index, at } = spot;
+        let piece = self.bytes.as_slice();
+        let start = self.from;
+        if at < start {
+            return Ok(None);
+        }
+        let (kept, after) = if index % 16 == 0 {
+            (0, at)
+        } else {
+            match number_in(piece, start, at) {
+                Some(number) => number,
+                None => return Ok(None),
+            }
+        };
+        let Some(head) = head_in(piece, start, after) else {
+            return Ok(None);
+        };
+        let kept = kept as usize;
+        if word.len() < kept {
+            return Ok(None);
+        }
+        let from = (head.rest - start) as usize;
+        let rest = &piece[from..from + head.size as usize];
+        if index > 0 && !is_less(&word[kept..], rest) {
+            return Ok(None);
+        }
+        word.truncate(kept);
+        word.extend_from_slice(rest)?;
+        Ok(Some((head.entry, head.next)))
+    }
+}
+
+// The same, read from the source part by part.
+#[tactic(auto, unfolding(crate::specs::Words::word_at))]
+fn far_word<S: ByteSource>(
+    source: &mut S,
+    place: DictPlace,
+    spot: Spot,
+    word: &mut Vec<u8>,
+) -> Result<(Entry, u32), EntriesFault>
+    requires { LiesIn place (length (S.content source.old)) }
+    ensures value { S.honest → TermGives result word.new.items
+        (word_at (bytes_at (S.content source.old) place) spot.index word.old.items spot.at) }
+    ensures left { IsListed S.honest S.content S.failures S.keeps result source.old source.new }
+    ensures asks { S.honest → OnOk result (S.asked source.new
+        ≤ S.asked source.old + 5 + asks_for (length word.new.items)) }
+{
+    let Spot { index, at } = spot;
+    let before = Vec::from_slice(*word.allocator(), word)?;
+    let (entry, next) = next_term(source, place, index % 16 == 0, at, word)?;
+    if index > 0 && !is_less(&before, word) {
+        return Err(EntriesFault::Damaged);
+    }
+    Ok((entry, next))
+}
+
+/// The word that stands there, made of the one before: what is said of it, and the place after it.
+pub(crate) fn next_word<S: ByteSource>(
+    source: &mut S,
+    place: DictPlace,
+    spot: Spot,
+    held: &mut Held,
+    word: &mut Vec<u8>,
+) -> Result<(Entry, u32), EntriesFault>
+    requires lies { LiesIn place (length (S.content source.old)) }
+    ensures value { S.honest
+        → IsPieceAt (bytes_at (S.content source.old) place) held.old.from held.old.bytes.items
+        → TermGives result word.new.items
+        (word_at (bytes_at (S.content source.old) place) spot.index word.old.items spot.at) }
+    ensures held { S.honest
+        → IsPieceAt (bytes_at (S.content source.old) place) held.old.from held.old.bytes.items
+        → OnOk result
+        (IsPieceAt (bytes_at (S.content source.old) place) held.new.from held.new.bytes.items) }
+    ensures most { held.new.most ≡ held.old.most }
+    ensures left { IsListed S.honest S.content S.failures S.keeps result source.old source.new }
+    ensures asks { S.honest → OnOk result (S.asked source.new
+        ≤ S.asked source.old + 6 + asks_for (length word.new.items)) }
+{
+    if let Some(found) = held.word(spot, word)? {
+        return Ok(found);
+    }
+    if spot.at <= place.bytes {
+        held.read(source, place, spot.at)?;
+        if let Some(found) = held.word(spot, word)? {
+            return Ok(found);
+        }
+    }
+    far_word(source, place, spot, word)
+}

@@ -1,0 +1,276 @@
+//! A cursor over a dictionary: its words one by one, each with its entry.
+
+ghost use Rattle.std.specs.Prelude.{◌≡◌, ◌≤◌, ◌<◌, ◌+◌, ◌*◌, ◌^◌, ◌↔◌, ℕ, List, length};
+ghost use Rattle.std.specs.Prelude.{None, Some, Ok, Err, true};
+ghost use Rattle.std.specs.Prelude.{IfErr, IfOk, IfSome, IsErrOf, IsOk, IsTrue, MatchResult, OnOk};
+ghost use Rattle.std.specs.List.{AllByRecursion};
+ghost use Rattle.pk_dict.specs.Dictionary.{DictSpells, Item, group_count};
+ghost use Rattle.pk_dict.specs.Entries.{IsListed};
+ghost use Rattle.pk_dict.specs.Order.{less};
+ghost use Rattle.pk_dict.specs.Place.{LiesIn, bytes_at};
+ghost use Rattle.pk_posting.specs.Limits.{asks_for, most_lent};
+
+use crate::ahead::{Held, Spot, next_word};
+use crate::compare::is_less;
+use crate::entry::{DictPlace, EntriesFault, Entry};
+use crate::head::GroupStart;
+use crate::look_up::groups_of;
+use crate::seeking::first_start;
+use pk_posting::{ByteSource, ListPlace};
+use std::alloc::Global;
+use std::vec::Vec;
+
+/// A place among the words of a dictionary that lies in a source. It owns nothing of the source,
+/// which is handed to each call that reads: so one source serves any number of cursors. It holds
+/// one word, and what was read ahead.
+#[derive(Drop)]
+pub struct TermCursor {
+    // Where the dictionary lies.
+    pub(crate) place: DictPlace,
+    // How many words were passed, and where the next one stands.
+    pub(crate) read: u32,
+    pub(crate) at: u32,
+    // The word that was passed last, and its entry.
+    pub(crate) word: Vec<u8>,
+    pub(crate) entry: Entry,
+    pub(crate) held: Held,
+    // What is answered from now on.
+    pub(crate) fault: Option<EntriesFault>,
+    ghost order: { read ≤ place.terms },
+}
+
+impl TermCursor {
+    ghost use Rattle.pk_dict.specs.Cursor.{BeginsAt, Comes, HasRead, HoldsOf, IsBroken, IsNext};
+    ghost use Rattle.pk_dict.specs.Cursor.{IsSought, ReadsAhead, StandsAt, words_left};
+
+    /// A cursor before the first word of a dictionary, which reads so many bytes ahead at once. It
+    /// reads nothing and takes no memory yet.
+    pub fn open(alloc: Global, place: DictPlace, ahead: u32) -> TermCursor
+        requires { ahead ≤ most_lent }
+        ensures place { result.place ≡ place }
+        ensures at { (bytes : List ℕ) (es : List Item) → DictSpells bytes es
+            → length es ≡ place.terms → StandsAt bytes result es 0 }
+        ensures holds { (bytes : List ℕ) → HoldsOf bytes result }
+        ensures ahead { ReadsAhead ahead result }
+        ensures sound { result.fault ≡ None }
+    {
+        TermCursor {
+            place,
+            read: 0,
+            at: 4 * groups_of(place.terms),
+            word: Vec::new(alloc),
+            entry: Entry {
+                frequency: 0,
+                place: ListPlace { at: 0, bytes: 0 },
+            },
+            held: Held::new(alloc, ahead),
+            fault: None,
+        }
+    }
+
+    /// The word that was passed last; no bytes before the first.
+    pub fn word(&self) -> &[u8]
+        ensures { result.now ≡ self.now.word.items }
+    {
+        self.word.as_slice()
+    }
+
+    /// The entry of that word.
+    pub fn entry(&self) -> Entry
+        ensures { result ≡ self.now.entry }
+    {
+        self.entry
+    }
+
+    /// Passes the next word, and says whether there was one. After a fault it answers that fault.
+    pub fn next<S: ByteSource>(&mut self, source: &mut S) -> Result<bool, EntriesFault>
+        requires lies { LiesIn self.old.place (length (S.content source.old)) }
+        ensures at { S.honest → (es : List Item) (n : ℕ)
+            → StandsAt (bytes_at (S.content source.old) self.old.place) self.old es n
+            → MatchResult result
+            (IsNext (bytes_at (S.content source.old) self.old.place) self.new es n)
+            (λ e. e ≡ EntriesFault.Damaged → ⊥) }
+
+        // Of any bytes.
+        ensures holds { S.honest
+            → HoldsOf (bytes_at (S.content source.old) self.old.place) self.old
+            → OnOk result (HoldsOf (bytes_at (S.content source.old) self.old.place) self.new) }
+        ensures rises { S.honest
+            → HoldsOf (bytes_at (S.content source.old) self.old.place) self.old
+            → result ≡ Ok true → 0 < self.old.read
+            → less self.old.word.items self.new.word.items ≡ true }
+
+        ensures said { S.honest
+            → HoldsOf (bytes_at (S.content source.old) self.old.place) self.old
+            → result ≡ Ok true
+            → HasRead (bytes_at (S.content source.old) self.old.place) self.old self.new }
+        ensures damaged { S.honest
+            → HoldsOf (bytes_at (S.content source.old) self.old.place) self.old
+            → self.old.fault ≡ None → IsErrOf result EntriesFault.Damaged
+            → IsBroken (bytes_at (S.content source.old) self.old.place) self.old }
+        ensures end { IfOk result (λ more. IsTrue more ↔ (0 < words_left self.old)) }
+
+        ensures fewer { IfOk result (λ more. IsTrue more
+            → words_left self.new < words_left self.old) }
+        ensures place { self.new.place ≡ self.old.place }
+        ensures ahead { ReadsAhead self.old.held.most self.new }
+        ensures faults { IfErr result (λ e. self.new.fault ≡ Some e) }
+        ensures sound { IsOk result → self.new.fault ≡ None }
+        ensures size { length (S.content source.new) ≡ length (S.content source.old) }
+        ensures repeats { IfSome self.old.fault
+            (λ e. (result ≡ Err e) × (source.new ≡ source.old)) }
+        ensures left { self.old.fault ≡ None
+            → IsListed S.honest S.content S.failures S.keeps result source.old source.new }
+        ensures asks { S.honest → OnOk result (S.asked source.new
+            ≤ S.asked source.old + 6 + asks_for (length self.new.word.items)) }
+    {
+        if let Some(fault) = self.fault {
+            return Err(fault);
+        }
+        if self.read == self.place.terms {
+            return Ok(false);
+        }
+        match self.advance(source) {
+            Ok(()) => Ok(true),
+            Err(fault) => {
+                self.fault = Some(fault);
+                Err(fault)
+            }
+        }
+    }
+
+    /// Goes to the first word that is not less than another, forward or back, and says whether
+    /// there is one; if not, all words are passed. After a fault it answers that fault.
+    pub fn seek<S: ByteSource>(&mut self, source: &mut S, word: &[u8]) -> Result<bool, EntriesFault>
+        requires lies { LiesIn self.old.place (length (S.content source.old)) }
+        ensures at { S.honest → (es : List Item) (n : ℕ)
+            → StandsAt (bytes_at (S.content source.old) self.old.place) self.old es n
+            → MatchResult result
+            (IsSought (bytes_at (S.content source.old) self.old.place) self.new es word.now)
+            (λ e. e ≡ EntriesFault.Damaged → ⊥) }
+
+        // Of any bytes.
+        ensures holds { S.honest
+            → HoldsOf (bytes_at (S.content source.old) self.old.place) self.old
+            → OnOk result (HoldsOf (bytes_at (S.content source.old) self.old.place) self.new) }
+
+        ensures place { self.new.place ≡ self.old.place }
+        ensures ahead { ReadsAhead self.old.held.most self.new }
+        ensures faults { IfErr result (λ e. self.new.fault ≡ Some e) }
+        ensures sound { IsOk result → self.new.fault ≡ None }
+        ensures size { length (S.content source.new) ≡ length (S.content source.old) }
+        ensures repeats { IfSome self.old.fault
+            (λ e. (result ≡ Err e) × (source.new ≡ source.old)) }
+        ensures left { self.old.fault ≡ None
+            → IsListed S.honest S.content S.failures S.keeps result source.old source.new }
+        ensures asks { S.honest → (es : List Item) (n : ℕ)
+            → StandsAt (bytes_at (S.content source.old) self.old.place) self.old es n
+            → OnOk result ((k m : ℕ) → group_count self.old.place.terms ≤ 2 ^ k
+            → AllByRecursion (λ (e : Item). asks_for (length e.term) ≤ m) es
+            → S.asked source.new ≤ S.asked source.old
+            + (k + 1) * (6 + asks_for (length word.now)) + 1 + 17 * (6 + m)) }
+    {
+        if let Some(fault) = self.fault {
+            return Err(fault);
+        }
+        match self.find(source, word) {
+            Ok(more) => Ok(more),
+            Err(fault) => {
+                self.fault = Some(fault);
+                Err(fault)
+            }
+        }
+    }
+
+    // Goes to the first word that is not less than another.
+    fn find<S: ByteSource>(&mut self, source: &mut S, word: &[u8]) -> Result<bool, EntriesFault>
+        requires lies { LiesIn self.old.place (length (S.content source.old)) }
+        ensures at { S.honest → (es : List Item) (n : ℕ)
+            → Comes (bytes_at (S.content source.old) self.old.place) self.old es n
+            → MatchResult result
+            (IsSought (bytes_at (S.content source.old) self.old.place) self.new es word.now)
+            (λ e. e ≡ EntriesFault.Damaged → ⊥) }
+        ensures holds { S.honest
+            → HoldsOf (bytes_at (S.content source.old) self.old.place) self.old
+            → OnOk result (HoldsOf (bytes_at (S.content source.old) self.old.place) self.new) }
+        ensures place { self.new.place ≡ self.old.place }
+        ensures ahead { ReadsAhead self.old.held.most self.new }
+        ensures fault { self.new.fault ≡ self.old.fault }
+        ensures left { IsListed S.honest S.content S.failures S.keeps result source.old source.new }
+        ensures asks { S.honest → (es : List Item) (n : ℕ)
+            → Comes (bytes_at (S.content source.old) self.old.place) self.old es n
+            → OnOk result ((k m : ℕ) → group_count self.old.place.terms ≤ 2 ^ k
+            → AllByRecursion (λ (e : Item). asks_for (length e.term) ≤ m) es
+            → S.asked source.new ≤ S.asked source.old
+            + (k + 1) * (6 + asks_for (length word.now)) + 1 + 17 * (6 + m)) }
+    {
+        if self.place.terms == 0 {
+            return Ok(false);
+        }
+        let start = first_start(source, self.place, word)?;
+        self.begin(start);
+        while self.read < self.place.terms {
+            self.advance(source)?;
+            if !is_less(&self.word, word) {
+                return Ok(true);
+            }
+        }
+        Ok(false)
+    }
+
+    // Goes before the first word of a group.
+    fn begin(&mut self, start: GroupStart)
+        requires some { 16 * start.group < self.old.place.terms }
+        ensures at { (bytes word : List ℕ) (es : List Item) (n : ℕ) → Comes bytes self.old es n
+            → BeginsAt bytes es word start.group start.at
+            → Comes bytes self.new es (16 * start.group) }
+        ensures held { self.new.held ≡ self.old.held }
+        ensures place { self.new.place ≡ self.old.place }
+        ensures ahead { ReadsAhead self.old.held.most self.new }
+        ensures fault { self.new.fault ≡ self.old.fault }
+        ensures read { self.new.read ≡ 16 * start.group }
+    {
+        self.read = 16 * start.group;
+        self.at = start.at;
+        self.word.clear();
+    }
+
+    // Passes the next word, which there is.
+    fn advance<S: ByteSource>(&mut self, source: &mut S) -> Result<(), EntriesFault>
+        requires lies { LiesIn self.old.place (length (S.content source.old)) }
+        requires some { self.old.read < self.old.place.terms }
+        ensures at { S.honest → (es : List Item) (n : ℕ)
+            → Comes (bytes_at (S.content source.old) self.old.place) self.old es n
+            → MatchResult result
+            (λ _. StandsAt (bytes_at (S.content source.old) self.old.place) self.new es (n + 1))
+            (λ e. e ≡ EntriesFault.Damaged → ⊥) }
+        ensures holds { S.honest
+            → HoldsOf (bytes_at (S.content source.old) self.old.place) self.old
+            → OnOk result (HoldsOf (bytes_at (S.content source.old) self.old.place) self.new) }
+        ensures said { S.honest
+            → HoldsOf (bytes_at (S.content source.old) self.old.place) self.old
+            → OnOk result
+            (HasRead (bytes_at (S.content source.old) self.old.place) self.old self.new) }
+        ensures damaged { S.honest
+            → HoldsOf (bytes_at (S.content source.old) self.old.place) self.old
+            → IsErrOf result EntriesFault.Damaged
+            → IsBroken (bytes_at (S.content source.old) self.old.place) self.old }
+        ensures place { self.new.place ≡ self.old.place }
+        ensures ahead { ReadsAhead self.old.held.most self.new }
+        ensures fault { self.new.fault ≡ self.old.fault }
+        ensures read { OnOk result (self.new.read ≡ self.old.read + 1) }
+        ensures left { IsListed S.honest S.content S.failures S.keeps result source.old source.new }
+        ensures asks { S.honest → OnOk result (S.asked source.new
+            ≤ S.asked source.old + 6 + asks_for (length self.new.word.items)) }
+    {
+        let spot = Spot {
+            index: self.read,
+            at: self.at,
+        };
+        let (entry, next) = next_word(source, self.place, spot, &mut self.held, &mut self.word)?;
+        self.entry = entry;
+        self.at = next;
+        self.read += 1;
+        Ok(())
+    }
+}
