@@ -43,6 +43,7 @@ use Rattle.pk_layout.specs.declared.merging.MergePlan.{MergePlan}
 use Rattle.pk_layout.specs.declared.merging.NewSegment.{NewSegment}
 use Rattle.pk_layout.proofs.TakenLemmas.{taken_new, taken_replaced}
 use Rattle.pk_layout.specs.Merging.{AreMerged, IsMergedOpen, IsNewOf, IsSegmentTo, IsSized, MayFollow, PlansMerge, PlansMergeAs, PlansMergeRightly, PlansMerged, PlansRightly, body_merged, bytes_in, count_merged, extents_in, lengths_in, lengths_merged, merge_touches, pieces_behind, run_of}
+use Rattle.pk_layout.specs.Change.{changed}
 use Rattle.pk_layout.specs.Faults.{layout_refusal}
 use Rattle.pk_layout.specs.Placed.{AreLaid}
 use Rattle.pk_layout.specs.declared.planning.Plan.{Plan}
@@ -96,8 +97,8 @@ places_laid units taken (w ∷ ws) (e ∷ es) placed p =
     ∙ ap (λ (h : Bool). in_range (start_of e) e.bytes p || h) (places_laid units (e ∷ taken) ws es placed.1 p)
 
 -- what promises more
-goes_weaker : (touched : ℕ → Bool) (P Q : Claim → Type 0) → ((c : Claim) → P c → Q c) → (p : Plan) (old new : Committed) → GoesTo touched P p old new → GoesTo touched Q p old new
-goes_weaker touched P Q f p old new goes = record {
+goes_weaker : (touched : ℕ → Bool) (P Q : Claim → Type 0) → ((c : Claim) → P c → Q c) → (os : List OpenSegment) (p : Plan) (old new : Committed) → GoesTo touched P os p old new → GoesTo touched Q os p old new
+goes_weaker touched P Q f os p old new goes = record {
   body = goes.body;
   entries = goes.entries;
   opened = goes.opened;
@@ -243,7 +244,7 @@ module _ (size : ℕ) (b : Body) (is : IsBody (units_in size) b) (generation : b
         All-same IsGrown merged (o ∷ []) are.1 (All-cons IsGrown o [] few (All-nil IsGrown))
 
     module _ (new : Option NewSegment) (m : MergePlan) (sized : IsSized new) (opened_now : List OpenSegment) (are_merged : AreMerged (run_of from n opened) new opened_now) (entries_now : entries_of opened_now ≡ entry_in b m.place) (ts : List Extent) (same : length (extents_in m.place) ≡ length (lengths_in new))
-        (placed : PlacedAs b.units (named b) (lengths_merged b n new) (extents_in m.place ++ ts)) (plan : IsPlanOf (tabled ts (body_merged b from n m.place)) (replaced from n opened_now opened) m.plan) (pieces : pieces_behind m ≡ laid_in ts (table_bytes (body_merged b from n m.place).entries)) where
+        (placed : PlacedAs b.units (named b) (lengths_merged b n new) (extents_in m.place ++ ts)) (plan : IsPlanOf (tabled ts (body_merged b from n m.place)) opened (replaced from n opened_now opened) m.plan) (pieces : pieces_behind m ≡ laid_in ts (table_bytes (body_merged b from n m.place).entries)) where
       abbrev next : Body
       next = tabled ts (body_merged b from n m.place)
 
@@ -314,13 +315,13 @@ module _ (size : ℕ) (b : Body) (is : IsBody (units_in size) b) (generation : b
         taken = λ i p. (ap (λ cs. places cs p) two ∙ places_append (laid_in (extents_in m.place) writes) (pieces_behind m) p
             ∙ ap (λ h. h || places (pieces_behind m) p) (places_laid b.units (named b) writes (extents_in m.place) (subst (λ ns. PlacedAs b.units (named b) ns (extents_in m.place)) (sym long) (segment_front new m.place ts sized same placed)) p)) i
 
-        is_plan : IsPlan size b m.plan
-        is_plan = plan_is size b next is generation sound_next refl refl all_writes enough extents laid_out (replaced from n opened_now opened) many all_grown m.plan plan
+        is_plan : IsPlan size b opened m.plan
+        is_plan = plan_is size b next is generation sound_next refl refl all_writes enough extents laid_out opened (replaced from n opened_now opened) many all_grown m.plan plan
 
         goes_on : GoesOn (merge_touches m) b opened m.plan
         goes_on = subst (λ t. GoesOn t b opened m.plan) taken
-            (goes_on_from size b next is generation sound_next refl refl all_writes enough extents laid_out (replaced from n opened_now opened) many all_grown m.plan plan
-            opened (omega arith) (taken_replaced b.next_segment opened from n opened_now (taken_new b opened m.place opened_now entries_now)))
+            (goes_on_from size b next is generation sound_next refl refl all_writes enough extents laid_out opened (replaced from n opened_now opened) many all_grown m.plan plan
+            (omega arith) (taken_replaced b.next_segment opened from n opened_now (taken_new b opened m.place opened_now entries_now)))
 
         table_claim : Each (λ c. IsAmong c (laid_in extents all_writes)) (table_claims next)
         table_claim = table_in_writes b b.next_number (ids_in m.place) writes next.entries (extents_in m.place) ts as_long b.units (table_behind new m.place ts sized same placed).0
@@ -331,13 +332,13 @@ module _ (size : ℕ) (b : Body) (is : IsBody (units_in size) b) (generation : b
 
         goes : (stored stored' : List Stored) → AreEntries b.entries stored → AreEntries next.entries stored' → AreOpenOf (replaced from n opened_now opened) stored'
             → Each (λ c. IsAmong c (claims_of b.entries stored) ⊎ IsAmong c (laid_in (extents_in m.place) writes)) (claims_of next.entries stored')
-            → GoesTo (merge_touches m) promise m.plan (committed_with b stored) (committed_with next stored')
+            → GoesTo (merge_touches m) promise opened m.plan (committed_with b stored) (committed_with next stored')
         goes stored stored' entries entries' open' among =
             let olds = claims_of b.entries stored in
             let laid = laid_in (extents_in m.place) writes in
-            subst (λ t. GoesTo t promise m.plan (committed_with b stored) (committed_with next stored')) taken
-            (goes_weaker (places (laid_in extents all_writes)) (λ c. IsAmong c (laid_in extents all_writes)) promise (λ c made. among_either c laid (pieces_behind m) (subst (IsAmong c) two made)) m.plan (committed_with b stored) (committed_with next stored')
-            (goes_to size b next is generation sound_next refl refl all_writes enough extents laid_out (replaced from n opened_now opened) many all_grown m.plan plan
+            subst (λ t. GoesTo t promise opened m.plan (committed_with b stored) (committed_with next stored')) taken
+            (goes_weaker (places (laid_in extents all_writes)) (λ c. IsAmong c (laid_in extents all_writes)) promise (λ c made. among_either c laid (pieces_behind m) (subst (IsAmong c) two made)) opened m.plan (committed_with b stored) (committed_with next stored')
+            (goes_to size b next is generation sound_next refl refl all_writes enough extents laid_out opened (replaced from n opened_now opened) many all_grown m.plan plan
             stored stored' entries entries' open' table_claim
             (either_weaker olds olds laid (laid_in extents all_writes) (λ c old. old) (λ c made. subst (IsAmong c) (sym two) (among_front c laid (pieces_behind m) made)) (claims_of next.entries stored') among)))
 
@@ -356,7 +357,7 @@ module _ (size : ℕ) (b : Body) (is : IsBody (units_in size) b) (generation : b
 
       pub merge_goes : (docs : List Doc) → lengths_in new ≡ segment_writes docs → (stored stored' : List Stored) → AreEntries b.entries stored → AreEntries next.entries stored' → AreOpenOf (replaced from n opened_now opened) stored'
           → Each (λ c. IsAmong c (claims_of b.entries stored) ⊎ IsAmong c (laid_in (extents_in m.place) (new_segments docs))) (claims_of next.entries stored')
-          → GoesTo (merge_touches m) (λ c. IsAmong c (laid_in (extents_in m.place) (new_segments docs)) ⊎ IsAmong c (pieces_behind m)) m.plan (committed_with b stored) (committed_with next stored')
+          → GoesTo (merge_touches m) (λ c. IsAmong c (laid_in (extents_in m.place) (new_segments docs)) ⊎ IsAmong c (pieces_behind m)) opened m.plan (committed_with b stored) (committed_with next stored')
       merge_goes docs long = goes (new_segments docs) (docs_long docs ∙ sym long)
 
 -- ---- what is committed after it
@@ -459,12 +460,12 @@ module _ (size : ℕ) (b : Body) (is : IsBody (units_in size) b) (generation : b
         before = same ∙ ap length fits.0;
         placed = subst (λ ns. PlacedAs b.units (named b) (ns ++ table_writes (length b.entries - n + length ns)) (extents_in m.place ++ ts)) fits.0 placed;
         fits = fits.1;
-        goes = subst (GoesTo touched (λ c. IsAmong c laid ⊎ IsAmong c (pieces_behind m)) m.plan (committed_with b stored)) (with_tabled ts (committed_with (body_merged b from n m.place) (replaced from n made stored)) ∙ ap (with_table ts) (sym after))
+        goes = subst (GoesTo touched (λ c. IsAmong c laid ⊎ IsAmong c (pieces_behind m)) opened m.plan (committed_with b stored)) (with_tabled ts (committed_with (body_merged b from n m.place) (replaced from n made stored)) ∙ ap (with_table ts) (sym after))
             (merge_goes size b is generation ids from n some within opened even grown new m (sized_of docs new new_is) merged are_merged entries_now ts same placed plan pieces docs fits.0 stored (replaced from n made stored) entries
             (entries_replaced from n (entry_in b m.place) made b.entries stored entries fresh)
             (open_replaced from n opened stored are merged made fresh_open)
             (claims_replaced from n (entry_in b m.place) made b.entries stored entries fresh laid (among_merged b (run_of from n opened) run run_open rise olds new m.place new_is first)));
-        now = ap (λ (x : Committed). live_in (present m.plan.opened.items x.stored)) after ∙ ap (λ os. live_in (present os (replaced from n made stored))) plan.opened_is
+        now = ap (λ (x : Committed). live_in (present (changed m.plan.change opened) x.stored)) after ∙ ap (λ os. live_in (present os (replaced from n made stored))) plan.opened_is
             ∙ now_replaced from n opened stored are merged made fresh_open (now_merged b (run_of from n opened) run run_open rise new merged m.place new_is are_merged first);
       }
 

@@ -14,7 +14,7 @@ use Rattle.std.proofs.Common.{Global, Vec, ◌&&◌, ⊎_elim}
 use Rattle.std.specs.Prelude.{OnOk}
 use Rattle.std.specs.List.{list_any}
 use Rattle.std.proofs.lemmas.List.Concat.{flat_map-append}
-use Rattle.std.proofs.lemmas.List.Folds.{list_all-append}
+use Rattle.std.proofs.lemmas.List.Folds.{list_all-append, list_any-append}
 use Rattle.pk_disk.specs.Units.{start_of}
 use Rattle.pk_posting.specs.Posting.{IsPosting}
 use Rattle.pk_replace.specs.Claims.{Claim}
@@ -31,7 +31,7 @@ use Rattle.pk_manifest.proofs.Fields.{extents_of_disk, table_long}
 use Rattle.pk_model.specs.Limits.{end_of_ids, end_of_numbers, max_segment_bytes, max_segments}
 use Rattle.pk_replace.specs.Claims.{AreApart, Each, IsAmong, IsBehind, IsInside, places}
 use Rattle.pk_replace.proofs.ClaimLemmas.{each_weaker, of_among}
-use Rattle.pk_open.specs.Opened.{AreOpenOf, entries_of, present}
+use Rattle.pk_open.specs.Opened.{AreOpenOf, entries_of, pends, present}
 use Rattle.pk_state.specs.Committed.{Stored}
 use Rattle.pk_state.specs.Kept.{AreEntries, all_claims, claims_of, table_claims}
 use Rattle.pk_state.proofs.MergeLemmas.{front_placed}
@@ -98,9 +98,9 @@ enough_extents b writes n extents placed =
     omega (arith, placed_long b.units (named b) (lengths_with ws n) extents placed, length-append (map length ws) (table_writes n), length-map ws length, length-map writes (λ (w : Vec ℕ Global). w.items))
 
 -- a plan, by all its extents one after the other
-pub plans_with : (b : Body) (writes : List (List ℕ)) (count k : ℕ) (opened : List Extent → List OpenSegment) (body : List Extent → Body) (es : List Extent) (p : CommitPlan) → PlacedAs b.units (named b) (lengths_with writes count) es → k ≡ length writes
-    → IsPlanOf (tabled (drop k es) (body (take k es))) (opened (take k es)) p.plan → pieces_of p ≡ laid_in es (writes ++ table_bytes (body (take k es)).entries) → PlansWith b writes count opened body (Ok p)
-plans_with b writes count k opened body es p placed many plan pieces =
+pub plans_with : (b : Body) (os : List OpenSegment) (writes : List (List ℕ)) (count k : ℕ) (opened : List Extent → List OpenSegment) (body : List Extent → Body) (es : List Extent) (p : CommitPlan) → PlacedAs b.units (named b) (lengths_with writes count) es → k ≡ length writes
+    → IsPlanOf (tabled (drop k es) (body (take k es))) os (opened (take k es)) p.plan → pieces_of p ≡ laid_in es (writes ++ table_bytes (body (take k es)).entries) → PlansWith b os writes count opened body (Ok p)
+plans_with b os writes count k opened body es p placed many plan pieces =
     let whole : take k es ++ drop k es ≡ es = take-append-drop k es in (
       take k es,
       drop k es,
@@ -142,7 +142,7 @@ table_in_writes b next given ws es xs ts same units taken placed =
 -- bytes at the first fit, a body that follows, and open segments for its entries
 module _ (size : ℕ) (b b' : Body) (is : IsBody (units_in size) b) (left : b.generation < end_of_ids) (next_is : IsBody (units_in size) b') (later : b'.generation ≡ b.generation + 1) (two : b'.version ≡ 2)
     (writes : List (List ℕ)) (some : AllByRecursion (λ (n : ℕ). 1 ≤ n) (map length writes)) (extents : List Extent) (placed : PlacedAs b.units (named b) (map length writes) extents)
-    (opened : List OpenSegment) (entries_are : entries_of opened ≡ b'.entries) (grown : All IsGrown opened) (p : Plan) (plan : IsPlanOf b' opened p) where
+    (segs opened : List OpenSegment) (entries_are : entries_of opened ≡ b'.entries) (grown : All IsGrown opened) (p : Plan) (plan : IsPlanOf b' segs opened p) where
   disk_extents : (length b.entries ≤ entry_limit b.version) × (list_all (lies_within (units_in size)) (named b) ≡ true) × (apart overlap (named b) ≡ true)
   disk_extents = extents_of_disk (units_in size) b is
 
@@ -161,7 +161,7 @@ module _ (size : ℕ) (b b' : Body) (is : IsBody (units_in size) b) (left : b.ge
   all_inside : Each (IsInside size) written
   all_inside = laid_inside (units_in size) size (units_room size) extents written all_placed_here.0 all_laid
 
-  pub plan_is : IsPlan size b p
+  pub plan_is : IsPlan size b segs p
   plan_is = record {
     generation = left;
     later = ap (λ (x : Body). x.generation) plan.manifest_is ∙ later;
@@ -169,6 +169,7 @@ module _ (size : ℕ) (b b' : Body) (is : IsBody (units_in size) b) (left : b.ge
     version = ap (λ (x : Body). x.version) plan.manifest_is ∙ two;
     table = subst (λ (x : Body). x.table.bytes ≡ 40 * length x.entries) (sym plan.manifest_is) (table_long (units_in size) (table_size b') b'.table (says_sound (units_in size) b' next_is.sound).table ∙ ap (λ (v : ℕ). if v == 1 then 0 else 40 * length b'.entries) two);
     body_is = plan.body_is;
+    fits = plan.fits;
     opened = ap entries_of plan.opened_is ∙ entries_are ∙ ap (λ (x : Body). x.entries) (sym plan.manifest_is);
     grown = subst (All IsGrown) (sym plan.opened_is) grown;
   }
@@ -178,10 +179,10 @@ module _ (size : ℕ) (b b' : Body) (is : IsBody (units_in size) b) (left : b.ge
   have_place = (all_inside, laid_apart extents written all_laid (apart_back (named b) extents all_placed_here.1))
 
   -- the plan goes on with the segments of the body, of which its own are taken
-  pub goes_on_from : (was : List OpenSegment) → b.next_segment ≤ b'.next_segment → AreTaken b.next_segment was opened → GoesOn (places written) b was p
-  goes_on_from was ids taken = record {
+  pub goes_on_from : b.next_segment ≤ b'.next_segment → AreTaken b.next_segment segs opened → GoesOn (places written) b segs p
+  goes_on_from ids taken = record {
     ids = subst (λ (x : Body). b.next_segment ≤ x.next_segment) (sym plan.manifest_is) ids;
-    taken = subst (AreTaken b.next_segment was) (sym plan.opened_is) taken;
+    taken = subst (AreTaken b.next_segment segs) (sym plan.opened_is) taken;
     missed = λ claims laid. laid_missed (named b) extents claims written laid all_laid all_placed_here.1;
   }
 
@@ -194,7 +195,7 @@ module _ (size : ℕ) (b b' : Body) (is : IsBody (units_in size) b) (left : b.ge
   pub goes_to : (stored stored' : List Stored) → AreEntries b.entries stored → AreEntries b'.entries stored' → AreOpenOf opened stored'
       → Each (λ c. IsAmong c written) (table_claims b')
       → Each (λ c. IsAmong c (claims_of b.entries stored) ⊎ IsAmong c written) (claims_of b'.entries stored')
-      → GoesTo (places written) (λ c. IsAmong c written) p (record { body = b; stored = stored }) (record { body = b'; stored = stored' })
+      → GoesTo (places written) (λ c. IsAmong c written) segs p (record { body = b; stored = stored }) (record { body = b'; stored = stored' })
   goes_to stored stored' entries entries' open' table among =
       let olds = claims_of b.entries stored in
       let claims = all_claims (record { body = b; stored = stored }) in
@@ -247,8 +248,8 @@ lists_sound units b next os xs ts is left ids some most lists has none =
 
 -- WITHOUT A DOCUMENT
 module _ (size : ℕ) (b : Body) (is : IsBody (units_in size) b) (os : List OpenSegment) (same : entries_of os ≡ b.entries) (left : b.generation < end_of_ids) (ids : b.next_segment < end_of_ids) (next : ℕ) (some : 1 ≤ next) (most : next ≤ end_of_numbers)
-    (can : CanBeWritten (new_lists os)) (xs ts : List Extent) (before : length xs ≡ length (new_lists os)) (placed : PlacedAs b.units (named b) (lengths_with (new_lists os) (length b.entries)) (xs ++ ts))
-    (p : CommitPlan) (plan : IsPlanOf (tabled ts (body_with_lists b os next xs)) (settled_in os xs) p.plan) (pieces : pieces_of p ≡ laid_in (xs ++ ts) (new_lists os ++ table_bytes (relisted b.entries os xs))) where
+    (grown : All IsGrown os) (can : CanBeWritten (new_lists os)) (xs ts : List Extent) (before : length xs ≡ length (new_lists os)) (placed : PlacedAs b.units (named b) (lengths_with (new_lists os) (length b.entries)) (xs ++ ts))
+    (p : CommitPlan) (plan : IsPlanOf (tabled ts (body_with_lists b os next xs)) os (settled_in os xs) p.plan) (pieces : pieces_of p ≡ laid_in (xs ++ ts) (new_lists os ++ table_bytes (relisted b.entries os xs))) where
   abbrev lists' : List Entry
   lists' = relisted b.entries os xs
 
@@ -300,12 +301,12 @@ module _ (size : ℕ) (b : Body) (is : IsBody (units_in size) b) (os : List Open
   lists_many : entries_of (settled_in os xs) ≡ lists'
   lists_many = settled_entries os xs ∙ ap (λ (es : List Entry). relisted es os xs) same
 
-  pub lists_plan : IsPlan size b p.plan
-  lists_plan = plan_is size b body' is left body_sound refl refl writes' enough_lists (xs ++ ts) placed_lists (settled_in os xs) lists_many (settled_grown os xs) p.plan plan
+  pub lists_plan : IsPlan size b os p.plan
+  lists_plan = plan_is size b body' is left body_sound refl refl writes' enough_lists (xs ++ ts) placed_lists os (settled_in os xs) lists_many (settled_grown os xs grown) p.plan plan
 
   pub lists_place : HavePlace size p
   lists_place = subst (λ cs. Each (IsInside size) cs × AreApart cs) (sym pieces)
-      (have_place size b body' is left body_sound refl refl writes' enough_lists (xs ++ ts) placed_lists (settled_in os xs) lists_many (settled_grown os xs) p.plan plan)
+      (have_place size b body' is left body_sound refl refl writes' enough_lists (xs ++ ts) placed_lists os (settled_in os xs) lists_many (settled_grown os xs grown) p.plan plan)
 
   lists_among : (stored : List Stored) → AreEntries b.entries stored → AreOpenOf os stored → Each (λ c. IsAmong c (claims_of b.entries stored) ⊎ IsAmong c (laid_in (xs ++ ts) writes')) (claims_of lists' (present os stored))
   lists_among stored entries are = subst (λ news. Each (λ c. IsAmong c (claims_of b.entries stored) ⊎ IsAmong c news) (claims_of lists' (present os stored))) (sym (laid_two xs ts (new_lists os) (table_bytes lists') before))
@@ -315,26 +316,26 @@ module _ (size : ℕ) (b : Body) (is : IsBody (units_in size) b) (os : List Open
   lists_table : Each (λ c. IsAmong c (laid_in (xs ++ ts) writes')) (table_claims body')
   lists_table = table_in_writes b next 0 (new_lists os) lists' xs ts before (units_in size) table_placed.0 (subst (λ n. PlacedAs (units_in size) table_placed.0 (table_writes n) ts) (sym (relisted_long b.entries os xs)) table_placed.1)
 
-  lists_goes : (stored : List Stored) → AreEntries b.entries stored → AreOpenOf os stored → GoesTo (places (laid_in (xs ++ ts) writes')) (λ c. IsAmong c (laid_in (xs ++ ts) writes')) p.plan (record { body = b; stored = stored }) (record { body = body'; stored = present os stored })
-  lists_goes stored entries are = goes_to size b body' is left body_sound refl refl writes' enough_lists (xs ++ ts) placed_lists (settled_in os xs) lists_many (settled_grown os xs) p.plan plan
-      stored (present os stored) entries (entries_relisted (units_in size) (named b) b.entries os stored xs entries are front_on_disk) (settled_open os xs stored are) lists_table (lists_among stored entries are)
+  lists_goes : (stored : List Stored) → AreEntries b.entries stored → AreOpenOf os stored → GoesTo (places (laid_in (xs ++ ts) writes')) (λ c. IsAmong c (laid_in (xs ++ ts) writes')) os p.plan (record { body = b; stored = stored }) (record { body = body'; stored = present os stored })
+  lists_goes stored entries are = goes_to size b body' is left body_sound refl refl writes' enough_lists (xs ++ ts) placed_lists os (settled_in os xs) lists_many (settled_grown os xs grown) p.plan plan
+      stored (present os stored) entries (entries_relisted (units_in size) (named b) b.entries os stored xs entries are front_on_disk) (settled_open os xs stored before are) lists_table (lists_among stored entries are)
 
   pub lists_commit : PlansCommit b os [] next p
   lists_commit = record {
     next_is = ap (λ (x : Body). x.next_number) plan.manifest_is;
-    settled = subst AreSettled (sym plan.opened_is) (settled_are os xs);
+    settled = subst AreSettled (sym plan.opened_is) (settled_are os xs before);
     extents = xs;
     table = ts;
     before = before;
     placed = placed;
     fits = refl;
     goes_on = subst (λ cs. GoesOn (places cs) b os p.plan) (sym pieces)
-        (goes_on_from size b body' is left body_sound refl refl writes' enough_lists (xs ++ ts) placed_lists (settled_in os xs) lists_many (settled_grown os xs) p.plan plan
-        os (omega arith) (taken_settled b.next_segment os xs));
+        (goes_on_from size b body' is left body_sound refl refl writes' enough_lists (xs ++ ts) placed_lists os (settled_in os xs) lists_many (settled_grown os xs grown) p.plan plan
+        (omega arith) (taken_settled b.next_segment os xs));
     tabled = subst (λ cs. PromisesTable (λ c. IsAmong c cs) p.plan) (sym pieces)
-        (promises_table size b body' is left body_sound refl refl writes' enough_lists (xs ++ ts) placed_lists (settled_in os xs) lists_many (settled_grown os xs) p.plan plan lists_table);
-    goes = λ stored entries are. subst (GoesTo (places (pieces_of p)) (λ c. IsAmong c (pieces_of p)) p.plan (record { body = b; stored = stored })) (with_tabled ts (record { body = body_with_lists b os next xs; stored = present os stored }))
-        (subst (λ cs. GoesTo (places cs) (λ c. IsAmong c cs) p.plan (record { body = b; stored = stored }) (record { body = body'; stored = present os stored })) (sym pieces) (lists_goes stored entries are));
+        (promises_table size b body' is left body_sound refl refl writes' enough_lists (xs ++ ts) placed_lists os (settled_in os xs) lists_many (settled_grown os xs grown) p.plan plan lists_table);
+    goes = λ stored entries are. subst (GoesTo (places (pieces_of p)) (λ c. IsAmong c (pieces_of p)) os p.plan (record { body = b; stored = stored })) (with_tabled ts (record { body = body_with_lists b os next xs; stored = present os stored }))
+        (subst (λ cs. GoesTo (places cs) (λ c. IsAmong c cs) os p.plan (record { body = b; stored = stored }) (record { body = body'; stored = present os stored })) (sym pieces) (lists_goes stored entries are));
   }
 
 -- WITH A SEGMENT
@@ -348,8 +349,7 @@ open_append (o ∷ os) us [] ys a b = absurd a
 open_append (o ∷ os) us (x ∷ xs) ys a b = (a.0, open_append os us xs ys a.1 b)
 
 settled_append : (os us : List OpenSegment) → AreSettled os → AreSettled us → AreSettled (os ++ us)
-settled_append [] us a b = b
-settled_append (o ∷ os) us a b = (a.0, settled_append os us a.1 b)
+settled_append os us a b = list_any-append pends os us ∙ or_both (list_any pends os) (list_any pends us) a b
 
 fresh_open : (e : Entry) (o : Segment) (docs : List Doc) → IsIndexedOf o docs → IsOpenOf (fresh_segment e o) (new_stored docs)
 fresh_open e o docs is = record { segment = is.segment; dictionary = λ two. is.dictionary; dead = refl; kept = λ n h. h; names = λ n h. absurd (let odd : false ≡ true = h in cc); posting = empty_posting; was = empty_posting }
@@ -363,9 +363,9 @@ each_and P [] ds first second = second
 each_and P (c ∷ cs) ds first second = (first.0, each_and P cs ds first.1 second)
 
 module _ (size : ℕ) (b : Body) (is : IsBody (units_in size) b) (os : List OpenSegment) (same : entries_of os ≡ b.entries) (left : b.generation < end_of_ids) (ids : b.next_segment < end_of_ids) (room : length b.entries < max_segments) (next : ℕ) (some : 1 ≤ next) (most : next ≤ end_of_numbers)
-    (can : CanBeWritten (new_lists os)) (docs : List Doc) (bytes : List ℕ) (spells : SegmentSpells bytes docs written_kind) (o : Segment) (opened_is : IsIndexedOf o docs) (e : Extent) (xs ts : List Extent) (before : length (e ∷ xs) ≡ length (bytes ∷ new_lists os))
+    (grown : All IsGrown os) (can : CanBeWritten (new_lists os)) (docs : List Doc) (bytes : List ℕ) (spells : SegmentSpells bytes docs written_kind) (o : Segment) (opened_is : IsIndexedOf o docs) (e : Extent) (xs ts : List Extent) (before : length (e ∷ xs) ≡ length (bytes ∷ new_lists os))
     (placed : PlacedAs b.units (named b) (lengths_with (bytes ∷ new_lists os) (length b.entries + 1)) ((e ∷ xs) ++ ts))
-    (p : CommitPlan) (plan : IsPlanOf (tabled ts (body_with_segment b os next (e ∷ xs))) (settled_in os xs ++ fresh_segment (new_entry b e) o ∷ []) p.plan) (pieces : pieces_of p ≡ laid_in ((e ∷ xs) ++ ts) ((bytes ∷ new_lists os) ++ table_bytes (body_with_segment b os next (e ∷ xs)).entries)) where
+    (p : CommitPlan) (plan : IsPlanOf (tabled ts (body_with_segment b os next (e ∷ xs))) os (settled_in os xs ++ fresh_segment (new_entry b e) o ∷ []) p.plan) (pieces : pieces_of p ≡ laid_in ((e ∷ xs) ++ ts) ((bytes ∷ new_lists os) ++ table_bytes (body_with_segment b os next (e ∷ xs)).entries)) where
   abbrev entries' : List Entry
   entries' = relisted b.entries os xs ++ new_entry b e ∷ []
 
@@ -477,40 +477,43 @@ module _ (size : ℕ) (b : Body) (is : IsBody (units_in size) b) (os : List Open
       ∙ ap (λ (es : List Entry). es ++ new_entry b e ∷ []) (settled_entries os xs ∙ ap (λ (es : List Entry). relisted es os xs) same)
 
   all_grown : All IsGrown (settled_in os xs ++ fresh_segment (new_entry b e) o ∷ [])
-  all_grown = All-append IsGrown (settled_in os xs) (fresh_segment (new_entry b e) o ∷ []) (settled_grown os xs) (All-cons IsGrown (fresh_segment (new_entry b e) o) [] (omega arith) (All-nil IsGrown))
+  all_grown = All-append IsGrown (settled_in os xs) (fresh_segment (new_entry b e) o ∷ []) (settled_grown os xs grown) (All-cons IsGrown (fresh_segment (new_entry b e) o) [] (omega arith) (All-nil IsGrown))
 
-  pub segment_plan : IsPlan size b p.plan
-  segment_plan = plan_is size b with_segment is left segment_sound refl refl all_writes enough all_extents placed_all_here (settled_in os xs ++ fresh_segment (new_entry b e) o ∷ []) many all_grown p.plan plan
+  lists_before : length xs ≡ length (new_lists os)
+  lists_before = omega (arith, before)
+
+  pub segment_plan : IsPlan size b os p.plan
+  segment_plan = plan_is size b with_segment is left segment_sound refl refl all_writes enough all_extents placed_all_here os (settled_in os xs ++ fresh_segment (new_entry b e) o ∷ []) many all_grown p.plan plan
 
   pub segment_place : HavePlace size p
   segment_place = subst (λ cs. Each (IsInside size) cs × AreApart cs) (sym pieces)
-      (have_place size b with_segment is left segment_sound refl refl all_writes enough all_extents placed_all_here (settled_in os xs ++ fresh_segment (new_entry b e) o ∷ []) many all_grown p.plan plan)
+      (have_place size b with_segment is left segment_sound refl refl all_writes enough all_extents placed_all_here os (settled_in os xs ++ fresh_segment (new_entry b e) o ∷ []) many all_grown p.plan plan)
 
   pub segment_goes_on : GoesOn (places (pieces_of p)) b os p.plan
-  segment_goes_on = subst (λ cs. GoesOn (places cs) b os p.plan) (sym pieces) (goes_on_from size b with_segment is left segment_sound refl refl all_writes enough all_extents placed_all_here (settled_in os xs ++ fresh_segment (new_entry b e) o ∷ []) many all_grown p.plan plan
-      os (omega arith) (taken_append b.next_segment os (settled_in os xs) (fresh_segment (new_entry b e) o ∷ []) (taken_settled b.next_segment os xs) (inl (omega arith), tt)))
+  segment_goes_on = subst (λ cs. GoesOn (places cs) b os p.plan) (sym pieces) (goes_on_from size b with_segment is left segment_sound refl refl all_writes enough all_extents placed_all_here os (settled_in os xs ++ fresh_segment (new_entry b e) o ∷ []) many all_grown p.plan plan
+      (omega arith) (taken_append b.next_segment os (settled_in os xs) (fresh_segment (new_entry b e) o ∷ []) (taken_settled b.next_segment os xs) (inl (omega arith), tt)))
 
   segment_table : Each (λ c. IsAmong c (laid_in all_extents all_writes)) (table_claims with_segment)
   segment_table = table_in_writes b next 1 ws entries' (e ∷ xs) ts before (units_in size) table_there.0 (subst (λ n. PlacedAs (units_in size) table_there.0 (table_writes n) ts) (sym long) table_there.1)
 
   pub segment_tabled : PromisesTable (λ c. IsAmong c (pieces_of p)) p.plan
   segment_tabled = subst (λ cs. PromisesTable (λ c. IsAmong c cs) p.plan) (sym pieces)
-      (promises_table size b with_segment is left segment_sound refl refl all_writes enough all_extents placed_all_here (settled_in os xs ++ fresh_segment (new_entry b e) o ∷ []) many all_grown p.plan plan segment_table)
+      (promises_table size b with_segment is left segment_sound refl refl all_writes enough all_extents placed_all_here os (settled_in os xs ++ fresh_segment (new_entry b e) o ∷ []) many all_grown p.plan plan segment_table)
 
   pub segment_goes : (stored : List Stored) → AreEntries b.entries stored → AreOpenOf os stored
-      → GoesTo (places (pieces_of p)) (λ c. IsAmong c (pieces_of p)) p.plan (record { body = b; stored = stored }) (with_table ts (record { body = body_with_segment b os next (e ∷ xs); stored = present os stored ++ new_stored docs ∷ [] }))
+      → GoesTo (places (pieces_of p)) (λ c. IsAmong c (pieces_of p)) os p.plan (record { body = b; stored = stored }) (with_table ts (record { body = body_with_segment b os next (e ∷ xs); stored = present os stored ++ new_stored docs ∷ [] }))
   segment_goes stored entries are =
       let claims = claims_of b.entries stored in
       let entries_now = entries_relisted (units_in size) (e ∷ named b) b.entries os stored xs entries are placed_there in
       let new : AreEntries (new_entry b e ∷ []) (new_stored docs ∷ []) = (record { segment = record { kind = written_is_kind; are = spells.are; fits = spells.fits; long = placed_front.0.long ∙ (spelled_length bytes docs spells).0 }; list = refl }, tt) in
       let laid = laid_in (e ∷ xs) ws in
       let tables = laid_in ts (table_bytes entries') in
-      subst (GoesTo (places (pieces_of p)) (λ c. IsAmong c (pieces_of p)) p.plan (record { body = b; stored = stored })) (with_tabled ts (record { body = body_with_segment b os next (e ∷ xs); stored = present os stored ++ new_stored docs ∷ [] }))
-      (subst (λ cs. GoesTo (places cs) (λ c. IsAmong c cs) p.plan (record { body = b; stored = stored }) (record { body = with_segment; stored = present os stored ++ new_stored docs ∷ [] })) (sym pieces)
-      (goes_to size b with_segment is left segment_sound refl refl all_writes enough all_extents placed_all_here (settled_in os xs ++ fresh_segment (new_entry b e) o ∷ []) many all_grown p.plan plan
+      subst (GoesTo (places (pieces_of p)) (λ c. IsAmong c (pieces_of p)) os p.plan (record { body = b; stored = stored })) (with_tabled ts (record { body = body_with_segment b os next (e ∷ xs); stored = present os stored ++ new_stored docs ∷ [] }))
+      (subst (λ cs. GoesTo (places cs) (λ c. IsAmong c cs) os p.plan (record { body = b; stored = stored }) (record { body = with_segment; stored = present os stored ++ new_stored docs ∷ [] })) (sym pieces)
+      (goes_to size b with_segment is left segment_sound refl refl all_writes enough all_extents placed_all_here os (settled_in os xs ++ fresh_segment (new_entry b e) o ∷ []) many all_grown p.plan plan
       stored (present os stored ++ new_stored docs ∷ []) entries
       (entries_append (relisted b.entries os xs) (new_entry b e ∷ []) (present os stored) (new_stored docs ∷ []) entries_now new)
-      (open_append (settled_in os xs) (fresh_segment (new_entry b e) o ∷ []) (present os stored) (new_stored docs ∷ []) (settled_open os xs stored are) (fresh_open (new_entry b e) o docs opened_is, tt))
+      (open_append (settled_in os xs) (fresh_segment (new_entry b e) o ∷ []) (present os stored) (new_stored docs ∷ []) (settled_open os xs stored lists_before are) (fresh_open (new_entry b e) o docs opened_is, tt))
       segment_table
       (subst (λ news. Each (λ c. IsAmong c claims ⊎ IsAmong c news) (claims_of entries' (present os stored ++ new_stored docs ∷ []))) (sym (laid_two (e ∷ xs) ts ws (table_bytes entries') before))
       (either_weaker claims claims laid (laid ++ tables) (λ c old. old) (λ c made. among_front c laid tables made) (claims_of entries' (present os stored ++ new_stored docs ∷ []))
@@ -524,43 +527,43 @@ pub fits_limit : (d : Doc) (docs : List Doc) → segment_length (d ∷ docs) wri
 fits_limit d docs short = or_from (nat_lt max_segment_bytes (segment_length (d ∷ docs) written_kind)) false (le-ltb max_segment_bytes (segment_length (d ∷ docs) written_kind) short) refl
 
 -- the plan of a commit with these documents, wherever they lie
-pub planned_with : (size : ℕ) (b : Body) → IsBody (units_in size) b → (os : List OpenSegment) → entries_of os ≡ b.entries → (docs : List Doc) → LeavesRoom b (length docs) → (next : ℕ) → 1 ≤ next → next ≤ end_of_numbers → CanBeWritten (new_lists os)
-    → (bytes : List ℕ) → SegmentSpells bytes docs written_kind → (o : Segment) → IsIndexedOf o docs → (p : CommitPlan) → PlansWith b (bytes ∷ new_lists os) (length b.entries + 1) (opened_with_segment b os o) (body_with_segment b os next) (Ok p) → PlansAs size b os docs next (Ok p)
-planned_with size b is os same [] leaves next some most can bytes spells o opened_is p plan = let h : 0 < 0 = spells.are.some in absurd (omega (arith, h))
-planned_with size b is os same (d ∷ docs) leaves next some most can bytes spells o opened_is p ([], ts, before, placed, plan, pieces) = absurd (omega (arith, before))
-planned_with size b is os same (d ∷ docs) leaves next some most can bytes spells o opened_is p (e ∷ xs, ts, before, placed, plan, pieces) =
+pub planned_with : (size : ℕ) (b : Body) → IsBody (units_in size) b → (os : List OpenSegment) → entries_of os ≡ b.entries → (docs : List Doc) → LeavesRoom b (length docs) → (next : ℕ) → 1 ≤ next → next ≤ end_of_numbers → All IsGrown os → CanBeWritten (new_lists os)
+    → (bytes : List ℕ) → SegmentSpells bytes docs written_kind → (o : Segment) → IsIndexedOf o docs → (p : CommitPlan) → PlansWith b os (bytes ∷ new_lists os) (length b.entries + 1) (opened_with_segment b os o) (body_with_segment b os next) (Ok p) → PlansAs size b os docs next (Ok p)
+planned_with size b is os same [] leaves next some most grown can bytes spells o opened_is p plan = let h : 0 < 0 = spells.are.some in absurd (omega (arith, h))
+planned_with size b is os same (d ∷ docs) leaves next some most grown can bytes spells o opened_is p ([], ts, before, placed, plan, pieces) = absurd (omega (arith, before))
+planned_with size b is os same (d ∷ docs) leaves next some most grown can bytes spells o opened_is p (e ∷ xs, ts, before, placed, plan, pieces) =
     let room = leaves.2 (omega arith) in (
-      segment_plan size b is os same leaves.0 leaves.1 room next some most can (d ∷ docs) bytes spells o opened_is e xs ts before placed p plan pieces,
+      segment_plan size b is os same leaves.0 leaves.1 room next some most grown can (d ∷ docs) bytes spells o opened_is e xs ts before placed p plan pieces,
       record {
         next_is = ap (λ (x : Body). x.next_number) plan.manifest_is;
-        settled = subst AreSettled (sym plan.opened_is) (settled_append (settled_in os xs) (fresh_segment (new_entry b e) o ∷ []) (settled_are os xs) (refl, tt));
+        settled = subst AreSettled (sym plan.opened_is) (settled_append (settled_in os xs) (fresh_segment (new_entry b e) o ∷ []) (settled_are os xs (omega (arith, before))) refl);
         extents = e ∷ xs;
         table = ts;
         before = before;
         placed = subst (λ (w : List ℕ). PlacedAs b.units (named b) (lengths_with (w ∷ new_lists os) (length b.entries + 1)) ((e ∷ xs) ++ ts)) spells.same placed;
         fits = fits_limit d docs spells.fits;
-        goes_on = segment_goes_on size b is os same leaves.0 leaves.1 room next some most can (d ∷ docs) bytes spells o opened_is e xs ts before placed p plan pieces;
-        tabled = segment_tabled size b is os same leaves.0 leaves.1 room next some most can (d ∷ docs) bytes spells o opened_is e xs ts before placed p plan pieces;
-        goes = segment_goes size b is os same leaves.0 leaves.1 room next some most can (d ∷ docs) bytes spells o opened_is e xs ts before placed p plan pieces;
+        goes_on = segment_goes_on size b is os same leaves.0 leaves.1 room next some most grown can (d ∷ docs) bytes spells o opened_is e xs ts before placed p plan pieces;
+        tabled = segment_tabled size b is os same leaves.0 leaves.1 room next some most grown can (d ∷ docs) bytes spells o opened_is e xs ts before placed p plan pieces;
+        goes = segment_goes size b is os same leaves.0 leaves.1 room next some most grown can (d ∷ docs) bytes spells o opened_is e xs ts before placed p plan pieces;
       },
-      segment_place size b is os same leaves.0 leaves.1 room next some most can (d ∷ docs) bytes spells o opened_is e xs ts before placed p plan pieces,
+      segment_place size b is os same leaves.0 leaves.1 room next some most grown can (d ∷ docs) bytes spells o opened_is e xs ts before placed p plan pieces,
     )
 
 -- and of one without a document
-pub planned_without : (size : ℕ) (b : Body) → IsBody (units_in size) b → (os : List OpenSegment) → entries_of os ≡ b.entries → (docs : List Doc) → docs ≡ [] → LeavesRoom b (length docs) → (next : ℕ) → 1 ≤ next → next ≤ end_of_numbers → (r : Result CommitPlan LayoutFault)
-    → OnOk r (CanBeWritten (new_lists os)) → PlansWith b (new_lists os) (length b.entries) (settled_in os) (body_with_lists b os next) r → PlansAs size b os docs next r
-planned_without size b is os same docs none leaves next some most (Ok p) can (xs, ts, before, placed, plan, pieces) = subst (λ (ds : List Doc). PlansAs size b os ds next (Ok p)) (sym none) (
-  lists_plan size b is os same leaves.0 leaves.1 next some most can xs ts before placed p plan pieces,
-  lists_commit size b is os same leaves.0 leaves.1 next some most can xs ts before placed p plan pieces,
-  lists_place size b is os same leaves.0 leaves.1 next some most can xs ts before placed p plan pieces,
+pub planned_without : (size : ℕ) (b : Body) → IsBody (units_in size) b → (os : List OpenSegment) → entries_of os ≡ b.entries → (docs : List Doc) → docs ≡ [] → LeavesRoom b (length docs) → (next : ℕ) → 1 ≤ next → next ≤ end_of_numbers → All IsGrown os → (r : Result CommitPlan LayoutFault)
+    → OnOk r (CanBeWritten (new_lists os)) → PlansWith b os (new_lists os) (length b.entries) (settled_in os) (body_with_lists b os next) r → PlansAs size b os docs next r
+planned_without size b is os same docs none leaves next some most grown (Ok p) can (xs, ts, before, placed, plan, pieces) = subst (λ (ds : List Doc). PlansAs size b os ds next (Ok p)) (sym none) (
+  lists_plan size b is os same leaves.0 leaves.1 next some most grown can xs ts before placed p plan pieces,
+  lists_commit size b is os same leaves.0 leaves.1 next some most grown can xs ts before placed p plan pieces,
+  lists_place size b is os same leaves.0 leaves.1 next some most grown can xs ts before placed p plan pieces,
 )
-planned_without size b is os same docs none leaves next some most (Err (Full need largest)) can plan = subst (λ (ds : List Doc). PlansAs size b os ds next (Err (Full need largest))) (sym none) (refl, plan)
-planned_without size b is os same docs none leaves next some most (Err Memory) can plan = tt
-planned_without size b is os same docs none leaves next some most (Err TooLarge) can plan = absurd plan
-planned_without size b is os same docs none leaves next some most (Err Damaged) can plan = absurd plan
+planned_without size b is os same docs none leaves next some most grown (Err (Full need largest)) can plan = subst (λ (ds : List Doc). PlansAs size b os ds next (Err (Full need largest))) (sym none) (refl, plan)
+planned_without size b is os same docs none leaves next some most grown (Err Memory) can plan = tt
+planned_without size b is os same docs none leaves next some most grown (Err TooLarge) can plan = absurd plan
+planned_without size b is os same docs none leaves next some most grown (Err Damaged) can plan = absurd plan
 
 -- what finds no place is not planned
-pub not_placed : (size : ℕ) (b : Body) (os : List OpenSegment) (docs : List Doc) (next : ℕ) (bytes : List ℕ) (opened : List Extent → List OpenSegment) (body : List Extent → Body) (why : LayoutFault) → SegmentSpells bytes docs written_kind → PlansWith b (bytes ∷ new_lists os) (length b.entries + 1) opened body (Err why) → PlansAs size b os docs next (Err why)
+pub not_placed : (size : ℕ) (b : Body) (os : List OpenSegment) (docs : List Doc) (next : ℕ) (bytes : List ℕ) (opened : List Extent → List OpenSegment) (body : List Extent → Body) (why : LayoutFault) → SegmentSpells bytes docs written_kind → PlansWith b os (bytes ∷ new_lists os) (length b.entries + 1) opened body (Err why) → PlansAs size b os docs next (Err why)
 not_placed size b os [] next bytes opened body why spells plan = let h : 0 < 0 = spells.are.some in absurd (omega (arith, h))
 not_placed size b os (d ∷ docs) next bytes opened body (Full need largest) spells plan =
     (fits_limit d docs spells.fits, subst (λ (w : List ℕ). FullAs b.units (named b) (lengths_with (w ∷ new_lists os) (length b.entries + 1)) need largest) spells.same plan)
@@ -575,7 +578,7 @@ can_segment bytes docs spells =
     All-cons (λ (w : List ℕ). (5 ≤ length w) × (length w ≤ segment_limit)) bytes [] (omega (arith, long.0, parts_of docs written_kind), long.1) (All-nil (λ (w : List ℕ). (5 ≤ length w) × (length w ≤ segment_limit)))
 
 -- what is planned with a segment, whatever the answer
-pub planned_segment : (size : ℕ) (b : Body) → IsBody (units_in size) b → (os : List OpenSegment) → entries_of os ≡ b.entries → (docs : List Doc) → LeavesRoom b (length docs) → (next : ℕ) → 1 ≤ next → next ≤ end_of_numbers
-    → (bytes : List ℕ) → SegmentSpells bytes docs written_kind → (o : Segment) → IsIndexedOf o docs → (r : Result CommitPlan LayoutFault) → OnOk r (CanBeWritten (new_lists os)) → PlansWith b (bytes ∷ new_lists os) (length b.entries + 1) (opened_with_segment b os o) (body_with_segment b os next) r → PlansAs size b os docs next r
-planned_segment size b is os same docs leaves next some most bytes spells o opened_is (Ok p) can plan = planned_with size b is os same docs leaves next some most can bytes spells o opened_is p plan
-planned_segment size b is os same docs leaves next some most bytes spells o opened_is (Err why) can plan = not_placed size b os docs next bytes (opened_with_segment b os o) (body_with_segment b os next) why spells plan
+pub planned_segment : (size : ℕ) (b : Body) → IsBody (units_in size) b → (os : List OpenSegment) → entries_of os ≡ b.entries → (docs : List Doc) → LeavesRoom b (length docs) → (next : ℕ) → 1 ≤ next → next ≤ end_of_numbers → All IsGrown os
+    → (bytes : List ℕ) → SegmentSpells bytes docs written_kind → (o : Segment) → IsIndexedOf o docs → (r : Result CommitPlan LayoutFault) → OnOk r (CanBeWritten (new_lists os)) → PlansWith b os (bytes ∷ new_lists os) (length b.entries + 1) (opened_with_segment b os o) (body_with_segment b os next) r → PlansAs size b os docs next r
+planned_segment size b is os same docs leaves next some most grown bytes spells o opened_is (Ok p) can plan = planned_with size b is os same docs leaves next some most grown can bytes spells o opened_is p plan
+planned_segment size b is os same docs leaves next some most grown bytes spells o opened_is (Err why) can plan = not_placed size b os docs next bytes (opened_with_segment b os o) (body_with_segment b os next) why spells plan

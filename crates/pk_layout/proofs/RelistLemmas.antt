@@ -1,9 +1,10 @@
 -- Entries with new deletion lists: they are sound, stand for what is present, and each claim of theirs is an old one or that of a new list.
-use Rattle.std.proofs.Common.{◌≡◌, ◌⊎◌, inl, inr, ⊎_elim, ℕ, suc, ◌+◌, ◌<◌, ◌++◌, ◌==◌, ◌&&◌, ◌||◌, leb, ltb, Bool, true, false, not, List, [], ◌∷◌, length, map, refl, sym, ◌∙◌, ap, subst, arith, append_assoc, Option, Some, None}
+use Rattle.std.proofs.Common.{◌≡◌, ◌⊎◌, inl, inr, ⊎_elim, ℕ, suc, ◌<◌, ◌++◌, ◌==◌, ◌&&◌, ◌||◌, leb, ltb, Bool, true, false, not, List, [], ◌∷◌, length, map, refl, sym, ◌∙◌, ap, subst, arith, append_assoc, Option, Some, None}
 use Rattle.std.specs.Prelude.{All, if◌then◌else◌}
 use Rattle.std.specs.List.{AllByRecursion, flat_map, list_all, list_any}
-use Rattle.std.proofs.lemmas.Bool.{and_from, and_parts, eqb-true, not-false}
-use Rattle.std.proofs.lemmas.List.Elements.{All-cons, All-nil}
+use Rattle.std.proofs.lemmas.Bool.{and_from, and_parts, eq-eqb, eqb-true, not-false}
+use Rattle.std.proofs.lemmas.List.{length-map, nil_from_length}
+use Rattle.std.proofs.lemmas.List.Elements.{All-from_recursion, recursion_from_All}
 use Rattle.std.proofs.lemmas.List.Concat.{flat_map-cons}
 use Rattle.std.proofs.lemmas.List.Folds.{list_any-append}
 use Rattle.pk_dead.specs.Sets.{with_number}
@@ -23,7 +24,10 @@ use Rattle.pk_open.specs.Opening.{IsGrown}
 use Rattle.pk_space.specs.Places.{PlacedAs}
 use Rattle.pk_state.specs.Committed.{Stored, lists}
 use Rattle.pk_state.specs.Kept.{AreEntries, IsEntry, IsList, IsSegment, claims_in, claims_of}
-use Rattle.pk_layout.specs.Plan.{AreSettled, laid_in, new_lists, relisted, settled, settled_in, with_list}
+use Rattle.pk_layout.specs.declared.change.NewList.{NewList}
+use Rattle.pk_layout.specs.Change.{listed_entries, new_lists_in, with_list}
+use Rattle.pk_layout.specs.Plan.{AreSettled, laid_in, new_lists, relisted, settled, settled_in}
+use Rattle.pk_layout.proofs.ChangeLemmas.{lists_entries, lists_settle}
 use Rattle.pk_layout.proofs.ApartLemmas.{any_out, apart_from, apart_out}
 use Rattle.pk_layout.proofs.ExtentLemmas.{apart_parts, overlap_sym}
 
@@ -33,23 +37,26 @@ by_test true h k = h refl
 by_test false h k = k refl
 
 -- ---- the entries of the open segments that a commit leaves
-unlisted : (os : List OpenSegment) → entries_of (settled_in os []) ≡ entries_of os
-unlisted [] = refl
-unlisted (o ∷ os) = ap (λ es. o.entry ∷ es) (unlisted os)
-
 pub settled_entries : (os : List OpenSegment) (xs : List Extent) → entries_of (settled_in os xs) ≡ relisted (entries_of os) os xs
 settled_entries [] xs = refl
-settled_entries (o ∷ os) [] = unlisted (o ∷ os)
+settled_entries (o ∷ os) [] = refl
 settled_entries (o ∷ os) (x ∷ xs) = by (pends o) (settled_entries os xs) (settled_entries os (x ∷ xs))
   where
     by : (b : Bool) → entries_of (settled_in os xs) ≡ relisted (entries_of os) os xs → entries_of (settled_in os (x ∷ xs)) ≡ relisted (entries_of os) os (x ∷ xs)
-        → entries_of (if b then settled (with_list o.entry x) o ∷ settled_in os xs else settled o.entry o ∷ settled_in os (x ∷ xs)) ≡ (if b then with_list o.entry x ∷ relisted (entries_of os) os xs else o.entry ∷ relisted (entries_of os) os (x ∷ xs))
+        → entries_of (if b then settled x o ∷ settled_in os xs else o ∷ settled_in os (x ∷ xs)) ≡ (if b then with_list o.entry x ∷ relisted (entries_of os) os xs else o.entry ∷ relisted (entries_of os) os (x ∷ xs))
     by true more same = ap (λ es. with_list o.entry x ∷ es) more
     by false more same = ap (λ es. o.entry ∷ es) same
 
--- so those of the segments that are kept are the entries with their new lists
-pub kept_entries : (es : List Entry) (os kept : List OpenSegment) (xs : List Extent) → entries_of os ≡ es → kept ≡ settled_in os xs → entries_of kept ≡ relisted es os xs
-kept_entries es os kept xs same is = ap entries_of is ∙ settled_entries os xs ∙ ap (λ (fs : List Entry). relisted fs os xs) same
+-- so the entries with these lists are those with their new lists
+pub listed_are : (es : List Entry) (os : List OpenSegment) (xs : List Extent) (fs : List Entry) (ls ks : List NewList) → entries_of os ≡ es → fs ≡ es → ks ≡ ls → ls ≡ new_lists_in 0 os xs → listed_entries fs ks ≡ relisted es os xs
+listed_are es os xs fs ls ks same are lent made =
+    (λ i. listed_entries ((are ∙ sym same) i) ((lent ∙ made) i)) ∙ sym (lists_entries os (new_lists_in 0 os xs)) ∙ ap entries_of (lists_settle os xs) ∙ settled_entries os xs ∙ ap (λ (ys : List Entry). relisted ys os xs) same
+
+-- and each has a place among them
+pub lists_within_entries : (es : List Entry) (os : List OpenSegment) (fs : List Entry) (ls ks : List NewList) → entries_of os ≡ es → fs ≡ es → ks ≡ ls → All (λ (l : NewList). l.place < length os) ls → All (λ (l : NewList). l.place < length fs) ks
+lists_within_entries es os fs ls ks same are lent within =
+    let long : length os ≡ length fs = sym (length-map os (λ (o : OpenSegment). o.entry)) ∙ ap length (same ∙ sym are) in
+    subst (λ n. All (λ (l : NewList). l.place < n) ks) long (subst (All (λ (l : NewList). l.place < length os)) (sym lent) within)
 
 -- ---- a segment without a pending deletion
 
@@ -325,35 +332,59 @@ claims_relisted units taken (e ∷ es) (o ∷ os) (s ∷ stored) (x ∷ xs) entr
 -- ---- segments whose deletions are all committed
 
 -- open after it
-one_settled : (e : Entry) (o : OpenSegment) (s : Stored) → e.kind ≡ o.entry.kind → IsOpenOf o s → IsOpenOf (settled e o) (with_deleted o s)
-one_settled e o s kind is = record { segment = is.segment; dictionary = λ two. is.dictionary (sym kind ∙ two); dead = refl; kept = λ n h. h; names = is.names; posting = is.posting; was = is.posting }
+one_settled : (x : Extent) (o : OpenSegment) (s : Stored) → IsOpenOf o s → IsOpenOf (settled x o) (with_deleted o s)
+one_settled x o s is = record { segment = is.segment; dictionary = is.dictionary; dead = refl; kept = λ n h. h; names = is.names; posting = is.posting; was = is.posting }
 
-pub settled_open : (os : List OpenSegment) (xs : List Extent) (stored : List Stored) → AreOpenOf os stored → AreOpenOf (settled_in os xs) (present os stored)
-settled_open [] xs [] are = tt
-settled_open [] xs (s ∷ stored) are = absurd are
-settled_open (o ∷ os) xs [] are = absurd are
-settled_open (o ∷ os) [] (s ∷ stored) are = (one_settled o.entry o s refl are.0, settled_open os [] stored are.1)
-settled_open (o ∷ os) (x ∷ xs) (s ∷ stored) are = by (pends o) (settled_open os xs stored are.1) (settled_open os (x ∷ xs) stored are.1)
-  where
-    by : (b : Bool) → AreOpenOf (settled_in os xs) (present os stored) → AreOpenOf (settled_in os (x ∷ xs)) (present os stored)
-        → AreOpenOf (if b then settled (with_list o.entry x) o ∷ settled_in os xs else settled o.entry o ∷ settled_in os (x ∷ xs)) (with_deleted o s ∷ present os stored)
-    by true more same = (one_settled (with_list o.entry x) o s refl are.0, more)
-    by false more same = (one_settled o.entry o s refl are.0, same)
+-- where none is pending
+one_kept : (o : OpenSegment) (s : Stored) → IsOpenOf o s → pends o ≡ false → IsOpenOf o (with_deleted o s)
+one_kept o s is none = subst (IsOpenOf o) (sym (settled_stored o s is none)) is
 
-pub settled_are : (os : List OpenSegment) (xs : List Extent) → AreSettled (settled_in os xs)
-settled_are [] xs = tt
-settled_are (o ∷ os) [] = (refl, settled_are os [])
-settled_are (o ∷ os) (x ∷ xs) = by (pends o) (settled_are os xs) (settled_are os (x ∷ xs))
-  where
-    by : (b : Bool) → AreSettled (settled_in os xs) → AreSettled (settled_in os (x ∷ xs)) → AreSettled (if b then settled (with_list o.entry x) o ∷ settled_in os xs else settled o.entry o ∷ settled_in os (x ∷ xs))
-    by true more same = (refl, more)
-    by false more same = (refl, same)
+-- no extent for no list
+no_list : (os : List OpenSegment) (xs : List Extent) → length xs ≡ length (new_lists os) → xs ≡ [] → new_lists os ≡ []
+no_list os xs same none = nil_from_length (new_lists os) (sym same ∙ ap length none)
 
-pub settled_grown : (os : List OpenSegment) (xs : List Extent) → All IsGrown (settled_in os xs)
-settled_grown [] xs = All-nil IsGrown
-settled_grown (o ∷ os) [] = All-cons IsGrown (settled o.entry o) (settled_in os []) (omega arith) (settled_grown os [])
-settled_grown (o ∷ os) (x ∷ xs) = by (pends o) (settled_grown os xs) (settled_grown os (x ∷ xs))
+pub settled_open : (os : List OpenSegment) (xs : List Extent) (stored : List Stored) → length xs ≡ length (new_lists os) → AreOpenOf os stored → AreOpenOf (settled_in os xs) (present os stored)
+settled_open [] xs [] same are = tt
+settled_open [] xs (s ∷ stored) same are = absurd are
+settled_open (o ∷ os) xs [] same are = absurd are
+settled_open (o ∷ os) [] (s ∷ stored) same are = subst (AreOpenOf (o ∷ os)) (sym (all_settled (o ∷ os) (s ∷ stored) are (no_list (o ∷ os) [] same refl))) are
+settled_open (o ∷ os) (x ∷ xs) (s ∷ stored) same are = by (pends o) refl same (λ h. settled_open os xs stored h are.1) (λ h. settled_open os (x ∷ xs) stored h are.1)
   where
-    by : (b : Bool) → All IsGrown (settled_in os xs) → All IsGrown (settled_in os (x ∷ xs)) → All IsGrown (if b then settled (with_list o.entry x) o ∷ settled_in os xs else settled o.entry o ∷ settled_in os (x ∷ xs))
-    by true more same = All-cons IsGrown (settled (with_list o.entry x) o) (settled_in os xs) (omega arith) more
-    by false more same = All-cons IsGrown (settled o.entry o) (settled_in os (x ∷ xs)) (omega arith) same
+    by : (b : Bool) → pends o ≡ b → length (x ∷ xs) ≡ length (if b then spelling o.deleted ∷ new_lists os else new_lists os) → (length xs ≡ length (new_lists os) → AreOpenOf (settled_in os xs) (present os stored)) → (length (x ∷ xs) ≡ length (new_lists os) → AreOpenOf (settled_in os (x ∷ xs)) (present os stored))
+        → AreOpenOf (if b then settled x o ∷ settled_in os xs else o ∷ settled_in os (x ∷ xs)) (with_deleted o s ∷ present os stored)
+    by true is long more keep = (one_settled x o s are.0, more (omega (arith, long)))
+    by false is long more keep = (one_kept o s are.0 is, keep long)
+
+-- no deletion is pending then
+none_pends : (os : List OpenSegment) → new_lists os ≡ [] → AreSettled os
+none_pends [] none = refl
+none_pends (o ∷ os) none = by (none_pends os) (pends o) none
+  where
+    by : (new_lists os ≡ [] → AreSettled os) → (b : Bool) → (if b then spelling o.deleted ∷ new_lists os else new_lists os) ≡ [] → (b || list_any pends os) ≡ false
+    by more true h = absurd (omega (arith, ap length h))
+    by more false h = more h
+
+settled_pends : (x : Extent) (o : OpenSegment) → pends (settled x o) ≡ false
+settled_pends x o = ap not (eq-eqb (length o.deleted) (length o.deleted) refl)
+
+pub settled_are : (os : List OpenSegment) (xs : List Extent) → length xs ≡ length (new_lists os) → AreSettled (settled_in os xs)
+settled_are [] xs same = refl
+settled_are (o ∷ os) [] same = none_pends (o ∷ os) (no_list (o ∷ os) [] same refl)
+settled_are (o ∷ os) (x ∷ xs) same = by (pends o) refl same (settled_are os xs) (settled_are os (x ∷ xs))
+  where
+    by : (b : Bool) → pends o ≡ b → length (x ∷ xs) ≡ length (if b then spelling o.deleted ∷ new_lists os else new_lists os) → (length xs ≡ length (new_lists os) → AreSettled (settled_in os xs)) → (length (x ∷ xs) ≡ length (new_lists os) → AreSettled (settled_in os (x ∷ xs)))
+        → AreSettled (if b then settled x o ∷ settled_in os xs else o ∷ settled_in os (x ∷ xs))
+    by true is long more keep = or_both (pends (settled x o)) (list_any pends (settled_in os xs)) (settled_pends x o) (more (omega (arith, long)))
+    by false is long more keep = or_both (pends o) (list_any pends (settled_in os (x ∷ xs))) is (keep long)
+
+grown_settled : (os : List OpenSegment) (xs : List Extent) → AllByRecursion IsGrown os → AllByRecursion IsGrown (settled_in os xs)
+grown_settled [] xs grown = tt
+grown_settled (o ∷ os) [] grown = grown
+grown_settled (o ∷ os) (x ∷ xs) grown = by (pends o) (grown_settled os xs grown.1) (grown_settled os (x ∷ xs) grown.1)
+  where
+    by : (b : Bool) → AllByRecursion IsGrown (settled_in os xs) → AllByRecursion IsGrown (settled_in os (x ∷ xs)) → AllByRecursion IsGrown (if b then settled x o ∷ settled_in os xs else o ∷ settled_in os (x ∷ xs))
+    by true more same = (omega arith, more)
+    by false more same = (grown.0, same)
+
+pub settled_grown : (os : List OpenSegment) (xs : List Extent) → All IsGrown os → All IsGrown (settled_in os xs)
+settled_grown os xs grown = All-from_recursion IsGrown (settled_in os xs) (grown_settled os xs (recursion_from_All IsGrown os grown))

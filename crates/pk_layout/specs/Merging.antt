@@ -29,6 +29,7 @@ use Rattle.pk_layout.specs.declared.fault.LayoutFault.TheVariants.{TooLarge, Ful
 use Rattle.pk_layout.specs.declared.merging.MergePlan.{MergePlan}
 use Rattle.pk_layout.specs.declared.merging.NewSegment.{NewSegment}
 use Rattle.pk_layout.specs.Deletions.{most_deleted}
+use Rattle.pk_layout.specs.Change.{changed}
 use Rattle.pk_layout.specs.Plan.{GoesOn, GoesTo, IsPlan, IsPlanOf, PromisesTable, entry_in, ids_in, laid_in}
 use Rattle.pk_layout.specs.Plan.{new_segments, table_bytes, tabled}
 
@@ -106,11 +107,7 @@ IsNewOf docs (Some new) = IsSegmentTo docs new
 abbrev pub run_of : {X : Type 0} → ℕ → ℕ → List X → List X
 run_of from n xs = take n (drop from xs)
 
--- the open segment that there may be, and the extent of its bytes
-abbrev pub opened_in : Option OpenSegment → List OpenSegment
-opened_in None = []
-opened_in (Some o) = o ∷ []
-
+-- the extent that there may be
 abbrev pub extents_in : Option Extent → List Extent
 extents_in None = []
 extents_in (Some e) = e ∷ []
@@ -149,7 +146,8 @@ PlansMerged b opened from n new (Ok m) =
     (merged : List OpenSegment) × AreMerged (run_of from n opened) new merged
     × (entries_of merged ≡ entry_in b m.place) × (table : List Extent) × (length (extents_in m.place) ≡ length (lengths_in new))
     × PlacedAs b.units (named b) (lengths_merged b n new) (extents_in m.place ++ table)
-    × IsPlanOf (tabled table (body_merged b from n m.place)) (replaced from n merged opened) m.plan
+    × IsPlanOf (tabled table (body_merged b from n m.place)) opened (replaced from n merged opened)
+    m.plan
     × (pieces_behind m ≡ laid_in table (table_bytes (body_merged b from n m.place).entries))
 PlansMerged b opened from n new (Err (Full need largest)) =
     FullAs b.units (named b) (lengths_merged b n new) need largest
@@ -173,10 +171,10 @@ pub record PlansMerge (b : Body) (opened : List OpenSegment) (stored : List Stor
   pub fits : is_too_large (live_in (run_of from n stored)) ≡ false
   pub goes : GoesTo (merge_touches m)
       (λ c. IsAmong c (laid_in (extents_in m.place) (new_segments (live_in (run_of from n stored))))
-      ⊎ IsAmong c (pieces_behind m)) m.plan (record { body = b; stored = stored })
+      ⊎ IsAmong c (pieces_behind m)) opened m.plan (record { body = b; stored = stored })
       (with_table table
       (after_merge (record { body = b; stored = stored }) from n (extents_in m.place)))
-  pub now : live_in (present m.plan.opened.items
+  pub now : live_in (present (changed m.plan.change opened)
       (after_merge (record { body = b; stored = stored }) from n (extents_in m.place)).stored)
       ≡ live_in (present opened stored)
 
@@ -205,7 +203,7 @@ pub record MayFollow (size : ℕ) (m : MergePlan) : Type 0 where
 -- alone, and leaves the next number.
 pub record PlansRightly (size : ℕ) (b : Body) (opened : List OpenSegment) (n : ℕ)
     (new : Option NewSegment) (m : MergePlan) : Type 0 where
-  pub plan : IsPlan size b m.plan
+  pub plan : IsPlan size b opened m.plan
   pub goes_on : GoesOn (merge_touches m) b opened m.plan
   pub next_number : (view m.plan.manifest).next_number ≡ b.next_number
   pub table : List Extent

@@ -3,7 +3,7 @@ use Rattle.std.specs.Prelude.{◌≡◌, ◌+◌, ◌*◌, ◌≤◌, ◌<◌, �
 use Rattle.std.specs.Prelude.{[], ◌∷◌, ◌++◌, if◌then◌else◌}
 use Rattle.std.specs.Prelude.{get_or, map, length, All, Option, Some, None, Result, Ok, Err}
 use Rattle.std.specs.Global.{Vec}
-use Rattle.std.specs.List.{flat_map}
+use Rattle.std.specs.List.{flat_map, list_any}
 use Rattle.std.specs.List.Sorted.{IsStrictlyIncreasing}
 use Rattle.pk_disk.specs.Disk.{in_range}
 use Rattle.pk_disk.specs.Units.{IsFitted, start_of, units_for, units_in}
@@ -39,11 +39,9 @@ use Rattle.pk_layout.specs.declared.committing.CommitPlan.{CommitPlan}
 use Rattle.pk_layout.specs.declared.fault.LayoutFault.{LayoutFault}
 use Rattle.pk_layout.specs.declared.fault.LayoutFault.TheVariants.{TooLarge, Full, Damaged, Memory}
 use Rattle.pk_layout.specs.declared.planning.Plan.{Plan}
+use Rattle.pk_layout.specs.declared.change.Change.{Change}
+use Rattle.pk_layout.specs.Change.{Fits, changed, with_list}
 use Rattle.pk_layout.specs.Placed.{AreLaid}
-
--- the entry with a list in this extent
-abbrev pub with_list : Entry → Extent → Entry
-with_list e x = record { segment = e.segment; extent = e.extent; kind = e.kind; dead = Some x }
 
 -- the entries, those with a pending deletion with their new lists in these extents, one after the
 -- other
@@ -97,22 +95,27 @@ abbrev pub table_bytes : List Entry → List (List ℕ)
 table_bytes [] = []
 table_bytes (e ∷ entries) = flat_map entry (e ∷ entries) ∷ []
 
--- an open segment with this entry, whose deletions are committed
-abbrev pub settled : Entry → OpenSegment → OpenSegment
-settled e o = record { entry = e; segment = o.segment; dead = o.deleted; deleted = o.deleted }
+-- the open segment with all its deletions in a list in this extent
+abbrev pub settled : Extent → OpenSegment → OpenSegment
+settled x o = record {
+  entry = with_list o.entry x;
+  segment = o.segment;
+  dead = o.deleted;
+  deleted = o.deleted;
+}
 
--- the open segments with their deletions committed, those with a pending one with their new lists in
--- these extents, one after the other
+-- the open segments, those with a pending deletion with all of them in their new lists in these
+-- extents, one after the other
 abbrev pub settled_in : List OpenSegment → List Extent → List OpenSegment
 settled_in [] extents = []
-settled_in (o ∷ opened) [] = settled o.entry o ∷ settled_in opened []
+settled_in (o ∷ opened) [] = o ∷ opened
 settled_in (o ∷ opened) (x ∷ extents) =
-    if pends o then settled (with_list o.entry x) o ∷ settled_in opened extents
-    else settled o.entry o ∷ settled_in opened (x ∷ extents)
+    if pends o then settled x o ∷ settled_in opened extents
+    else o ∷ settled_in opened (x ∷ extents)
 
+-- no deletion is pending
 abbrev pub AreSettled : List OpenSegment → Type 0
-AreSettled [] = Unit {0}
-AreSettled (o ∷ opened) = (o.deleted ≡ o.dead) × AreSettled opened
+AreSettled opened = list_any pends opened ≡ false
 
 -- what is committed after a commit of these documents and of all that is deleted
 abbrev pub commit_to : Committed → List OpenSegment → List Doc → ℕ → List Extent → Committed
@@ -137,23 +140,31 @@ laid_in (e ∷ extents) [] = []
 laid_in (e ∷ extents) (w ∷ writes) =
     record { at = start_of e; bytes = w } ∷ laid_in extents writes
 
--- the plan puts that body in force, with these open segments
-pub record IsPlanOf (b : Body) (opened : List OpenSegment) (p : Plan) : Type 0 where
+-- the plan puts that body in force, with that change
+pub record PutsInForce (b : Body) (c : Change) (p : Plan) : Type 0 where
   pub manifest_is : view p.manifest ≡ b
-  pub opened_is : p.opened.items ≡ opened
+  pub change_is : p.change ≡ c
+  pub body_is : p.body.items ≡ spelling (view p.manifest)
+
+-- the plan puts that body in force, and makes of the open segments others
+pub record IsPlanOf (b : Body) (opened next : List OpenSegment) (p : Plan) : Type 0 where
+  pub manifest_is : view p.manifest ≡ b
+  pub opened_is : changed p.change opened ≡ next
+  pub fits : Fits p.change (length opened)
   pub body_is : p.body.items ≡ spelling (view p.manifest)
 
 -- A PLAN FOR A BODY, on a disk of so many bytes: the body that follows is sound, of version 2, a
 -- generation later, with an open segment and 40 bytes of its table for each entry.
-pub record IsPlan (size : ℕ) (b : Body) (p : Plan) : Type 0 where
+pub record IsPlan (size : ℕ) (b : Body) (segments : List OpenSegment) (p : Plan) : Type 0 where
   pub generation : b.generation < end_of_ids
   pub later : (view p.manifest).generation ≡ b.generation + 1
   pub version : (view p.manifest).version ≡ 2
   pub sound : IsBody (units_in size) (view p.manifest)
   pub body_is : p.body.items ≡ spelling (view p.manifest)
   pub table : (view p.manifest).table.bytes ≡ 40 * length (view p.manifest).entries
-  pub opened : entries_of p.opened.items ≡ (view p.manifest).entries
-  pub grown : All IsGrown p.opened.items
+  pub fits : Fits p.change (length segments)
+  pub opened : entries_of (changed p.change segments) ≡ (view p.manifest).entries
+  pub grown : All IsGrown (changed p.change segments)
 
 -- what a commit writes, as claims
 abbrev pub pieces_of : CommitPlan → List Claim
@@ -184,17 +195,17 @@ AreTaken next opened (o ∷ os) =
 pub record GoesOn (touched : ℕ → Bool) (b : Body) (opened : List OpenSegment) (p : Plan)
     : Type 0 where
   pub ids : b.next_segment ≤ (view p.manifest).next_segment
-  pub taken : AreTaken b.next_segment opened p.opened.items
+  pub taken : AreTaken b.next_segment opened (changed p.change opened)
   pub missed : (claims : List Claim) → AreLaid (named b) claims
       → Each (IsUntouched touched) claims
 
 -- The plan takes what is committed over to this: no claim of what was is touched, and each claim of
 -- what follows is one of these or promised.
-pub record GoesTo (touched : ℕ → Bool) (promised : Claim → Type 0) (p : Plan) (old new : Committed)
-    : Type 0 where
+pub record GoesTo (touched : ℕ → Bool) (promised : Claim → Type 0) (segments : List OpenSegment)
+    (p : Plan) (old new : Committed) : Type 0 where
   pub body : new.body ≡ view p.manifest
   pub entries : AreEntries new.body.entries new.stored
-  pub opened : AreOpenOf p.opened.items new.stored
+  pub opened : AreOpenOf (changed p.change segments) new.stored
   pub next : (spare : Half) → IsNext spare touched promised
       (all_claims old) (all_claims new)
 
@@ -242,17 +253,18 @@ lengths_with writes count = map length writes ++ table_writes count
 
 -- a plan that writes these bytes at the first fit, and behind them the table of so many entries, and
 -- puts the body of their extents in force with these open segments, or why there is none
-abbrev pub PlansWith : Body → List (List ℕ) → ℕ → (List Extent → List OpenSegment)
-    → (List Extent → Body) → Result CommitPlan LayoutFault → Type 0
-PlansWith b writes count opened body (Ok p) =
+abbrev pub PlansWith : Body → List OpenSegment → List (List ℕ) → ℕ
+    → (List Extent → List OpenSegment) → (List Extent → Body) → Result CommitPlan LayoutFault
+    → Type 0
+PlansWith b opened writes count next body (Ok p) =
     (extents : List Extent) × (table : List Extent) × (length extents ≡ length writes)
     × PlacedAs b.units (named b) (lengths_with writes count) (extents ++ table)
-    × IsPlanOf (tabled table (body extents)) (opened extents) p.plan
+    × IsPlanOf (tabled table (body extents)) opened (next extents) p.plan
     × (pieces_of p ≡ laid_in (extents ++ table) (writes ++ table_bytes (body extents).entries))
-PlansWith b writes count opened body (Err (Full need largest)) =
+PlansWith b opened writes count next body (Err (Full need largest)) =
     FullAs b.units (named b) (lengths_with writes count) need largest
-PlansWith b writes count opened body (Err Memory) = Unit {0}
-PlansWith b writes count opened body (Err why) = ⊥
+PlansWith b opened writes count next body (Err Memory) = Unit {0}
+PlansWith b opened writes count next body (Err why) = ⊥
 
 -- an open segment just built, with its entry
 abbrev pub fresh_segment : Entry → Segment → OpenSegment
@@ -260,7 +272,7 @@ fresh_segment e s = record { entry = e; segment = s; dead = []; deleted = [] }
 
 -- the open segments after a commit with a segment in the first of the extents
 abbrev pub opened_with_segment : Body → List OpenSegment → Segment → List Extent → List OpenSegment
-opened_with_segment b opened s [] = settled_in opened []
+opened_with_segment b opened s [] = opened
 opened_with_segment b opened s (e ∷ extents) =
     settled_in opened extents ++ fresh_segment (new_entry b e) s ∷ []
 
@@ -286,7 +298,7 @@ ids_in (Some e) = 1
 pub record PlansCommit (b : Body) (opened : List OpenSegment) (docs : List Doc) (next : ℕ)
     (p : CommitPlan) : Type 0 where
   pub next_is : (view p.plan.manifest).next_number ≡ next
-  pub settled : AreSettled p.plan.opened.items
+  pub settled : AreSettled (changed p.plan.change opened)
   pub extents : List Extent
   pub table : List Extent
   pub before : length extents ≡ length (commit_bytes opened docs)
@@ -296,7 +308,7 @@ pub record PlansCommit (b : Body) (opened : List OpenSegment) (docs : List Doc) 
   pub goes_on : GoesOn (places (pieces_of p)) b opened p.plan
   pub tabled : PromisesTable (λ c. IsAmong c (pieces_of p)) p.plan
   pub goes : (stored : List Stored) → AreEntries b.entries stored → AreOpenOf opened stored
-      → GoesTo (places (pieces_of p)) (λ c. IsAmong c (pieces_of p)) p.plan
+      → GoesTo (places (pieces_of p)) (λ c. IsAmong c (pieces_of p)) opened p.plan
       (record { body = b; stored = stored })
       (with_table table (commit_to (record { body = b; stored = stored }) opened docs next extents))
 
@@ -304,7 +316,7 @@ pub record PlansCommit (b : Body) (opened : List OpenSegment) (docs : List Doc) 
 abbrev pub PlansAs : ℕ → Body → List OpenSegment → List Doc → ℕ → Result CommitPlan LayoutFault
     → Type 0
 PlansAs size b opened docs next (Ok p) =
-    IsPlan size b p.plan × PlansCommit b opened docs next p × HavePlace size p
+    IsPlan size b opened p.plan × PlansCommit b opened docs next p × HavePlace size p
 PlansAs size b opened docs next (Err TooLarge) = is_too_large docs ≡ true
 PlansAs size b opened docs next (Err (Full need largest)) = (is_too_large docs ≡ false)
     × FullAs b.units (named b)

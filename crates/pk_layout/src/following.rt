@@ -1,11 +1,9 @@
-//! The body that follows, and the segments that are open then. Nothing here asks for the bytes of
-//! what is written: the extents and the open segments do.
-ghost use Rattle.std.specs.Prelude.{◌≡◌, ◌<◌, ◌++◌, ◌∷◌, [], List, IfOk, OnOk};
-ghost use Rattle.pk_layout.specs.Plan.{entry_in, fresh_segment, ids_in, settled, settled_in};
-ghost use Rattle.pk_layout.specs.Plan.{tabled, with_list};
+//! The body that follows, and the segment that is new in it. Nothing here asks for the bytes of what
+//! is written: the extents and the open segments do.
+ghost use Rattle.std.specs.Prelude.{◌≡◌, ◌<◌, ◌++◌, IfOk};
+ghost use Rattle.pk_layout.specs.Plan.{entry_in, fresh_segment, ids_in, tabled};
 ghost use Rattle.pk_manifest.specs.Spelling.{view};
 ghost use Rattle.pk_model.specs.Limits.{end_of_ids};
-ghost use Rattle.pk_open.specs.Opened.{entries_of};
 ghost use Rattle.pk_state.specs.Writing.{new_entry, next_body};
 
 use crate::planning::{table_in, written_kind};
@@ -15,74 +13,6 @@ use pk_manifest::{Manifest, Part};
 use pk_open::OpenSegment;
 use pk_segment::Segment;
 use std::alloc::{AllocError, Global};
-
-// The entry with its deletion list in this extent.
-fn with_list(entry: Part, extent: Extent) -> Part
-    ensures { result ≡ with_list entry extent }
-{
-    Part {
-        dead: Some(extent),
-        ..entry
-    }
-}
-
-// The entry of a segment in the next body, and the extents that are left for others: with a pending
-// deletion its list is in the first of them.
-fn next_entry<'a>(segment: &OpenSegment, lists: &'a [Extent]) -> (Part, &'a [Extent])
-    ensures { (rest : List OpenSegment) → settled_in (segment.now ∷ rest) lists.now
-        ≡ settled result.0 segment.now ∷ settled_in rest result.1.now }
-{
-    let Some((list, others)) = lists.split_first() else {
-        return (segment.entry, lists);
-    };
-    if !segment.is_pending() {
-        return (segment.entry, lists);
-    }
-    (with_list(segment.entry, *list), others)
-}
-
-// The open segment with this entry, and with all its deletions in its list.
-fn settled(alloc: Global, entry: Part, segment: &OpenSegment) -> Result<OpenSegment, AllocError>
-    ensures { IfOk result (λ o. o ≡ settled entry segment.now) }
-{
-    Ok(OpenSegment {
-        entry,
-        segment: segment.segment,
-        dead: segment.deleted.copy(alloc)?,
-        deleted: segment.deleted.copy(alloc)?,
-    })
-}
-
-/// The open segments, each with all its deletions in its list: those with a pending deletion with
-/// their new lists, in these extents. There is room for one more.
-pub(crate) fn settled_in(
-    alloc: Global,
-    opened: &[OpenSegment],
-    extents: &[Extent],
-) -> Result<Vec<OpenSegment>, AllocError>
-    ensures { IfOk result (λ v. v.items ≡ settled_in opened.now extents.now) }
-{
-    let mut kept = Vec::with_capacity(alloc, opened.len() + 1)?;
-    let mut lists = extents;
-    for segment in opened {
-        let (entry, others) = next_entry(segment, lists);
-        lists = others;
-        let next = settled(alloc, entry, segment)?;
-        kept.push(next)?;
-    }
-    Ok(kept)
-}
-
-/// The entries of open segments.
-pub(crate) fn entries_of(alloc: Global, opened: &[OpenSegment]) -> Result<Vec<Part>, AllocError>
-    ensures { IfOk result (λ v. v.items ≡ entries_of opened.now) }
-{
-    let mut entries = Vec::with_capacity(alloc, opened.len() + 1)?;
-    for segment in opened {
-        entries.push(segment.entry)?;
-    }
-    Ok(entries)
-}
 
 /// The entry of a new segment in this extent.
 pub(crate) fn new_entry(manifest: &Manifest, extent: Extent) -> Part
@@ -96,22 +26,16 @@ pub(crate) fn new_entry(manifest: &Manifest, extent: Extent) -> Part
     }
 }
 
-/// Puts a new open segment behind the others, of which nothing is deleted.
-pub(crate) fn put_fresh(
-    alloc: Global,
-    out: &mut Vec<OpenSegment>,
-    entry: Part,
-    segment: Segment,
-) -> Result<(), AllocError>
-    ensures { OnOk result (out.new.items ≡ out.old.items ++ fresh_segment entry segment ∷ []) }
+/// A segment just built, open: of its documents nothing is deleted.
+pub(crate) fn fresh_segment(alloc: Global, entry: Part, segment: Segment) -> OpenSegment
+    ensures { result ≡ fresh_segment entry segment }
 {
-    out.push(OpenSegment {
+    OpenSegment {
         entry,
         segment,
         dead: Dead::new(alloc),
         deleted: Dead::new(alloc),
-    })?;
-    Ok(())
+    }
 }
 
 /// The entries of a body that follows, around that of a new segment.

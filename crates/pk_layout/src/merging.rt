@@ -6,14 +6,14 @@
 ghost use Rattle.std.specs.Prelude.{◌≡◌, ◌≤◌, ◌<◌, ◌+◌, Some, None, Ok, length};
 ghost use Rattle.std.specs.Prelude.{IfOk};
 ghost use Rattle.pk_layout.specs.Merging.{IsSized, PlansMerged, PutsPending, TakesPending};
-ghost use Rattle.pk_layout.specs.Merging.{body_merged, opened_in};
+ghost use Rattle.pk_layout.specs.Merging.{body_merged};
 ghost use Rattle.pk_layout.specs.Plan.{tabled};
 ghost use Rattle.pk_manifest.specs.Sound.{IsBody};
 ghost use Rattle.pk_manifest.specs.Spelling.{view};
 ghost use Rattle.pk_model.specs.Limits.{end_of_ids};
 ghost use Rattle.pk_open.specs.Opened.{entries_of};
-ghost use Rattle.pk_state.specs.Writing.{replaced};
 
+use crate::change::{Change, Run};
 use crate::fault::LayoutFault;
 use crate::following::{NextEntries, new_entry, next_manifest};
 use crate::placing::place_behind;
@@ -21,20 +21,11 @@ use crate::planning::{Plan, pieces_with, plan_for};
 use pk_dead::Dead;
 use pk_disk::Extent;
 use pk_manifest::Manifest;
-use pk_open::{OpenSegment, put_copies};
+use pk_open::OpenSegment;
 use pk_posting::LONGEST_LIST;
 use pk_replace::Piece;
 use pk_segment::Segment;
 use std::alloc::{AllocError, Global};
-
-/// A run of neighbouring segments.
-#[derive(Clone, Copy, Debug)]
-pub struct Run {
-    /// The place of the first.
-    pub from: usize,
-    /// How many there are.
-    pub count: usize,
-}
 
 /// The segment that a merge is going to write.
 #[derive(Clone, Copy, Debug)]
@@ -85,25 +76,6 @@ fn pending_of(alloc: Global, opened: &[OpenSegment]) -> Result<Dead, LayoutFault
     Ok(pending)
 }
 
-// The open segments with this one, if there is one, in the place of a run of them.
-fn opened_merged(
-    alloc: Global,
-    opened: &[OpenSegment],
-    run: Run,
-    segment: Option<OpenSegment>,
-) -> Result<Vec<OpenSegment>, AllocError>
-    requires within { run.from + run.count ≤ length opened.now }
-    ensures { IfOk result (λ v. v.items ≡ replaced run.from run.count (opened_in segment) opened.now) }
-{
-    let mut kept = Vec::new(alloc);
-    put_copies(alloc, &mut kept, &opened[..run.from])?;
-    if let Some(segment) = segment {
-        kept.push(segment)?;
-    }
-    put_copies(alloc, &mut kept, &opened[run.from + run.count..])?;
-    Ok(kept)
-}
-
 // The body with the segment in this extent, if there is one, in the place of a run of its entries.
 fn manifest_merged(
     alloc: Global,
@@ -144,9 +116,9 @@ fn plan_none(
 {
     let extents = place_behind(alloc, manifest, &[], manifest.entries.len() - run.count)?;
     let next = manifest_merged(alloc, manifest, run, None, &extents)?;
-    let kept = opened_merged(alloc, opened, run, None)?;
     let pieces = pieces_with(alloc, Vec::new(alloc), &next, &extents)?;
-    let plan = plan_for(alloc, next, kept)?;
+    let change = Change::of_run(alloc, run, None);
+    let plan = plan_for(alloc, next, change)?;
     Ok(MergePlan {
         plan,
         place: None,
@@ -185,8 +157,8 @@ fn plan_one(
         dead: Dead::new(alloc),
         deleted,
     };
-    let kept = opened_merged(alloc, opened, run, Some(merged))?;
-    let plan = plan_for(alloc, next, kept)?;
+    let change = Change::of_run(alloc, run, Some(merged));
+    let plan = plan_for(alloc, next, change)?;
     Ok(MergePlan {
         plan,
         place: Some(*place),

@@ -1,8 +1,8 @@
-//! The plan: the body that is going to be in force, and what is kept once it is. All its memory is
+//! The plan: the body that is going to be in force, and what changes once it is. All its memory is
 //! taken, and nothing of the disk was touched.
 ghost use Rattle.std.specs.Prelude.{◌≡◌, ◌≤◌, ◌+◌, ◌++◌, ◌∷◌, [], List, length, map, All};
 ghost use Rattle.std.specs.Prelude.{IfOk, OnOk};
-ghost use Rattle.pk_layout.specs.Plan.{CanBeWritten, IsGrown, IsPlanOf, laid_in, new_lists};
+ghost use Rattle.pk_layout.specs.Plan.{CanBeWritten, IsGrown, PutsInForce, laid_in, new_lists};
 ghost use Rattle.pk_layout.specs.Plan.{table_at, table_bytes};
 ghost use Rattle.pk_manifest.specs.Sound.{entry_limit};
 ghost use Rattle.pk_manifest.specs.Spelling.{no_extent, view};
@@ -12,6 +12,7 @@ ghost use Rattle.pk_segment.specs.Placed.{IsIndexedOf};
 ghost use Rattle.pk_segment.specs.Spelling.{IsKind, SegmentSpells};
 ghost use Rattle.pk_state.specs.Writing.{table_writes, written_kind};
 
+use crate::change::Change;
 use pk_disk::Extent;
 use pk_manifest::{Manifest, NO_TABLE};
 use pk_open::OpenSegment;
@@ -20,15 +21,15 @@ use pk_replace::Piece;
 use pk_segment::Segment;
 use std::alloc::{AllocError, Global};
 
-/// What is going to be in force, and what is kept then.
+/// What is going to be in force, and what changes then in the open segments.
 #[derive(Drop)]
 pub struct Plan {
     /// The bytes of the next body.
     pub body: Vec<u8>,
     /// What that body says.
     pub manifest: Manifest,
-    /// The segments that it names, open, in the order of its entries.
-    pub opened: Vec<OpenSegment>,
+    /// What becomes of the open segments: those of its entries, in their order.
+    pub change: Change,
 }
 
 /// The kind of the segments that are written.
@@ -158,21 +159,21 @@ pub(crate) fn table_in(extents: &[Extent]) -> Extent
     }
 }
 
-/// The plan that puts this body in force, with these open segments.
+/// The plan that puts this body in force, with this change of the open segments.
 pub(crate) fn plan_for(
     alloc: Global,
     manifest: Manifest,
-    opened: Vec<OpenSegment>,
+    change: Change,
 ) -> Result<Plan, AllocError>
     requires version { manifest.version ≡ 2 }
     requires few { length manifest.entries.items ≤ entry_limit 2 }
-    ensures { IfOk result (IsPlanOf (view manifest) opened.items) }
+    ensures { IfOk result (PutsInForce (view manifest) change) }
 {
     let body = manifest.spell(alloc)?;
     Ok(Plan {
         body,
         manifest,
-        opened,
+        change,
     })
 }
 

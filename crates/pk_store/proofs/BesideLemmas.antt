@@ -89,7 +89,7 @@ forced_as : (image body : List ℕ) (claims : List Claim) → Has image body cla
 forced_as image body claims has = (forced_is image has.half has.current.in_force).is ∙ ap generation_of has.current.has_body
 
 -- ---- a plan for a volume
-module _ {D : Type 0} (d : Ghosts D) (v : VolumeView D) (p : Plan) (cache : Option BlockCache) (ready : IsReady d v) (is : IsCached d v cache) (clear : v.reopen ≡ false) (plan : IsPlan (length (d.content v.disk)) v.body p)
+module _ {D : Type 0} (d : Ghosts D) (v : VolumeView D) (p : Plan) (cache : Option BlockCache) (ready : IsReady d v) (is : IsCached d v cache) (clear : v.reopen ≡ false) (plan : IsPlan (length (d.content v.disk)) v.body v.opened p)
     (touched : ℕ → Bool) (promised : Claim → Type 0) (goes : GoesOn touched v.body v.opened p) (far : IsFar touched) where
   abbrev old : List ℕ
   old = d.content v.disk

@@ -1,33 +1,33 @@
--- A merge passes over no word whose list goes past its segment, where the segments leave a document.
-use Rattle.std.proofs.Common.{◌≡◌, ◌∙◌, ◌+◌, ◌-◌, inl, inr, ℕ, List, [], ◌∷◌, length, take, drop, sym, ap, subst, arith, Option, Some, None, Result, Ok, Err}
+-- A merge passes over no word whose list is none, or goes past its segment, where the segments leave a
+-- document.
+use Rattle.std.proofs.Common.{◌≡◌, ◌∙◌, inl, inr, ℕ, List, [], ◌∷◌, length, take, sym, ap, subst, arith, Option, Some, None, Result, Ok, Err}
 use Rattle.std.specs.Prelude.{All, OnOk}
-use Rattle.std.specs.List.{sum_by}
-use Rattle.std.proofs.lemmas.List.{drop-drop, take-append-drop, take_all}
+use Rattle.std.proofs.lemmas.List.{take_all}
 use Rattle.std.proofs.lemmas.List.Elements.{All-cons, All-head, All-nil, All-tail}
-use Rattle.std.proofs.lemmas.List.Sums.{sum_by-append}
 use Rattle.pk_disk.specs.declared.disk.Disk.{Ghosts}
 use Rattle.pk_disk.specs.declared.units.Extent.{Extent}
 use Rattle.pk_disk.specs.Units.{extent_bytes}
 use Rattle.pk_join.specs.declared.input.MergeInput.{MergeInput}
+use Rattle.pk_join.specs.WholeLists.{ListsAreWhole}
 use Rattle.pk_layout.specs.declared.merging.MergePlan.{MergePlan}
 use Rattle.pk_layout.specs.declared.merging.NewSegment.{NewSegment}
+use Rattle.pk_layout.specs.Change.{changed}
 use Rattle.pk_layout.specs.Merging.{PlansMerged, run_of}
 use Rattle.pk_manifest.specs.declared.manifest.Part.{Part as Entry}
 use Rattle.pk_manifest.specs.Spelling.{Body}
 use Rattle.pk_merge.specs.declared.prepared.Prepared.{Prepared}
-use Rattle.pk_merge.specs.Said.{NameWithin, NamesWithin}
+use Rattle.pk_merge.specs.Said.{NameWhole, NamesWhole}
 use Rattle.pk_model.specs.declared.commands.Refusal.{Refusal}
 use Rattle.pk_open.specs.declared.opened.OpenSegment.{OpenSegment}
 use Rattle.pk_open.specs.Opened.{entries_of}
 use Rattle.pk_open.proofs.PlaceLemmas.{entries_many}
-use Rattle.pk_segment.specs.Said.{ListsLieWithin}
-use Rattle.pk_state.specs.Writing.{replaced}
-use Rattle.pk_store.specs.Losing.{LosesNone, committed_left}
+use Rattle.pk_store.specs.Losing.{LosesNone}
+use Rattle.pk_store.proofs.LosingLemmas.{left_planned}
 use Rattle.pk_store.specs.Merging.{MergesRun}
 use Rattle.pk_store.specs.View.{VolumeView}
 use Rattle.pk_store.specs.Within.{AreWithin, EntryWithin, InputsWithin}
-use Rattle.pk_tidy.specs.Of.{AreOf}
-use Rattle.pk_tidy.specs.Prepared.{OpensRun}
+use Rattle.pk_store.specs.Inputs.{AreOf}
+use Rattle.pk_store.specs.Prepared.{OpensRun}
 
 -- what holds anyway holds of an answer, and what follows from what holds of it does
 pub on_ok : {T E P : Type 0} (r : Result T E) → P → OnOk r P
@@ -40,39 +40,28 @@ ok_then (Err e) f p = tt
 
 -- ---- what is planned
 
--- without a run the sum is less by that of the run
-sum_without : {X : Type 0} (f : X → ℕ) (from n : ℕ) (xs : List X)
-    → sum_by f (replaced from n [] xs) + sum_by f (run_of from n xs) ≡ sum_by f xs
-sum_without f from n xs =
-    let back = drop from xs in
-    let all = ap (sum_by f) (sym (take-append-drop from xs)) ∙ sum_by-append f (take from xs) back in
-    let rest = ap (sum_by f) (sym (take-append-drop n back)) ∙ sum_by-append f (take n back) (drop n back) in
-    omega (arith, all, rest, ap (sum_by f) (drop-drop n from xs), sum_by-append f (take from xs) (drop (from + n) xs))
-
 -- where none is prepared, and no document is lost, the run leaves none
 pub named_run : (bytes : List ℕ) (inputs : List MergeInput) (prepared : Option Prepared) (new : Option NewSegment)
     (b : Body) (opened : List OpenSegment) (from n : ℕ) (m : MergePlan) → OpensRun prepared (Ok new)
-    → PlansMerged b opened from n new (Ok m) → LosesNone opened m.plan.opened.items
-    → NameWithin bytes inputs (Ok prepared) → InputsWithin bytes inputs (run_of from n opened)
+    → PlansMerged b opened from n new (Ok m) → LosesNone opened (changed m.plan.change opened)
+    → NameWhole bytes inputs (Ok prepared) → InputsWithin bytes inputs (run_of from n opened)
 named_run bytes inputs (Some p) new b opened from n m opens plans none within = λ some. within
 named_run bytes inputs None (Some new) b opened from n m opens plans none within = absurd opens
 named_run bytes inputs None None b opened from n m opens plans none within = λ some.
-    let left : m.plan.opened.items ≡ replaced from n [] opened =
-    plans.6.opened_is ∙ ap (λ (os : List OpenSegment). replaced from n os opened) plans.1 in
-    absurd (omega (arith, none, some, ap (sum_by committed_left) left, sum_without committed_left from n opened))
+    absurd (omega (arith, none, some, left_planned b opened from n None m plans))
 
 -- ---- the entries of the inputs
 
 each_within : (bytes : List ℕ) (is : List MergeInput) (es : List Entry) → AreOf is es
-    → All (NamesWithin bytes) is → All (EntryWithin bytes) es
+    → All (NamesWhole bytes) is → All (EntryWithin bytes) es
 each_within bytes [] [] of within = All-nil (EntryWithin bytes)
 each_within bytes [] (e ∷ es) of within = absurd of
 each_within bytes (i ∷ is) [] of within = absurd of
 each_within bytes (i ∷ is) (e ∷ es) of within =
     All-cons (EntryWithin bytes) e es
-    (λ kind. subst (λ (x : Extent). ListsLieWithin (extent_bytes bytes x)) of.0
-    (All-head (NamesWithin bytes) i is within (of.1 ∙ kind)))
-    (each_within bytes is es of.2 (All-tail (NamesWithin bytes) i is within))
+    (λ kind. subst (λ (x : Extent). ListsAreWhole (extent_bytes bytes x)) of.0
+    (All-head (NamesWhole bytes) i is within (of.1 ∙ kind)))
+    (each_within bytes is es of.2 (All-tail (NamesWhole bytes) i is within))
 
 pub entries_within : (bytes : List ℕ) (is : List MergeInput) (es : List Entry) (opened : List OpenSegment)
     → AreOf is es → InputsWithin bytes is opened → AreWithin bytes es opened

@@ -28,17 +28,21 @@ ghost use Rattle.pk_state.specs.Writing.{sizes_of};
 ghost use Rattle.pk_store.specs.Ways.{MergesAllAs};
 ghost use Rattle.pk_store.specs.Losing.{LosesNone};
 ghost use Rattle.pk_store.specs.Within.{AreWithin, InputsWithin};
+ghost use Rattle.pk_layout.specs.Change.{changed};
 ghost use Rattle.pk_layout.specs.Merging.{run_of};
 ghost use Rattle.pk_store.specs.Merging.{AreInputsOf, MergesRun, PlansRun};
 ghost use Rattle.pk_layout.specs.Plan.{AreNext, GoesOn, IsPlan, LeavesRoom, PlansAs};
 ghost use Rattle.pk_layout.specs.Plan.{PromisesTable};
 ghost use Rattle.pk_store.specs.Carrying.{Carries, Goes};
 ghost use Rattle.pk_store.specs.Refusing.{stream_refusal};
+ghost use Rattle.pk_store.specs.Room.{HasRoom};
 ghost use Rattle.pk_store.specs.View.{IsCached, IsReady, KeepsVolume, StandFor, committed_by};
 ghost use Rattle.pk_store.specs.View.{volume_of};
 
 use crate::due::DueFault;
-use crate::losing::documents_left;
+use crate::inputs::inputs_of;
+use crate::losing::{documents_in, documents_left};
+use crate::prepared::{merge_refusal, new_segment};
 use pk_cache::BlockCache;
 use pk_check::{Checked, check_body};
 use pk_disk::Disk;
@@ -57,7 +61,6 @@ use pk_posting::SourceFault;
 use pk_replace::{Followed, Pieces, StreamFault, WritesExtent, replace_with};
 use pk_search::{PivotTables, find_stored};
 use pk_segment::ReadFault;
-use pk_tidy::{inputs_of, new_segment, refusal_of};
 use std::alloc::Global;
 use std::marker::Model;
 
@@ -90,6 +93,7 @@ pub(crate) struct Volume<D: Disk> {
 impl<D: Disk> Model for Volume<D> {
     ghost use Rattle.pk_manifest.specs.Spelling.{view as body_of};
     ghost use Rattle.pk_store.specs.Caching.{blocks_of};
+    ghost use Rattle.pk_store.specs.Room.{HasRoom};
     ghost use Rattle.pk_store.specs.View.{IsCached, IsReady, VolumeView};
 
     ghost Value = { VolumeView D };
@@ -117,7 +121,7 @@ impl<D: Disk> Model for Volume<D> {
       spare = v.spare;
       reopen = v.reopen;
       blocks = blocks_of v.cache;
-    }) v.cache };
+    }) v.cache × HasRoom v.opened };
 }
 
 impl<D: Disk> Volume<D> {
@@ -133,6 +137,7 @@ impl<D: Disk> Volume<D> {
             (volume_of disk (view manifest) opened.items spare (blocks_of cache)) }
         requires cached { IsCached D.Disk
             (volume_of disk (view manifest) opened.items spare (blocks_of cache)) cache }
+        requires room { HasRoom opened }
         ensures { result ≡ volume_of disk (view manifest) opened.items spare (blocks_of cache) }
     {
         Volume {
@@ -353,19 +358,20 @@ impl<D: Disk> Volume<D> {
         requires run { AreInputsOf self.old.body.entries self.old.opened from count inputs.now }
         ensures plan { PlansRun D.Disk self.old from count inputs.now result self.new }
         // Whatever was read, no document is lost.
-        ensures kept { IfOk result (λ r. LosesNone self.old.opened r.merge.plan.opened.items) }
-        // And where a document is left, no list goes past its segment.
+        ensures kept { IfOk result (λ r. LosesNone self.old.opened
+            (changed r.merge.plan.change self.old.opened)) }
+        // And where a document is left, no list is none, or goes past its segment.
         ensures inside { D.honest → OnOk result (InputsWithin (D.content self.old.disk) inputs.now
             (run_of from count self.old.opened)) }
     {
         let prepared = match prepare(alloc, &mut self.disk, inputs) {
             Ok(prepared) => prepared,
-            Err(fault) => return Err(refusal_of(fault)),
+            Err(fault) => return Err(merge_refusal(fault)),
         };
         let new = new_segment(&prepared)?;
         let run = Run { from, count };
         let merge = plan_merged(alloc, &self.manifest, &self.opened, run, new)?;
-        if documents_left(&merge.plan.opened) < documents_left(&self.opened) {
+        if documents_in(&new) < documents_left(&self.opened[from..from + count]) {
             return Err(Refusal::Damaged);
         }
         Ok(RunPlan { merge, prepared })
@@ -451,7 +457,7 @@ impl<D: Disk> Volume<D> {
         writer: W,
     ) -> Result<(), StreamFault>
         requires clear { self.old.reopen ≡ false }
-        requires planned { IsPlan (length (D.content self.old.disk)) self.old.body plan }
+        requires planned { IsPlan (length (D.content self.old.disk)) self.old.body self.old.opened plan }
         requires can { W.can_write writer (length (D.content self.old.disk)) }
         requires goes_on { GoesOn (W.touches writer) self.old.body self.old.opened plan }
         requires tabled { PromisesTable (W.promises writer (D.content self.old.disk)) plan }
@@ -467,7 +473,7 @@ impl<D: Disk> Volume<D> {
         match replace_with(&mut self.disk, self.spare, writer, &plan.body) {
             Ok(()) => {
                 self.manifest = plan.manifest;
-                self.opened = plan.opened;
+                plan.change.settle(&mut self.opened);
                 self.spare = self.spare.other();
                 Ok(())
             }

@@ -1,0 +1,7 @@
+-- What is put, and what the segments and the extents that are left put.
+use Rattle.std.proofs.Common.{◌≡◌, ◌++◌, drop, length}
+use Rattle.pk_layout.specs.Change.{new_lists_in}
+use Rattle.pk_layout.proofs.change.new_lists_in.Given as goal
+
+abbrev pub invariant-loop-place : goal.invariant-loop-place
+invariant-loop-place l = l.lists.items ++ new_lists_in l.place (drop l.place l.opened) (drop (length l.lists.items) l.extents) ≡ new_lists_in 0 l.opened l.extents

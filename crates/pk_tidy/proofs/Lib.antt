@@ -1,2 +1,0 @@
--- The lemma page.
-mod InputLemmas
