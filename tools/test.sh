@@ -1,11 +1,11 @@
 #!/bin/sh
 # The tests of the repository: the seals of the mutants, without which nothing else is run; the
-# merge gate; tests of the program that it built, and of its readers; readers beside writers for a
-# minute; sessions that are killed in their midst; the rows of the engine and of the lower layers, on
-# the players that it built; each request for memory refused; the Python client's tests, and those of
-# archives over machines; the tests of these tools; what the gate cost, which goes into a file that
-# GATE= names too; and what was skipped. The last line is 'N passed, M failed', each of these but the
-# gate counting as one.
+# merge gate; tests of the program that it built, of its command lines and of its readers; readers
+# beside writers for a minute; sessions that are killed in their midst; the rows of the engine and of
+# the lower layers, on the players that it built; each request for memory refused; the Python client's
+# tests, and those of archives over machines; the tests of these tools; what the gate cost, which goes
+# into a file that GATE= names too; and what was skipped. The last line is 'N passed, M failed', each
+# of these but the gate counting as one.
 cd "$(dirname "$0")/.." || exit 1
 log=$(mktemp) || exit 1
 costs=$(mktemp) || exit 1
@@ -30,6 +30,7 @@ count() {
 refuse_memory() {
     python3 tools/refuse_memory.py && python3 -m tests.memory
 }
+count python3 tools/commands_test.py crates/pk_find/out/pk_find
 count python3 tools/program_test.py crates/pk_find/out/pk_find
 count python3 tools/readers_test.py crates/pk_find/out/pk_find
 count python3 tools/reading_soak.py crates/pk_find/out/pk_find 60

@@ -82,23 +82,12 @@ fn main(rt: HostRuntime) -> ExitCode {
 
 /// Makes a store, keeps notes, and crashes; what comes is told.
 fn session(alloc: Global, told: &mut String) -> Result<(), Fault> {
-    let disk = MemoryDisk::of_bytes(alloc, vec![in alloc; 0u8; BYTES]?);
-    let Ok(mut store) = Store::create(alloc, FaultDisk::new(disk, NEVER), 0) else {
-        return Err(Fault::Create);
-    };
-    store.add(alloc, "buy milk and bread")?;
-    store.add(alloc, "take the book to the library")?;
-    store.commit(alloc)?;
+    let mut store = two_notes(alloc)?;
     store.add(alloc, "more milk")?;
     tell_found(alloc, &mut store, told)?;
 
     // The third note was not committed: a crash takes it, and nothing else.
-    let disk = store.close().into_inner().crash(&[]);
-    let mut store = opened(alloc, disk)?;
-    told.push_str("after a crash ")?;
-    tell_found(alloc, &mut store, told)?;
-
-    let bytes = store.close().into_inner().into_bytes();
+    let bytes = after_a_crash(alloc, store.close(), told)?;
     for call in 1..=CALLS {
         let disk = MemoryDisk::of_bytes(alloc, bytes.to_vec(alloc)?);
         if crash_in_commit(alloc, disk, call, told)? {
@@ -106,6 +95,26 @@ fn session(alloc: Global, told: &mut String) -> Result<(), Fault> {
         }
     }
     Ok(())
+}
+
+/// A new store with two notes, both committed.
+fn two_notes(alloc: Global) -> Result<Store<NotesDisk>, Fault> {
+    let disk = MemoryDisk::of_bytes(alloc, vec![in alloc; 0u8; BYTES]?);
+    let Ok(mut store) = Store::create(alloc, FaultDisk::new(disk, NEVER), 0) else {
+        return Err(Fault::Create);
+    };
+    store.add(alloc, "buy milk and bread")?;
+    store.add(alloc, "take the book to the library")?;
+    store.commit(alloc)?;
+    Ok(store)
+}
+
+/// Tells what is found once the disk has crashed, and gives the bytes that are left.
+fn after_a_crash(alloc: Global, disk: NotesDisk, told: &mut String) -> Result<Vec<u8>, Fault> {
+    let mut store = opened(alloc, disk.into_inner().crash(&[]))?;
+    told.push_str("after a crash ")?;
+    tell_found(alloc, &mut store, told)?;
+    Ok(store.close().into_inner().into_bytes())
 }
 
 /// The store on a disk.
@@ -142,10 +151,7 @@ fn crash_in_commit(
     };
     store.add(alloc, "call the library")?;
     let is_acknowledged = store.commit(alloc).is_ok();
-    // A crash leaves any bytes where no sync came: here 255.
-    let picks = vec![in alloc; 255u8; BYTES]?;
-    let disk = store.close().into_inner().crash(&picks);
-    let notes = opened(alloc, disk)?.counts()?.documents;
+    let notes = left_by_a_crash(alloc, store.close())?;
     let word = if is_acknowledged {
         "acknowledged"
     } else {
@@ -156,4 +162,12 @@ fn crash_in_commit(
         "call {call} fails: the commit was {word}, {notes} notes are there\n"
     )?;
     Ok(is_acknowledged)
+}
+
+/// How many notes are there once the disk has crashed: that leaves any bytes where no sync came,
+/// here 255.
+fn left_by_a_crash(alloc: Global, disk: NotesDisk) -> Result<u64, Fault> {
+    let picks = vec![in alloc; 255u8; BYTES]?;
+    let store = opened(alloc, disk.into_inner().crash(&picks))?;
+    Ok(store.counts()?.documents)
 }

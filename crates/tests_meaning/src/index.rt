@@ -1,6 +1,7 @@
 //! An index that documents come into and leave, asked with the live numbers.
 
 use crate::checks::{equal, equal_of};
+use crate::plans::{deepest, longest};
 use pk_index::{Index, Row, both_into};
 use pk_live::find;
 use pk_model::{DocNo, Document};
@@ -141,7 +142,7 @@ fn taken(
 }
 
 /// Steps, each with a number and a text, and the answer that is wanted.
-const STEPS: [(Step, u32, &str, &str); 51] = [
+static STEPS: [(Step, u32, &str, &str); 51] = [
     (Step::Terms, 0, "", ""),
     (Step::Find, 0, "NOT a", ""),
     (Step::Add, 5, "a b", ""),
@@ -228,13 +229,44 @@ fn answers(
     Ok(())
 }
 
-#[test]
-fn documents_come_and_leave(rt: HostRuntime) -> Result<(), Fail> {
-    let mut kept = Kept::new(rt.alloc());
-    for (i, row) in STEPS.iter().enumerate() {
-        answers(&rt, rt.alloc(), &mut kept, i, *row)?;
+/// Each step has the answer that its row wants, one after the other.
+fn all_answer(
+    rt: &impl Abort,
+    alloc: Global,
+    kept: &mut Kept,
+    rows: &[(Step, u32, &str, &str)],
+) -> Result<(), Fail> {
+    for (i, row) in rows.iter().enumerate() {
+        answers(rt, alloc, kept, i, *row)?;
     }
     Ok(())
+}
+
+#[test]
+fn documents_come_and_leave(rt: HostRuntime) -> Result<(), Fail> {
+    all_answer(&rt, rt.alloc(), &mut Kept::new(rt.alloc()), &STEPS)
+}
+
+/// The query of a text finds these numbers among four documents.
+fn finds_of_four(rt: &impl Abort, alloc: Global, text: &str, wanted: &str) -> Result<(), Fail> {
+    let rows = [
+        (Step::Add, 1, "a", ""),
+        (Step::Add, 2, "b", ""),
+        (Step::Add, 3, "a b", ""),
+        (Step::Add, 4, "c", ""),
+        (Step::Find, 0, text, wanted),
+    ];
+    all_answer(rt, alloc, &mut Kept::new(alloc), &rows)
+}
+
+#[test]
+fn the_longest_query_is_found(rt: HostRuntime) -> Result<(), Fail> {
+    finds_of_four(&rt, rt.alloc(), longest(rt.alloc())?.as_str(), " 1 3")
+}
+
+#[test]
+fn the_deepest_query_is_found(rt: HostRuntime) -> Result<(), Fail> {
+    finds_of_four(&rt, rt.alloc(), deepest(rt.alloc())?.as_str(), " 1 3 4")
 }
 
 /// Adds the documents 1 to 4,096, of which each has `a` and a word of its own.
@@ -267,10 +299,7 @@ fn words_have_their_numbers(rt: &impl Abort, alloc: Global, kept: &mut Kept) -> 
         (Step::List, 0, "n4096", " 4096"),
         (Step::Find, 0, "none", ""),
     ];
-    for (i, row) in rows.iter().enumerate() {
-        answers(rt, alloc, kept, i, *row)?;
-    }
-    Ok(())
+    all_answer(rt, alloc, kept, &rows)
 }
 
 /// The documents 1 to 4,096 have 4,097 words.

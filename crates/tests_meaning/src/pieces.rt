@@ -6,7 +6,7 @@ use std::process::Abort;
 use std::test::Fail;
 
 /// Texts of ASCII, a boundary in each, and the first word from there on.
-const PLACES: [(&str, usize, Option<(usize, usize)>); 9] = [
+static PLACES: [(&str, usize, Option<(usize, usize)>); 9] = [
     ("", 0, None),
     ("-- __", 0, None),
     ("an e-mail", 0, Some((0, 2))),
@@ -34,7 +34,7 @@ fn words_have_their_places(rt: HostRuntime) -> Result<(), Fail> {
 }
 
 /// So many letters, what stands behind them, and where the first part ends: not before 64 bytes.
-const PARTS: [(u32, &str, usize); 7] = [
+static PARTS: [(u32, &str, usize); 7] = [
     (1, "", 1),
     (3, " b c", 7),
     (80, "", 80),
@@ -73,7 +73,7 @@ fn letters_of_ascii_are_lowered(rt: HostRuntime) -> Result<(), Fail> {
 }
 
 /// Pieces, each with what it is folded to.
-const FOLDED: [(&str, &str); 6] = [
+static FOLDED: [(&str, &str); 6] = [
     ("Straße", "strasse"),
     ("E", "e"),
     ("ΣΊΣΥΦΟΣ", "σίσυφοσ"),

@@ -113,7 +113,7 @@ fn has_fault(rt: &impl Abort, alloc: Global, text: &str, fault: QueryFault) {
 }
 
 /// Texts with what they read as.
-const READ: [(&str, &str); 69] = [
+static READ: [(&str, &str); 69] = [
     ("a", "a"),
     (" a ", "a"),
     ("a b", "(a AND b)"),
@@ -205,7 +205,7 @@ fn what_texts_read_as(rt: HostRuntime) -> Result<(), Fail> {
 }
 
 /// Texts with their faults.
-const FAULTS: [(&str, QueryFault); 92] = [
+static FAULTS: [(&str, QueryFault); 92] = [
     ("", QueryFault::Unexpected(0)),
     (" ", QueryFault::Unexpected(1)),
     ("   ", QueryFault::Unexpected(3)),

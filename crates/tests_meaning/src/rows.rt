@@ -6,16 +6,25 @@ use std::alloc::{AllocError, Global};
 use std::process::Abort;
 use std::test::Fail;
 
+/// The words of a list as a row.
+fn row_of(alloc: Global, words: &[String]) -> Result<Vec<&str>, AllocError> {
+    let mut row = Vec::new(alloc);
+    for word in words {
+        row.push(word.as_str())?;
+    }
+    Ok(row)
+}
+
+/// Whether the text has the row.
+fn is_in(alloc: Global, text: &str, row: &[&str]) -> Result<bool, AllocError> {
+    let table = row_table(alloc, row)?;
+    has_row(row, &table, &mut String::new(alloc), text)
+}
+
 /// Whether the words of the phrase stand in the text in a row.
 fn stands(alloc: Global, text: &str, phrase: &str) -> Result<bool, AllocError> {
     let words = word_list(alloc, phrase)?;
-    let mut row = Vec::new(alloc);
-    for word in &words {
-        row.push(word.as_str())?;
-    }
-    let table = row_table(alloc, &row)?;
-    let mut piece = String::new(alloc);
-    has_row(&row, &table, &mut piece, text)
+    is_in(alloc, text, &row_of(alloc, &words)?)
 }
 
 /// The phrase stands in the text, or it does not.
@@ -31,7 +40,7 @@ fn check_row(
 }
 
 /// Texts and phrases, and whether the one has the other.
-const ROWS: [(&str, &str, bool); 24] = [
+static ROWS: [(&str, &str, bool); 24] = [
     ("", "", true),
     ("a", "", true),
     ("", "a", false),
@@ -95,16 +104,32 @@ fn rows_at_each_place(rt: HostRuntime) -> Result<(), Fail> {
     Ok(())
 }
 
+/// So many times the same word, and what stands behind it.
+fn many(alloc: Global, (times, end): (usize, &str)) -> Result<String, AllocError> {
+    let mut text = "a ".repeat(alloc, times)?;
+    text.push_str(end)?;
+    Ok(text)
+}
+
+/// The same of a text and of a row: the one has the other, or has not.
+fn check_many(
+    rt: &impl Abort,
+    alloc: Global,
+    text: (usize, &str),
+    row: (usize, &str),
+    wanted: bool,
+) -> Result<(), AllocError> {
+    let text = many(alloc, text)?;
+    equal(rt, stands(alloc, &text, &many(alloc, row)?)?, wanted);
+    Ok(())
+}
+
 /// 2,046 times the same word and another one, in a text that has the first 262,144 times: whoever
 /// goes on with each row that is begun takes some 500 million steps.
 #[test]
 fn a_long_row_that_is_begun_everywhere(rt: HostRuntime) -> Result<(), Fail> {
-    let text = "a ".repeat(rt.alloc(), 262_144)?;
-    let front = "a ".repeat(rt.alloc(), 2_046)?;
-    let phrase = format!(in rt.alloc(); "{front}b")?;
-    equal(&rt, stands(rt.alloc(), &text, &phrase)?, false);
-    equal(&rt, stands(rt.alloc(), &text, &front)?, true);
-    let ended = format!(in rt.alloc(); "{text}b")?;
-    equal(&rt, stands(rt.alloc(), &ended, &phrase)?, true);
+    check_many(&rt, rt.alloc(), (262_144, ""), (2_046, "b"), false)?;
+    check_many(&rt, rt.alloc(), (262_144, ""), (2_046, ""), true)?;
+    check_many(&rt, rt.alloc(), (262_144, "b"), (2_046, "b"), true)?;
     Ok(())
 }

@@ -60,7 +60,7 @@ fn check_absent(rt: &impl Abort, alloc: Global, text: &str) -> Result<(), AllocE
 }
 
 /// Texts with their words, as a list and as a set.
-const TEXTS: [(&str, &str, &str); 20] = [
+static TEXTS: [(&str, &str, &str); 20] = [
     (
         "Straße e-mail can't 3.14 foo_bar E",
         "strasse|e|mail|can't|3.14|foo_bar|e",

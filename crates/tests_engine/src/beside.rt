@@ -49,29 +49,67 @@ static ROWS: [Row; 4] = [
     },
 ];
 
-fn add(alloc: Global, text: &str) -> Result<Command, AllocError> {
-    Ok(Command::Add(String::from_str(alloc, text)?))
+/// A command, with a text that lives as long as the program.
+#[derive(Clone, Copy)]
+enum Asked {
+    Add(&'static str),
+    Delete(DocNo),
+    Commit,
+    Merge,
+}
+
+/// What the sessions do, from the first to the last.
+static FIRST: [Asked; 3] = [
+    Asked::Add("alpha one"),
+    Asked::Add("alpha two"),
+    Asked::Commit,
+];
+
+static SECOND: [Asked; 3] = [
+    Asked::Add("alpha three"),
+    Asked::Delete(DocNo(1)),
+    Asked::Commit,
+];
+
+static THIRD: [Asked; 1] = [Asked::Merge];
+
+static LAST: [Asked; 2] = [Asked::Add("alpha four"), Asked::Commit];
+
+/// The command, with a text of its own.
+fn command(alloc: Global, asked: Asked) -> Result<Command, AllocError> {
+    match asked {
+        Asked::Add(text) => Ok(Command::Add(String::from_str(alloc, text)?)),
+        Asked::Delete(number) => Ok(Command::Delete(number)),
+        Asked::Commit => Ok(Command::Commit),
+        Asked::Merge => Ok(Command::Merge),
+    }
+}
+
+/// The commands of a session.
+fn commands(alloc: Global, session: &[Asked]) -> Result<Vec<Command>, AllocError> {
+    let mut commands = Vec::new(alloc);
+    for asked in session {
+        commands.push(command(alloc, *asked)?)?;
+    }
+    Ok(commands)
+}
+
+/// The disk behind a session of a store that is on it.
+fn behind_session(
+    alloc: Global,
+    disk: Recorder,
+    session: &[Asked],
+) -> Result<Recorder, AllocError> {
+    Store::open_and_run(alloc, disk, &commands(alloc, session)?).end()
 }
 
 /// A disk on which the sessions ran.
 pub fn recorded(alloc: Global) -> Result<Recorder, AllocError> {
-    let first = [
-        add(alloc, "alpha one")?,
-        add(alloc, "alpha two")?,
-        Command::Commit,
-    ];
-    let second = [
-        add(alloc, "alpha three")?,
-        Command::Delete(DocNo(1)),
-        Command::Commit,
-    ];
-    let third = [Command::Merge];
-    let last = [add(alloc, "alpha four")?, Command::Commit];
-    let disk = Recorder::new(alloc, 32_768)?;
-    let disk = Store::create_and_run(alloc, disk, &first).end()?;
-    let disk = Store::open_and_run(alloc, disk, &second).end()?;
-    let disk = Store::open_and_run(alloc, disk, &third).end()?;
-    Store::open_and_run(alloc, disk, &last).end()
+    let first = commands(alloc, &FIRST)?;
+    let disk = Store::create_and_run(alloc, Recorder::new(alloc, 32_768)?, &first).end()?;
+    let disk = behind_session(alloc, disk, &SECOND)?;
+    let disk = behind_session(alloc, disk, &THIRD)?;
+    behind_session(alloc, disk, &LAST)
 }
 
 /// How often a reader was told so.
@@ -277,6 +315,28 @@ fn made_longer(alloc: Global, content: &[u8]) -> Result<Vec<Vec<u8>>, AllocError
     Ok(contents)
 }
 
+/// Reads what a session left, which is made longer in the course of one call after another, and
+/// answers how often.
+fn read_made_longer(
+    rt: &impl Abort,
+    alloc: Global,
+    disk: &Recorder,
+    end: usize,
+    tally: &mut Tally,
+) -> Result<u64, AllocError> {
+    let Some(content) = disk.contents.get(end) else {
+        return Ok(0);
+    };
+    let contents = made_longer(alloc, content)?;
+    let least = row_before(&disk.ends, end);
+    let calls = calls_of(rt, alloc, disk, end)?;
+    for left in 0..calls {
+        let file = RecordedFile::new(&contents, 0, Course::To(1), left);
+        read(rt, alloc, file, least, tally)?;
+    }
+    Ok(calls)
+}
+
 #[test]
 fn a_file_that_is_made_longer(rt: HostRuntime) -> Result<(), Fail> {
     let alloc = rt.alloc();
@@ -284,16 +344,8 @@ fn a_file_that_is_made_longer(rt: HostRuntime) -> Result<(), Fail> {
     let mut tally = NONE;
     let mut readings = 0u64;
     for end in &disk.ends {
-        let Some(content) = disk.contents.get(*end) else {
-            continue;
-        };
-        let contents = made_longer(alloc, content)?;
-        let least = row_before(&disk.ends, *end);
-        for left in 0..calls_of(&rt, alloc, &disk, *end)? {
-            let file = RecordedFile::new(&contents, 0, Course::To(1), left);
-            read(&rt, alloc, file, least, &mut tally)?;
-            readings = readings.saturating_add(1);
-        }
+        let count = read_made_longer(&rt, alloc, &disk, *end, &mut tally)?;
+        readings = readings.saturating_add(count);
     }
     assert!(rt; readings > 0);
     assert_eq!(rt; tally.answered, readings);
