@@ -26,7 +26,7 @@ import subprocess
 import sys
 import time
 
-BUDGET_MINUTES = 150
+BUDGET_MINUTES = 140
 LOOK_EACH = 0.25
 TICKS = os.sysconf("SC_CLK_TCK")
 
