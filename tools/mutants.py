@@ -4,9 +4,12 @@
 usage: tools/mutants.py [CRATE ..]      at the top of the repository
 
 A mutant is an edit `mutants/CRATE/NAME.edit`, written as those of must-fail/. Each of the named
-crates, or of all, is proved first, over what earlier checks left. Then its mutants are put into
-must-fail/ of a copy of the tree, where `rt must-fail` tries them, as many crates side by side as there
-are processors and 5 GB of memory for each.
+crates, or of all, is proved first, over what earlier checks left. Then its mutants are tried in a copy
+of the tree, as many crates side by side as there are processors and 5 GB of memory for each:
+
+  - those that change the bodies of different functions by one check together (`batches.py`): one is
+    refused where that tells of a goal of its own function, and not only of a name that it took away;
+  - all of which that says nothing, one by one, by `rt must-fail`.
 
 A mutant that is not refused is told with its crate and why, and the status is 1; so is one that is
 refused only since a proof names what it took away, which says nothing of the contract. A crate whose
@@ -24,6 +27,7 @@ import tempfile
 import threading
 import time
 
+import batches
 import seals
 
 MEMORY_EACH = 5e9
@@ -73,14 +77,64 @@ def left_out(folder, names):
 
 
 def copy_of(top, room, crate):
-    """A copy of the tree whose one crate with must-fail edits is this, with its mutants."""
+    """A copy of the tree without must-fail edits."""
     copy = pathlib.Path(room, crate)
     copy.mkdir()
     for name in ("crates.txt", "HANDLES"):
         shutil.copy2(top / name, copy / name)
     shutil.copytree(top / "crates", copy / "crates", ignore=left_out, copy_function=linked)
-    shutil.copytree(top / "mutants" / crate, copy / "crates" / crate / "must-fail")
     return copy
+
+
+def told_of(folder, texts):
+    """What a check tells of a crate of the copy with these texts in place of its own."""
+    own = {path: (folder / path).read_text("utf-8") for path in texts}
+    try:
+        for path, text in texts.items():
+            (folder / path).write_text(text, "utf-8")
+        ran = subprocess.run(["rt", "check", "--jobs", "1"], cwd=folder, stdin=subprocess.DEVNULL,
+                             stdout=subprocess.PIPE, stderr=subprocess.STDOUT, text=True,
+                             errors="replace", check=False)
+    finally:
+        for path, text in own.items():
+            (folder / path).write_text(text, "utf-8")
+    return batches.Told(folder.name, ran.stdout)
+
+
+def try_batch(folder, batch):
+    """What a check of all these changes tells of each; nothing, where it comes to no verdict."""
+    texts = {}
+    if any(seals.applied(change.edit, folder, texts) for change in batch):
+        return {}
+    told = told_of(folder, texts)
+    if not told.is_verdict:
+        return {}
+    return {change: told.verdict(change, texts[change.path]) for change in batch}
+
+
+def try_together(folder, changes):
+    """Tries the changes in batches: the edits that were refused."""
+    refused, queue, waits = [], [changes], {}
+    while queue:
+        batch, rest = batches.batch_of(queue.pop(), folder.name, waits)
+        told = try_batch(folder, batch)
+        again = [it for it in batch if it in told and told[it][0] == batches.WAITS and it not in waits]
+        waits |= {it: told[it][1] for it in again}
+        refused += [it.edit for it in batch if it in told and told[it][0] == batches.REFUSED]
+        queue += [part for part in (rest, again) if part]
+        queue += batches.halves(batch) if not told and len(batch) > 1 else []
+    return refused
+
+
+def try_alone(copy, crate, edits):
+    """Tries edits one by one: what was said of each, by its name."""
+    folder = copy / "crates" / crate / "must-fail"
+    folder.mkdir()
+    for edit in edits:
+        shutil.copy2(edit, folder)
+    ran = subprocess.run(["rt", "must-fail", crate], cwd=copy, stdin=subprocess.DEVNULL,
+                         capture_output=True, text=True, check=False)
+    return results(ran.stdout)
 
 
 def results(said):
@@ -108,6 +162,18 @@ def write_seal(tree, crate):
         new.replace(tree.top / seals.SEALS)
 
 
+def try_mutants(tree, room, crate):
+    """Tries the mutants of a crate that is proved: those that were not refused, with what was said."""
+    copy, edits = copy_of(tree.top, room, crate), tree.mutants(crate)
+    folder = copy / "crates" / crate
+    changes = [change for edit in edits if (change := batches.change_of(edit, folder))]
+    refused = set(try_together(folder, changes)) if changes else set()
+    left = [edit for edit in edits if edit not in refused]
+    failed = list(survivors(left, try_alone(copy, crate, left))) if left else []
+    shutil.rmtree(copy)
+    return failed
+
+
 def try_crate(tree, room, crate):
     """Tries the mutants of one crate; whether all were refused."""
     start = time.monotonic()
@@ -115,11 +181,7 @@ def try_crate(tree, room, crate):
         print(f"{crate}: it is not proved as it stands, so nothing was tried", flush=True)
         return False
     before = tree.sum_of(crate)
-    copy = copy_of(tree.top, room, crate)
-    ran = subprocess.run(["rt", "must-fail", crate], cwd=copy, stdin=subprocess.DEVNULL,
-                         capture_output=True, text=True, check=False)
-    shutil.rmtree(copy)
-    failed = list(survivors(tree.mutants(crate), results(ran.stdout)))
+    failed = try_mutants(tree, room, crate)
     for name, answer in failed:
         print(f"{crate}: mutants/{crate}/{name} survived: {answer}", flush=True)
     seconds = time.monotonic() - start

@@ -180,27 +180,28 @@ class Tree:
         return {line[0]: line[1:] for line in lines}
 
 
-def misplaced(edit, folder):
-    """Why an edit does not apply to a crate, if it does not."""
-    path, old, texts = None, None, {}
+def applied(edit, folder, texts):
+    """Applies an edit to the texts of a crate's files, by their paths, which are read where they are
+    not there yet. Why it does not apply, if it does not."""
+    path, old, count = None, None, 0
     for line in edit.read_text("utf-8").splitlines():
         if line.startswith("file: "):
-            path = folder / line[len("file: "):].strip()
+            path = line[len("file: "):].strip()
         elif line.startswith("old: "):
             old = line[len("old: "):]
         elif line.startswith("new:"):
             if path is None or old is None:
                 return "a 'new:' line stands before its 'file:' or 'old:' line"
             if path not in texts:
-                if not path.is_file():
-                    return f"there is no file {path.relative_to(folder)}"
-                texts[path] = path.read_text("utf-8")
-            count = texts[path].count(old)
-            if count != 1:
-                return f"{path.relative_to(folder)} has its 'old:' text {count} times"
+                if not (folder / path).is_file():
+                    return f"there is no file {path}"
+                texts[path] = (folder / path).read_text("utf-8")
+            found = texts[path].count(old)
+            if found != 1:
+                return f"{path} has its 'old:' text {found} times"
             texts[path] = texts[path].replace(old, line[len("new:"):].removeprefix(" "))
-            old = None
-    return None if texts else "it changes nothing"
+            old, count = None, count + 1
+    return None if count else "it changes nothing"
 
 
 def faults(tree):
@@ -211,7 +212,7 @@ def faults(tree):
             yield f"mutants/{crate}: there is no crate of that name"
             continue
         for edit in tree.mutants(crate):
-            why = misplaced(edit, tree.top / "crates" / crate)
+            why = applied(edit, tree.top / "crates" / crate, {})
             if why:
                 yield f"mutants/{crate}/{edit.name} does not apply: {why}"
         number = str(len(tree.mutants(crate)))
