@@ -94,6 +94,10 @@ TOLD = [
     ("docs/LIMITS.md", r"was searched: (\S+ MiB) at most", None,
      lambda of: of("pk_search", "MOST_TABLES") * of("pk_search", "TABLE_KEYS")
      * of("pk_keys", "KEY_BYTES")),
+    ("docs/LIMITS.md", r"has a dictionary of (\S+) bytes or less", "pk_search",
+     "LONGEST_DICTIONARY"),
+    ("docs/LIMITS.md", r"32 more for each (\S+) words", "pk_filter", "WORDS_PER_BLOCK"),
+    ("docs/LIMITS.md", r"for each 16 words: (\S+ MiB) at most", "pk_search", "MOST_FILTER_BYTES"),
     ("docs/LIMITS.md", r"page cache of a session \| (\S+ KiB)", None,
      lambda of: of("pk_command", "PAGES") * 40),
     ("docs/LIMITS.md", r"and (\S+) bytes for each page", "pk_pages", "PAGE"),

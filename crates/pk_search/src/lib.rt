@@ -31,26 +31,32 @@
 //! name, can keep it from find to find: where it agrees with the open segments (`CacheAgrees` in
 //! specs/), it does so afterwards, and a new one always does.
 //!
-//! The caller also keeps tables of the pivots of the dictionaries (`pivots`), by which a look-up
-//! spares its first reads. Nothing that is in them is believed, and no contract speaks of it.
+//! The caller also keeps `tables`. Those of the pivots of the dictionaries (`pivots`), by which a
+//! look-up spares its first reads, are not believed, and no contract speaks of them. Filters of the
+//! words of small segments (`filters`, pk_filter) are: a word that one rules out is not looked up.
+//! They are kept by the segment's id, and agree with the open segments as the cache does
+//! (`FiltersAgree`).
 //!
 //! A search is refused as damaged where a segment is none, as disk where a read failed, or as
 //! memory. It writes nothing.
 #![tactic(auto)]
 
 mod begun;
+mod filters;
 mod finding;
 mod hits;
 mod in_row;
 mod kept;
 mod listed;
 mod lists;
+mod nothing;
 mod pivots;
 mod planned;
 mod repeats;
 mod rows;
 mod span;
 mod stored;
+mod tables;
 
 pub use finding::find_stored;
-pub use pivots::PivotTables;
+pub use tables::FindTables;

@@ -59,7 +59,7 @@ use pk_open::{OpenSegment, copy_of, count_stored, place_stored, text_stored};
 use pk_plan::Planned;
 use pk_posting::SourceFault;
 use pk_replace::{Followed, Pieces, StreamFault, WritesExtent, replace_with};
-use pk_search::{PivotTables, find_stored};
+use pk_search::{FindTables, find_stored};
 use pk_segment::ReadFault;
 use std::alloc::Global;
 use std::marker::Model;
@@ -86,13 +86,14 @@ pub(crate) struct Volume<D: Disk> {
     reopen: bool,
     /// Blocks of posting lists that finds decoded, where some are to be kept. No caller sees them.
     cache: Option<BlockCache>,
-    /// Keys of the words that look-ups came by. No caller sees them.
-    pivots: PivotTables,
+    /// Tables by which finds look words up. No caller sees them.
+    tables: FindTables,
 }
 
 impl<D: Disk> Model for Volume<D> {
     ghost use Rattle.pk_manifest.specs.Spelling.{view as body_of};
     ghost use Rattle.pk_store.specs.Caching.{blocks_of};
+    ghost use Rattle.pk_store.specs.Filtered.{IsFiltered};
     ghost use Rattle.pk_store.specs.Room.{HasRoom};
     ghost use Rattle.pk_store.specs.View.{IsCached, IsReady, VolumeView};
 
@@ -121,7 +122,14 @@ impl<D: Disk> Model for Volume<D> {
       spare = v.spare;
       reopen = v.reopen;
       blocks = blocks_of v.cache;
-    }) v.cache × HasRoom v.opened };
+    }) v.cache × HasRoom v.opened × IsFiltered D.Disk (record {
+      disk = v.disk;
+      body = body_of v.manifest;
+      opened = v.opened.items;
+      spare = v.spare;
+      reopen = v.reopen;
+      blocks = blocks_of v.cache;
+    }) v.tables };
 }
 
 impl<D: Disk> Volume<D> {
@@ -140,6 +148,7 @@ impl<D: Disk> Volume<D> {
         requires room { HasRoom opened }
         ensures { result ≡ volume_of disk (view manifest) opened.items spare (blocks_of cache) }
     {
+        let tables = FindTables::new(*opened.allocator());
         Volume {
             disk,
             manifest,
@@ -147,7 +156,7 @@ impl<D: Disk> Volume<D> {
             spare,
             reopen: false,
             cache,
-            pivots: PivotTables::new(),
+            tables,
         }
     }
 
@@ -188,7 +197,7 @@ impl<D: Disk> Volume<D> {
             alloc,
             &mut self.disk,
             &mut self.cache,
-            &mut self.pivots,
+            &mut self.tables,
             &self.opened,
             query,
             found,

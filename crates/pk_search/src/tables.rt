@@ -1,0 +1,31 @@
+//! What finds keep of the dictionaries of segments.
+
+use crate::filters::SegmentFilters;
+use crate::pivots::PivotTables;
+use std::alloc::Global;
+
+/// Tables by which words are looked up, kept from find to find: the pivots of the dictionaries of
+/// the first large segments, and filters of the words of small ones.
+///
+/// The filters are believed: let them agree with the open segments, then they do so after a find
+/// too; new ones do.
+#[derive(Drop)]
+pub struct FindTables {
+    pub(crate) pivots: PivotTables,
+    pub(crate) filters: SegmentFilters,
+}
+
+impl FindTables {
+    ghost use Rattle.std.specs.Prelude.{◌≡◌, []};
+    ghost use Rattle.pk_search.specs.Filtered.{filters_of};
+
+    /// No table and no filter yet. Their memory is taken as segments are searched.
+    pub fn new(alloc: Global) -> FindTables
+        ensures { filters_of result ≡ [] }
+    {
+        FindTables {
+            pivots: PivotTables::new(),
+            filters: SegmentFilters::new(alloc),
+        }
+    }
+}
