@@ -18,9 +18,10 @@ def text_of(number):
     return TEXTS[number % 7]
 
 
-def halvings(number):
-    """How often a directory of 99, 7 or 1 entries is halved: the bits of that count."""
-    return 7 if number <= 100 else 3 if number <= 107 else 1
+def entries_read(number):
+    """How many entries of a directory are read at most. Numbers rise, so where one is missing a
+    number's entry is one of two, and else it is known which one it is."""
+    return 2 if number <= 100 else 1
 
 
 def add_of(number):
@@ -58,13 +59,14 @@ class Reading(unittest.TestCase):
         return [int(answer) for line, answer in zip(lines, got) if line == "!reads"]
 
     def test_a_look_up_reads_few_bytes(self):
-        """Of each halving the 12 bytes of an entry are read, and the text."""
+        """The 12 bytes of each entry that is read, and the text."""
         numbers = range(1, 109)
         shows = [[f"show {n} => text {text_of(n)}{{ *0}}" if n != 50
                   else "show 50 => refused no such document"] for n in numbers]
         for number, read in zip(numbers, self.reads(shows)):
             with self.subTest(number=number):
-                self.assertLessEqual(read, OPENING + 12 * halvings(number) + len(text_of(number)))
+                self.assertLessEqual(read, OPENING + 12 * entries_read(number)
+                                     + len(text_of(number)))
 
     def test_a_delete_reads_few_bytes(self):
         """The entry is looked for once, and no text is read."""
@@ -73,7 +75,7 @@ class Reading(unittest.TestCase):
                    + [f"delete {n} => refused no such document"] for n in numbers]
         for number, read in zip(numbers, self.reads(deletes)):
             with self.subTest(number=number):
-                self.assertLessEqual(read, OPENING + 12 * halvings(number))
+                self.assertLessEqual(read, OPENING + 12 * entries_read(number))
 
     def test_a_look_up_beside_the_segments_reads_nothing(self):
         """A number above all of the segments lies in none of them."""

@@ -323,7 +323,8 @@ def _when_free(path: str, attempt: Callable[[], Any], wait: float,
 
 
 class _Turn:
-    """Waiting for a store that another program has."""
+    """Waiting for a store that another program has: for its lock, which each program that may change
+    the store holds, since another start of the program would open the store each time."""
 
     def __init__(self, path: str, mode: str, ends: float, waiting: Callable[[], None]) -> None:
         self._path, self._mode, self._ends, self._waiting = path, mode, ends, waiting

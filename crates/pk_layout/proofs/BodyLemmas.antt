@@ -1,5 +1,5 @@
 -- The body that follows another one, and the claims of entries.
-use Rattle.std.proofs.Common.{◌≡◌, ℕ, suc, ◌+◌, ◌*◌, ◌<◌, ◌≤◌, ◌^◌, true, false, ◌&&◌, eqb, leb, ltb, List, [], ◌∷◌, ◌++◌, Bool, length, Option, Some, None, refl, sym, ◌∙◌, ap, subst, arith, append-nil, append_assoc}
+use Rattle.std.proofs.Common.{◌≡◌, ℕ, suc, ◌+◌, ◌*◌, ◌<◌, ◌≤◌, ◌^◌, true, false, ◌&&◌, eqb, leb, ltb, List, [], ◌∷◌, ◌++◌, Bool, length, Option, Some, None, refl, sym, ◌∙◌, ap, subst, arith, append_assoc}
 use Rattle.std.specs.Prelude.{if◌then◌else◌}
 use Rattle.std.specs.List.{flat_map, list_all, list_any}
 use Rattle.std.proofs.lemmas.Bool.{and_from, and_parts, eqb-true, le-leb, ltb-true, lt-ltb}
@@ -25,7 +25,7 @@ use Rattle.pk_state.proofs.HoldsLemmas.{fitted_entry, fitted_list}
 use Rattle.pk_state.proofs.KindLemmas.{kind_within, written_is_kind}
 use Rattle.pk_layout.specs.Placed.{AreLaid}
 use Rattle.pk_layout.specs.Plan.{table_at, tabled}
-use Rattle.pk_layout.proofs.ApartLemmas.{apart_back, in_by}
+use Rattle.pk_layout.proofs.ApartLemmas.{apart_back}
 use Rattle.pk_layout.proofs.ExtentLemmas.{laid_append, lies_in}
 
 -- an entry stays sound when ids go on
@@ -64,11 +64,6 @@ new_id units n (p ∷ ps) all =
 
 pub segments_turned : (p q : Entry) → same_segment p q ≡ false → same_segment q p ≡ false
 segments_turned p q h = grind (arith, nat_tests, h)
-
-pub ids_apart : (units : ℕ) (n : Entry) (ps : List Entry) → list_all (is_part units n.segment) ps ≡ true → apart same_segment ps ≡ true → apart same_segment (ps ++ n ∷ []) ≡ true
-ids_apart units n ps all h =
-    let same : ps ++ [] ≡ ps = append-nil ps in
-    in_by same_segment segments_turned ps [] n (ap (list_any (same_segment n)) same ∙ new_id units n ps all) (ap (apart same_segment) same ∙ h)
 
 -- of its extents, those of its entries alone
 pub places_in : (units : ℕ) (b : Body) (es : List Extent) → apart overlap (named b ++ es) ≡ true → apart overlap (flat_map extents_of b.entries ++ es) ≡ true

@@ -4,12 +4,11 @@ use Rattle.std.specs.Prelude.{All, if◌then◌else◌}
 use Rattle.std.proofs.lemmas.List.{drop_all, drop_more, take_all}
 use Rattle.std.proofs.lemmas.List.Elements.{All-cons, All-nil}
 use Rattle.pk_disk.specs.declared.units.Extent.{Extent}
-use Rattle.pk_manifest.specs.declared.manifest.Part.{Part as Entry}
 use Rattle.pk_open.specs.declared.opened.OpenSegment.{OpenSegment}
 use Rattle.pk_open.specs.Opened.{entries_of, pends}
 use Rattle.pk_state.specs.Writing.{replaced}
 use Rattle.pk_layout.specs.declared.change.NewList.{NewList}
-use Rattle.pk_layout.specs.Change.{listed, listed_entries, made_at, new_lists_in, with_list, with_lists}
+use Rattle.pk_layout.specs.Change.{listed, made_at, new_lists_in, with_list, with_lists}
 use Rattle.pk_layout.specs.Plan.{settled, settled_in}
 
 -- ---- an item made another
@@ -40,25 +39,14 @@ pub lists_long : (os : List OpenSegment) (ls : List NewList) → length (with_li
 lists_long os [] = refl
 lists_long os (l ∷ ls) = lists_long (made_at (listed l) l.place os) ls ∙ made_long (listed l) l.place os
 
-pub entries_long : (es : List Entry) (ls : List NewList) → length (listed_entries es ls) ≡ length es
-entries_long es [] = refl
-entries_long es (l ∷ ls) = entries_long (made_at (λ e. with_list e l.extent) l.place es) ls ∙ made_long (λ (e : Entry). with_list e l.extent) l.place es
-
 -- one more
 pub lists_last : (os : List OpenSegment) (ls : List NewList) (l : NewList) → with_lists os (ls ++ l ∷ []) ≡ made_at (listed l) l.place (with_lists os ls)
 lists_last os [] l = refl
 lists_last os (k ∷ ls) l = lists_last (made_at (listed k) k.place os) ls l
 
-pub entries_last : (es : List Entry) (ls : List NewList) (l : NewList) → listed_entries es (ls ++ l ∷ []) ≡ made_at (λ e. with_list e l.extent) l.place (listed_entries es ls)
-entries_last es [] l = refl
-entries_last es (k ∷ ls) l = entries_last (made_at (λ e. with_list e k.extent) k.place es) ls l
-
--- the entries of the open segments
-pub lists_entries : (os : List OpenSegment) (ls : List NewList) → entries_of (with_lists os ls) ≡ listed_entries (entries_of os) ls
-lists_entries os [] = refl
-lists_entries os (l ∷ ls) =
-    lists_entries (made_at (listed l) l.place os) ls
-    ∙ ap (λ es. listed_entries es ls) (made_map (λ (o : OpenSegment). o.entry) (listed l) (λ e. with_list e l.extent) (λ o. refl) l.place os)
+-- and of their entries
+pub entries_last : (os : List OpenSegment) (ls : List NewList) (l : NewList) → entries_of (with_lists os (ls ++ l ∷ [])) ≡ made_at (λ e. with_list e l.extent) l.place (entries_of (with_lists os ls))
+entries_last os ls l = ap entries_of (lists_last os ls l) ∙ made_map (λ (o : OpenSegment). o.entry) (listed l) (λ e. with_list e l.extent) (λ o. refl) l.place (with_lists os ls)
 
 -- ---- the lists of the segments with a pending deletion
 
@@ -107,7 +95,8 @@ lists_within n i (o ∷ os) (x ∷ xs) le = by (pends o) (lists_within n (i + 1)
 
 -- put at their places they settle what is pending
 settled_behind : (pre os : List OpenSegment) (xs : List Extent) (k : ℕ) → length pre ≡ k → with_lists (pre ++ os) (new_lists_in k os xs) ≡ pre ++ settled_in os xs
-settled_behind pre [] xs k same = refl
+settled_behind pre [] [] k same = refl
+settled_behind pre [] (x ∷ xs) k same = refl
 settled_behind pre (o ∷ os) [] k same = refl
 settled_behind pre (o ∷ os) (x ∷ xs) k same =
     by (pends o) (λ us long. settled_behind us os xs (k + 1) long) (λ us long. settled_behind us os (x ∷ xs) (k + 1) long)

@@ -1,78 +1,95 @@
--- The plan of a merge is a plan, and takes what is committed over to the live documents of a run in one segment.
-use Rattle.std.proofs.Common.{◌≡◌, ◌⊎◌, inl, inr, ⊎_elim, ℕ, ◌+◌, ◌-◌, ◌<◌, ◌≤◌, ◌++◌, true, false, nat_lt, List, [], ◌∷◌, drop, length, map, take, refl, sym, ◌∙◌, ap, subst, arith, append-nil, append_assoc, Bool, ◌||◌, Ok, Err, Option, Some, None}
+-- THE PLAN OF A MERGE: what comes next is the live documents of a run in one segment, or none.
+use Rattle.std.proofs.Common.{◌≡◌, ◌⊎◌, inl, inr, ⊎_elim, ℕ, ◌+◌, ◌-◌, ◌<◌, ◌≤◌, ◌++◌, List, [], ◌∷◌, length, map, refl, sym, ◌∙◌, ap, subst, arith, Bool, ◌||◌, Vec, Global, Ok, Err, Option, Some, None}
 use Rattle.std.proofs.Math.ListN.{replicate}
-use Rattle.std.proofs.lemmas.List.{length-map, length-replicate}
-use Rattle.pk_disk.specs.Disk.{in_range}
+use Rattle.std.proofs.lemmas.List.{length-replicate, nil_from_length}
 use Rattle.std.specs.Prelude.{All}
-use Rattle.std.specs.List.{AllByRecursion, flat_map, list_all, list_any}
-use Rattle.std.proofs.lemmas.Bool.{and_from, and_parts, le-ltb, or_from}
-use Rattle.std.proofs.lemmas.Grind.{flat_map-append}
-use Rattle.std.proofs.lemmas.List.Concat.{flat_map-cons}
 use Rattle.std.proofs.lemmas.List.Elements.{All-cons, All-nil, All-same}
-use Rattle.pk_disk.specs.Units.{IsFitted, apart, lies_within, overlap, start_of, units_in}
+use Rattle.pk_disk.specs.Disk.{in_range}
+use Rattle.pk_disk.specs.Units.{start_of, units_in}
 use Rattle.pk_disk.specs.declared.units.Extent.{Extent}
 use Rattle.pk_manifest.specs.declared.manifest.Part.{Part as Entry}
-use Rattle.pk_manifest.specs.Sound.{IsBody, SaysSound, extents_of, is_part, named, same_segment, segment_limit}
+use Rattle.pk_manifest.specs.Sound.{IsBody, named, segment_limit}
 use Rattle.pk_manifest.specs.Spelling.{Body}
 use Rattle.pk_manifest.proofs.Sound.{few_in, says_sound}
 use Rattle.pk_model.specs.Collection.{Doc, IsCollection}
-use Rattle.pk_model.specs.Limits.{end_of_ids, max_segment_bytes, max_segments}
-use Rattle.pk_posting.specs.Posting.{IsPosting}
+use Rattle.pk_model.specs.Limits.{end_of_ids, max_segments}
 use Rattle.pk_replace.specs.Claims.{AreApart, Claim, Each, IsAmong, IsBehind, IsInside, IsUntouched, places}
-use Rattle.pk_replace.proofs.ClaimLemmas.{each_weaker, of_among}
+use Rattle.pk_replace.proofs.ClaimLemmas.{each_weaker}
 use Rattle.pk_open.specs.declared.opened.OpenSegment.{OpenSegment}
-use Rattle.pk_open.specs.Opened.{AreOpenOf, IsOpenOf, entries_of, present}
-use Rattle.pk_segment.specs.declared.segment.Segment.{Segment}
-use Rattle.pk_segment.specs.Listing.{dictionary_place}
-use Rattle.pk_segment.specs.Opened.{IsSegmentOf}
-use Rattle.pk_segment.specs.Placed.{dictionary_of}
-use Rattle.pk_segment.specs.Spelling.{segment_length, segment_spelling}
-use Rattle.pk_segment.proofs.SegmentLemmas.{length_segment, parts_of}
+use Rattle.pk_open.specs.Opened.{AreOpenOf, entries_of, present}
+use Rattle.pk_open.proofs.PlaceLemmas.{entries_many}
 use Rattle.pk_space.specs.Places.{FullAs, PlacedAs}
 use Rattle.pk_state.specs.Committed.{Committed, Stored, all_in, live_in, whole_of}
-use Rattle.pk_state.specs.Kept.{AreEntries, all_claims, claims_of, table_claims}
-use Rattle.pk_state.proofs.HoldsLemmas.{units_room}
-use Rattle.pk_state.proofs.MergeLemmas.{front_placed}
-use Rattle.pk_state.specs.Writing.{after_merge, is_too_large, new_entry, new_stored, replaced, segment_writes, table_writes, with_table, written_kind}
-use Rattle.pk_state.proofs.KindLemmas.{written_is_kind}
+use Rattle.pk_state.specs.Kept.{AreEntries, all_claims, claims_of}
+use Rattle.pk_state.specs.Writing.{after_merge, new_entry, new_stored, replaced, table_writes, with_table}
 use Rattle.pk_state.proofs.MemberLemmas.{Above}
 use Rattle.pk_state.proofs.WholeLemmas.{collection_above}
 use Rattle.pk_layout.specs.declared.fault.LayoutFault.{LayoutFault}
 use Rattle.pk_layout.specs.declared.fault.LayoutFault.TheVariants.{TooLarge, Full, Damaged, Memory}
 use Rattle.pk_layout.specs.declared.merging.MergePlan.{MergePlan}
 use Rattle.pk_layout.specs.declared.merging.NewSegment.{NewSegment}
-use Rattle.pk_layout.proofs.TakenLemmas.{taken_new, taken_replaced}
-use Rattle.pk_layout.specs.Merging.{AreMerged, IsMergedOpen, IsNewOf, IsSegmentTo, IsSized, MayFollow, PlansMerge, PlansMergeAs, PlansMergeRightly, PlansMerged, PlansRightly, body_merged, bytes_in, count_merged, extents_in, lengths_in, lengths_merged, merge_touches, pieces_behind, run_of}
+use Rattle.pk_layout.specs.declared.next.Next.{Next}
+use Rattle.pk_layout.specs.declared.next.NextPlan.{NextPlan}
+use Rattle.pk_layout.specs.declared.next.NextSegment.{NextSegment}
+use Rattle.pk_layout.specs.declared.planning.Plan.{Plan}
 use Rattle.pk_layout.specs.Change.{changed}
 use Rattle.pk_layout.specs.Faults.{layout_refusal}
-use Rattle.pk_layout.specs.Placed.{AreLaid}
-use Rattle.pk_layout.specs.declared.planning.Plan.{Plan}
-use Rattle.pk_layout.specs.Plan.{GoesTo, GoesOn, IsPlan, IsPlanOf, PromisesTable, entry_in, ids_in, laid_in, new_segments, table_bytes, tabled}
-use Rattle.pk_layout.specs.Plan.{IsGrown}
-use Rattle.pk_layout.proofs.ApartLemmas.{apart_back, apart_in, apart_out, in_by, laid_all, laid_apart, without_by}
-use Rattle.pk_layout.proofs.RelistLemmas.{among_front, apart_front, both_missed, either_weaker, front_missed}
-use Rattle.pk_layout.proofs.TableLemmas.{all_back, among_either, back_placed, has_table, laid_two, long_with, places_append, some_behind, table_among, table_free, table_lengths, with_tabled}
-use Rattle.pk_layout.proofs.BodyLemmas.{HasTable, new_id, new_part, next_sound, no_more, parts_later, places_in, segments_turned}
-use Rattle.pk_layout.proofs.ExtentLemmas.{laid_inside, laid_missed, overlap_sym}
+use Rattle.pk_layout.specs.Merging.{AreMerged, IsNewOf, IsSized, PlansMerge, PlansMergeAs, PlansMergeRightly, PlansMerged, PlansRightly, body_merged, bytes_in, count_merged, extents_in, lengths_in, lengths_merged, merge_touches, pieces_behind, run_of}
+use Rattle.pk_layout.specs.Next.{HasPending, PlansNext, lists_in, new_in, opened_new}
+use Rattle.pk_layout.specs.Plan.{GoesOn, GoesTo, IsGrown, IsPlanOf, PromisesTable, body_replaced, entry_in, laid_in, new_segments, settled_in, table_bytes, tabled}
 use Rattle.pk_layout.proofs.LeftLemmas.{none_now, not_too_many, one_now, pending_names}
-use Rattle.pk_layout.proofs.PlanLemmas.{goes_on_from, goes_to, lengths_here, plan_is, table_in_writes}
-use Rattle.pk_layout.proofs.ReplacedLemmas.{above_run, all_replaced, claims_replaced, entries_replaced, flat_three, in_three, now_replaced, open_replaced, open_run, replaced_entries, replaced_long, tests_replaced}
+use Rattle.pk_layout.proofs.PlanLemmas.{IsNext, behind_apart, behind_inside, behind_missed, docs_long, entries_new, first_placed, new_fits, next_goes, next_goes_on, next_plan, next_tabled, open_new, opened_entries, sized_of, stored_new}
+use Rattle.pk_layout.proofs.ReplacedLemmas.{above_run, now_replaced, open_run}
+use Rattle.pk_layout.proofs.SettledLemmas.{each_old}
+use Rattle.pk_layout.proofs.TableLemmas.{among_either, places_append, with_tabled}
 
--- ---- the one segment, and the body with it
+-- ---- as what comes next is planned
 
--- documents that fit
-new_fits : (docs : List Doc) (new : Option NewSegment) → IsNewOf docs new → (lengths_in new ≡ segment_writes docs) × (is_too_large docs ≡ false)
-new_fits docs None is = (ap segment_writes (sym is), ap is_too_large is)
-new_fits [] (Some new) is = absurd (omega (arith, is.are.some))
-new_fits (d ∷ docs) (Some new) is = (
-  ap (λ n. n ∷ []) is.long,
-  or_from (nat_lt max_segment_bytes (segment_length (d ∷ docs) written_kind)) false (le-ltb max_segment_bytes (segment_length (d ∷ docs) written_kind) (omega (arith, is.long, is.fits))) refl,
+-- how many entries are left
+few_left : (b : Body) (n : ℕ) (new : Option NewSegment) → length b.entries ≤ max_segments → 1 ≤ n → n ≤ length b.entries → count_merged b n new ≤ max_segments
+few_left b n None few some within = omega (arith, few)
+few_left b n (Some new) few some within = omega (arith, few, some, within)
+
+new_same : (os : List OpenSegment) (new : Option NewSegment) (s : Option NextSegment) → HasPending os new s → new_in s ≡ new
+new_same os None s has = ap new_in has
+new_same os (Some new) s has = ap new_in has.1
+
+are_merged : (b : Body) (os : List OpenSegment) (new : Option NewSegment) (s : Option NextSegment) (place : Option Extent) → HasPending os new s → length (extents_in place) ≡ length (lengths_in (new_in s)) → AreMerged os new (opened_new b s place)
+are_merged b os None s place has same = ap (λ (t : Option NextSegment). opened_new b t place) has
+are_merged b os (Some new) s None has same = absurd (omega (arith, same, ap (λ (t : Option NextSegment). length (lengths_in (new_in t))) has.1))
+are_merged b os (Some new) s (Some e) has same = (
+  record { entry = new_entry b e; segment = new.segment; dead = []; deleted = has.0 },
+  ap (λ (t : Option NextSegment). opened_new b t (Some e)) has.1,
+  record { segment = refl; no_list = refl; deleted = has.2; posting = has.3 },
 )
 
--- each length is at least 1
-some_lengths : (new : Option NewSegment) → IsSized new → AllByRecursion (λ (n : ℕ). 1 ≤ n) (lengths_in new)
-some_lengths None sized = tt
-some_lengths (Some new) sized = (sized.0, tt)
+-- a merge writes no list
+module _ (b : Body) (os : List OpenSegment) (even : entries_of os ≡ b.entries) (x : Next) (number : x.next_number ≡ b.next_number) (none : x.lists.items ≡ []) (new : Option NewSegment) (has : HasPending (run_of x.run.from x.run.count os) new x.segment) where
+  same_new : new_in x.segment ≡ new
+  same_new = new_same (run_of x.run.from x.run.count os) new x.segment has
+
+  no_lists : lists_in x ≡ []
+  no_lists = ap (map (λ (w : Vec ℕ Global). w.items)) none
+
+  pub merge_planned : (r : NextPlan) → PlansNext b os x (Ok r) → PlansMerged b os x.run.from x.run.count new (Ok (record { plan = r.plan; place = r.place; pieces = r.pieces }))
+  merge_planned r (xs, ts, same, before, placed, plan, pieces) =
+      let merged = opened_new b x.segment r.place in
+      let no : xs ≡ [] = nil_from_length xs (before ∙ ap length no_lists) in
+      let is_plan = subst (λ us. IsPlanOf (tabled ts (body_replaced b x.next_number x.run.from x.run.count r.place (entries_of (settled_in os us)))) os (replaced x.run.from x.run.count merged (settled_in os us)) r.plan) no plan in (
+        merged,
+        are_merged b (run_of x.run.from x.run.count os) new x.segment r.place has same,
+        opened_entries b x.segment r.place same,
+        ts,
+        same ∙ ap (λ m. length (lengths_in m)) same_new,
+        subst (λ m. PlacedAs b.units (named b) (lengths_merged b x.run.count m) (extents_in r.place ++ ts)) same_new
+            (subst (λ us. PlacedAs b.units (named b) (lengths_merged b x.run.count (new_in x.segment)) (extents_in r.place ++ (us ++ ts))) no
+            (subst (λ (ls : List (List ℕ)). PlacedAs b.units (named b) (lengths_in (new_in x.segment) ++ (map length ls ++ table_writes (count_merged b x.run.count (new_in x.segment)))) (extents_in r.place ++ (xs ++ ts))) no_lists placed)),
+        subst (λ k. IsPlanOf (tabled ts (body_replaced b k x.run.from x.run.count r.place b.entries)) os (replaced x.run.from x.run.count merged os) r.plan) number
+            (subst (λ (es : List Entry). IsPlanOf (tabled ts (body_replaced b x.next_number x.run.from x.run.count r.place es)) os (replaced x.run.from x.run.count merged os) r.plan) even is_plan),
+        pieces ∙ (λ i. laid_in (no i ++ ts) (no_lists i ++ table_bytes (replaced x.run.from x.run.count (entry_in b r.place) (entries_of (settled_in os (no i)))))) ∙ ap (λ (es : List Entry). laid_in ts (table_bytes (replaced x.run.from x.run.count (entry_in b r.place) es))) even,
+      )
+
+-- ---- what is written
 
 -- bytes of these lengths: any, and those of the documents
 abbrev any_bytes : Option NewSegment → List (List ℕ)
@@ -82,10 +99,6 @@ any_bytes (Some new) = replicate new.bytes 0 ∷ []
 any_long : (new : Option NewSegment) → map length (any_bytes new) ≡ lengths_in new
 any_long None = refl
 any_long (Some new) = ap (λ n. n ∷ []) (length-replicate {A = ℕ} new.bytes 0)
-
-docs_long : (docs : List Doc) → map length (new_segments docs) ≡ segment_writes docs
-docs_long [] = refl
-docs_long (d ∷ docs) = ap (λ n. n ∷ []) (length_segment (d ∷ docs) written_kind)
 
 -- placed bytes take the positions of their extents
 places_laid : (units : ℕ) (taken : List Extent) (ws : List (List ℕ)) (es : List Extent) → PlacedAs units taken (map length ws) es → (p : ℕ) → places (laid_in es ws) p ≡ bytes_in es p
@@ -111,322 +124,108 @@ goes_weaker touched P Q f os p old new goes = record {
 abbrev committed_with : Body → List Stored → Committed
 committed_with b stored = record { body = b; stored = stored }
 
--- ---- the entries, with that of the one segment in the place of a run
+merged_grown : (os : List OpenSegment) (new : Option NewSegment) (merged : List OpenSegment) → AreMerged os new merged → All IsGrown merged
+merged_grown os None merged are = All-same IsGrown merged [] are (All-nil IsGrown)
+merged_grown os (Some new) merged are =
+    let o = are.0 in
+    let few : IsGrown o = omega (arith, ap length are.2.no_list) in
+    All-same IsGrown merged (o ∷ []) are.1 (All-cons IsGrown o [] few (All-nil IsGrown))
 
-module _ (size : ℕ) (b : Body) (is : IsBody (units_in size) b) (generation : b.generation < end_of_ids) (ids : b.next_segment < end_of_ids) (from n : ℕ) (some : 1 ≤ n) (within : from + n ≤ length b.entries) where
-  abbrev units : ℕ
-  units = units_in size
+-- ---- IT IS A PLAN, and takes what is committed over
 
-  says : SaysSound units b
-  says = says_sound units b is.sound
+module _ (size : ℕ) (b : Body) (is : IsBody (units_in size) b) (generation : b.generation < end_of_ids) (ids : b.next_segment < end_of_ids) (from n : ℕ) (some : 1 ≤ n) (within : from + n ≤ length b.entries)
+    (opened : List OpenSegment) (even : entries_of opened ≡ b.entries) (grown : All IsGrown opened) where
+  module _ (new : Option NewSegment) (m : MergePlan) (sized : IsSized new) (merged : List OpenSegment) (are_merged' : AreMerged (run_of from n opened) new merged) (entries_now : entries_of merged ≡ entry_in b m.place) (ts : List Extent) (same : length (extents_in m.place) ≡ length (lengths_in new))
+      (placed : PlacedAs b.units (named b) (lengths_merged b n new) (extents_in m.place ++ ts)) (plan : IsPlanOf (tabled ts (body_merged b from n m.place)) opened (replaced from n merged opened) m.plan) (pieces : pieces_behind m ≡ laid_in ts (table_bytes (body_merged b from n m.place).entries)) where
+    next : IsNext size b opened from n new [] b.next_number m.place [] ts merged
+    next =
+        let says = says_sound (units_in size) b is.sound in
+        let last = is.next_number in record {
+          is = is;
+          generation = generation;
+          ids = ids;
+          even = even;
+          grown = grown;
+          within = omega (arith, within, ap length even, entries_many opened);
+          few = few_left b n new (few_in (units_in size) b says) some (omega (arith, within));
+          some = says.next_number;
+          most = omega (arith, last);
+          sized = sized;
+          can = All-nil (λ (w : List ℕ). (5 ≤ length w) × (length w ≤ segment_limit));
+          same = same;
+          before = refl;
+          placed = placed;
+          entries = entries_now;
+          fresh_grown = merged_grown (run_of from n opened) new merged are_merged';
+        }
 
-  abbrev entries_with : List Entry → List Entry
-  entries_with new = replaced from n new b.entries
+    abbrev body : List Entry → Body
+    body es = tabled ts (body_replaced b b.next_number from n m.place es)
 
-  -- those that stay have ids and places of their own
-  ids_stay : apart same_segment (take from b.entries ++ drop (from + n) b.entries) ≡ true
-  ids_stay = without_by same_segment segments_turned (take from b.entries) (run_of from n b.entries) (drop (from + n) b.entries) (ap (apart same_segment) (in_three from n b.entries) ∙ says.ids)
+    next_plans : IsPlanOf (body (entries_of opened)) opened (replaced from n merged opened) m.plan
+    next_plans = subst (λ (es : List Entry). IsPlanOf (body es) opened (replaced from n merged opened) m.plan) (sym even) plan
 
-  abbrev places_of : List Entry → List Extent
-  places_of es = flat_map extents_of es
+    abbrev behind : List Claim
+    behind = laid_in ts (table_bytes (replaced from n (entry_in b m.place) (entries_of opened)))
 
-  abbrev names : List Extent
-  names = places_of b.entries
+    behind_is : behind ≡ pieces_behind m
+    behind_is = ap (λ (es : List Entry). laid_in ts (table_bytes (replaced from n (entry_in b m.place) es))) even ∙ sym pieces
 
-  abbrev before : List Extent
-  before = places_of (take from b.entries)
+    -- all positions that are written, with any bytes of the segment
+    touched : (segs : List (List ℕ)) → map length segs ≡ lengths_in new → places (laid_in (extents_in m.place) segs ++ behind) ≡ merge_touches m
+    touched segs long = λ i p. (places_append (laid_in (extents_in m.place) segs) behind p
+        ∙ (λ j. places_laid (units_in size) (named b) segs (extents_in m.place) (subst (λ ns. PlacedAs (units_in size) (named b) ns (extents_in m.place)) (sym long) (first_placed next)) p j || places (behind_is j) p)) i
 
-  abbrev run_places : List Extent
-  run_places = places_of (run_of from n b.entries)
+    merge_rightly : PlansRightly size b opened n new m
+    merge_rightly = record {
+      plan = next_plan next m.plan next_plans;
+      goes_on = subst (λ t. GoesOn t b opened m.plan) (touched (any_bytes new) (any_long new)) (next_goes_on next m.plan next_plans (any_bytes new) (any_long new));
+      next_number = ap (λ (y : Body). y.next_number) plan.manifest_is;
+      table = ts;
+      before = same;
+      placed = placed;
+      follows = record {
+        inside = subst (Each (IsInside size)) behind_is (behind_inside next);
+        apart = subst AreApart behind_is (behind_apart next);
+        missed = λ c lies. subst (λ cs. IsUntouched (places cs) c) behind_is (behind_missed next c lies);
+      };
+      tabled = subst (λ cs. PromisesTable (λ c. IsAmong c cs) m.plan) behind_is (next_tabled next m.plan next_plans);
+    }
 
-  abbrev behind : List Extent
-  behind = places_of (drop (from + n) b.entries)
-
-  whole : names ≡ before ++ (run_places ++ behind)
-  whole = ap places_of (sym (in_three from n b.entries)) ∙ flat_three extents_of (take from b.entries) (run_of from n b.entries) (drop (from + n) b.entries)
-
-  places_stay : (es : List Extent) → apart overlap (names ++ es) ≡ true → apart overlap (before ++ (behind ++ es)) ≡ true
-  places_stay es h =
-      without_by overlap overlap_sym before run_places (behind ++ es)
-      (ap (apart overlap) (sym (append_assoc before (run_places ++ behind) es ∙ ap (λ xs. before ++ xs) (append_assoc run_places behind es))) ∙ ap (λ xs. apart overlap (xs ++ es)) (sym whole) ∙ h)
-
-  -- what misses all misses those that stay
-  stay_missed : (z : Extent) → list_any (overlap z) names ≡ false → (list_any (overlap z) before ≡ false) × (list_any (overlap z) behind ≡ false)
-  stay_missed z h =
-      let all = front_missed z before (run_places ++ behind) (ap (list_any (overlap z)) (sym whole) ∙ h) in
-      (all.0, (front_missed z run_places behind all.1).1)
-
-  none_names : places_of (entries_with []) ≡ before ++ behind
-  none_names = flat_map-append extents_of (take from b.entries) (drop (from + n) b.entries)
-
-  sound_none : (ts : List Extent) → HasTable units (length (entries_with [])) ts → apart overlap (named b ++ ts) ≡ true → IsBody units (tabled ts (body_merged b from n None))
-  sound_none ts has beside =
-      let long = replaced_long from n b.entries [] within in
-      let there = places_in units b ts beside in
-      let own : apart overlap (before ++ behind) ≡ true = ap (apart overlap) (ap (λ xs. before ++ xs) (sym (append-nil behind))) ∙ places_stay [] (ap (apart overlap) (append-nil names) ∙ apart_front names ts there) in
-      next_sound units b b.next_number 0 (entries_with []) ts is generation (omega (arith, is.next_segment)) says.next_number (omega (arith, is.next_number)) (omega (arith, long, few_in units b says))
-      (ap (λ k. list_all (is_part units k) (entries_with [])) (no_more b.next_segment) ∙ tests_replaced from n b.entries (is_part units b.next_segment) [] says.parts refl)
-      ids_stay has
-      (table_free ts names (places_of (entries_with [])) there (λ z h. let out = stay_missed z h in ap (list_any (overlap z)) none_names ∙ both_missed z before behind out.0 out.1) (ap (apart overlap) none_names ∙ own))
-
-  sound_one : (e : Extent) (ts : List Extent) → 1 ≤ e.bytes → e.bytes ≤ segment_limit → IsFitted e → lies_within units e ≡ true → HasTable units (length (entries_with (new_entry b e ∷ []))) ts → apart overlap (named b ++ e ∷ ts) ≡ true → IsBody units (tabled ts (body_merged b from n (Some e)))
-  sound_one e ts least most fitted inside has beside =
-      let front = take from b.entries in
-      let back = drop (from + n) b.entries in
-      let stay = tests_replaced from n b.entries (is_part units b.next_segment) [] says.parts refl in
-      let own = new_part units b e says.next_segment least most fitted inside in
-      let long = replaced_long from n b.entries (new_entry b e ∷ []) within in
-      let there : apart overlap ((names ++ e ∷ []) ++ ts) ≡ true = ap (apart overlap) (append_assoc names (e ∷ []) ts) ∙ places_in units b (e ∷ ts) beside in
-      let free : (list_any (overlap e) (before ++ (behind ++ [])) ≡ false) × (apart overlap (before ++ (behind ++ [])) ≡ true) =
-      out_of before behind e (places_stay (e ∷ []) (apart_front (names ++ e ∷ []) ts there)) in
-      let same : before ++ (behind ++ []) ≡ before ++ behind = ap (λ xs. before ++ xs) (append-nil behind) in
-      let now : places_of (entries_with (new_entry b e ∷ [])) ≡ before ++ ((e ∷ []) ++ behind) = flat_three extents_of front (new_entry b e ∷ []) back ∙ ap (λ xs. before ++ (xs ++ behind)) (flat_map-cons extents_of (new_entry b e) []) in
-      next_sound units b b.next_number 1 (entries_with (new_entry b e ∷ [])) ts is generation (omega (arith, ids)) says.next_number (omega (arith, is.next_number)) (omega (arith, long, few_in units b says, some))
-      (tests_replaced from n b.entries (is_part units (b.next_segment + 1)) (new_entry b e ∷ []) (parts_later units b.next_segment b.entries says.parts) (and_from (is_part units (b.next_segment + 1) (new_entry b e)) true own refl))
-      (in_by same_segment segments_turned front back (new_entry b e) (new_id units (new_entry b e) (front ++ back) stay) ids_stay)
-      has
-      (table_free ts (names ++ e ∷ []) (places_of (entries_with (new_entry b e ∷ []))) there
-      (λ z h. let parts = front_missed z names (e ∷ []) h in let out = stay_missed z parts.0 in ap (list_any (overlap z)) now ∙ both_missed z before ((e ∷ []) ++ behind) out.0 (both_missed z (e ∷ []) behind parts.1 out.1))
-      (ap (apart overlap) now ∙ apart_in before behind e (ap (list_any (overlap e)) (sym same) ∙ free.0) (ap (apart overlap) (sym same) ∙ free.1)))
-    where
-      out_of : (xs ys : List Extent) (x : Extent) → apart overlap (xs ++ (ys ++ x ∷ [])) ≡ true → (list_any (overlap x) (xs ++ (ys ++ [])) ≡ false) × (apart overlap (xs ++ (ys ++ [])) ≡ true)
-      out_of xs ys x h =
-          let r = apart_out (xs ++ ys) [] x (ap (apart overlap) (append_assoc xs ys (x ∷ [])) ∙ h) in
-          let same = append_assoc xs ys [] in
-          (ap (list_any (overlap x)) (sym same) ∙ r.0, ap (apart overlap) (sym same) ∙ r.1)
-
-  -- how many entries are left
-  left_many : (new : Option NewSegment) (place : Option Extent) → length (extents_in place) ≡ length (lengths_in new) → length (entries_with (entry_in b place)) ≡ count_merged b n new
-  left_many new place same =
-      let long = replaced_long from n b.entries (entry_in b place) within in
-      omega (arith, long, same, one_each place, within)
-    where
-      one_each : (e : Option Extent) → length (entry_in b e) ≡ length (extents_in e)
-      one_each None = refl
-      one_each (Some e) = refl
-
-  module _ (new : Option NewSegment) (place : Option Extent) (ts : List Extent) (sized : IsSized new) (same : length (extents_in place) ≡ length (lengths_in new)) (placed : PlacedAs b.units (named b) (lengths_merged b n new) (extents_in place ++ ts)) where
-    pub there_merged : (list_all (lies_within units) (extents_in place ++ ts) ≡ true) × (apart overlap (named b ++ (extents_in place ++ ts)) ≡ true)
-    there_merged = lengths_here size b is (lengths_merged b n new) (some_behind (lengths_in new) (count_merged b n new) (some_lengths new sized)) (extents_in place ++ ts) placed
-
-    pub table_behind : (more : List Extent) × PlacedAs b.units more (table_writes (count_merged b n new)) ts
-    table_behind = back_placed b.units (named b) (lengths_in new) (table_writes (count_merged b n new)) (extents_in place) ts same placed
-
-    pub segment_front : PlacedAs b.units (named b) (lengths_in new) (extents_in place)
-    segment_front = front_placed b.units (named b) (lengths_in new) (table_writes (count_merged b n new)) (extents_in place) ts same placed
-
-    table_has : HasTable units (length (entries_with (entry_in b place))) ts
-    table_has =
-        let left = left_many new place same in
-        let long = replaced_long from n b.entries (entry_in b place) within in
-        subst (λ k. HasTable units k ts) (sym left) (has_table units table_behind.0 (count_merged b n new) ts (few_left new (few_in units b says)) (subst (λ u. PlacedAs u table_behind.0 (table_writes (count_merged b n new)) ts) says.of_disk table_behind.1) (all_back units (extents_in place) ts there_merged.0).1)
-      where
-        few_left : (m : Option NewSegment) → length b.entries ≤ max_segments → count_merged b n m ≤ max_segments
-        few_left None few = omega (arith, few)
-        few_left (Some m) few = omega (arith, few, some, within)
-
-  sound_merged : (new : Option NewSegment) (place : Option Extent) (ts : List Extent) → IsSized new → length (extents_in place) ≡ length (lengths_in new) → PlacedAs b.units (named b) (lengths_merged b n new) (extents_in place ++ ts) → IsBody units (tabled ts (body_merged b from n place))
-  sound_merged None None ts sized same placed = sound_none ts (table_has None None ts sized same placed) (there_merged None None ts sized same placed).1
-  sound_merged None (Some e) ts sized same placed = absurd (omega (arith, same))
-  sound_merged (Some new) None ts sized same placed = absurd (omega (arith, same))
-  sound_merged (Some new) (Some e) ts sized same placed =
-      let long : e.bytes ≡ new.bytes = placed.0.long in
-      let there = there_merged (Some new) (Some e) ts sized same placed in
-      sound_one e ts (omega (arith, long, sized.0)) (omega (arith, long, sized.1)) placed.0.fitted (and_parts (lies_within units e) (list_all (lies_within units) ts) there.0).0 (table_has (Some new) (Some e) ts sized same placed) there.1
-
-  -- open segments of its entries
-  module _ (opened : List OpenSegment) (even : entries_of opened ≡ b.entries) (grown : All IsGrown opened) where
-    merged_grown : (new : Option NewSegment) (merged : List OpenSegment) → AreMerged (run_of from n opened) new merged → All IsGrown merged
-    merged_grown None merged are = All-same IsGrown merged [] are (All-nil IsGrown)
-    merged_grown (Some new) merged are =
-        let o = are.0 in
-        let few : IsGrown o = omega (arith, ap length are.2.no_list) in
-        All-same IsGrown merged (o ∷ []) are.1 (All-cons IsGrown o [] few (All-nil IsGrown))
-
-    module _ (new : Option NewSegment) (m : MergePlan) (sized : IsSized new) (opened_now : List OpenSegment) (are_merged : AreMerged (run_of from n opened) new opened_now) (entries_now : entries_of opened_now ≡ entry_in b m.place) (ts : List Extent) (same : length (extents_in m.place) ≡ length (lengths_in new))
-        (placed : PlacedAs b.units (named b) (lengths_merged b n new) (extents_in m.place ++ ts)) (plan : IsPlanOf (tabled ts (body_merged b from n m.place)) opened (replaced from n opened_now opened) m.plan) (pieces : pieces_behind m ≡ laid_in ts (table_bytes (body_merged b from n m.place).entries)) where
-      abbrev next : Body
-      next = tabled ts (body_merged b from n m.place)
-
-      abbrev tables : List (List ℕ)
-      tables = table_bytes next.entries
-
-      abbrev extents : List Extent
-      extents = extents_in m.place ++ ts
-
-      many : entries_of (replaced from n opened_now opened) ≡ next.entries
-      many = replaced_entries from n opened_now opened ∙ (λ i. replaced from n (entries_now i) (even i))
-
-      all_grown : All IsGrown (replaced from n opened_now opened)
-      all_grown = all_replaced from n opened IsGrown opened_now grown (merged_grown new opened_now are_merged)
-
-      sound_next : IsBody units next
-      sound_next = sound_merged new m.place ts sized same placed
-
-      left_now : length next.entries ≡ count_merged b n new
-      left_now = left_many new m.place same
-
-      placed_tables : PlacedAs b.units (table_behind new m.place ts sized same placed).0 (map length tables) ts
-      placed_tables = subst (λ ns. PlacedAs b.units (table_behind new m.place ts sized same placed).0 ns ts) (sym (table_lengths next.entries ∙ ap table_writes left_now)) (table_behind new m.place ts sized same placed).1
-
-      tables_laid : AreLaid ts (laid_in ts tables)
-      tables_laid = laid_all b.units (table_behind new m.place ts sized same placed).0 tables ts placed_tables
-
-      -- the table may be written behind the segment
-      follows : MayFollow size m
-      follows =
-          let there = there_merged new m.place ts sized same placed in
-          let own = apart_back (named b) extents there.1 in
-          record {
-            inside = subst (Each (IsInside size)) (sym pieces) (laid_inside units size (units_room size) ts (laid_in ts tables) (all_back units (extents_in m.place) ts there.0).1 tables_laid);
-            apart = subst AreApart (sym pieces) (laid_apart ts (laid_in ts tables) tables_laid (apart_back (extents_in m.place) ts own));
-            missed = λ c lies. (subst (λ cs. Each (IsUntouched (places cs)) (c ∷ [])) (sym pieces) (laid_missed (extents_in m.place) ts (c ∷ []) (laid_in ts tables) lies tables_laid own)).0;
-          }
-
-      -- and what is behind the segment has it
-      is_tabled : PromisesTable (λ c. IsAmong c (pieces_behind m)) m.plan
-      is_tabled = subst (λ (x : Body). Each (λ c. IsAmong c (pieces_behind m) × IsBehind c) (table_claims x)) (sym plan.manifest_is)
-          (each_weaker (λ c. IsAmong c (pieces_behind m)) (λ c. IsAmong c (pieces_behind m) × IsBehind c) (λ c is. (is, (of_among (IsInside size) c (pieces_behind m) is follows.inside).0)) (table_claims next)
-          (subst (λ cs. Each (λ c. IsAmong c cs) (table_claims next)) (sym pieces)
-          (table_among b b.next_number (ids_in m.place) next.entries ts b.units (table_behind new m.place ts sized same placed).0
-          (subst (λ k. PlacedAs b.units (table_behind new m.place ts sized same placed).0 (table_writes k) ts) (sym left_now) (table_behind new m.place ts sized same placed).1))))
-
-      -- with any bytes of those lengths
-      module _ (writes : List (List ℕ)) (long : map length writes ≡ lengths_in new) where
-        abbrev all_writes : List (List ℕ)
-        all_writes = writes ++ tables
-
-        lengths_are : map length all_writes ≡ lengths_merged b n new
-        lengths_are = long_with writes next.entries (count_merged b n new) left_now ∙ ap (λ ls. ls ++ table_writes (count_merged b n new)) long
-
-        enough : AllByRecursion (λ (k : ℕ). 1 ≤ k) (map length all_writes)
-        enough = subst (AllByRecursion (λ (k : ℕ). 1 ≤ k)) (sym lengths_are) (some_behind (lengths_in new) (count_merged b n new) (some_lengths new sized))
-
-        laid_out : PlacedAs b.units (named b) (map length all_writes) extents
-        laid_out = subst (λ ns. PlacedAs b.units (named b) ns extents) (sym lengths_are) placed
-
-        as_long : length (extents_in m.place) ≡ length writes
-        as_long = same ∙ ap length (sym long) ∙ length-map writes length
-
-        two : laid_in extents all_writes ≡ laid_in (extents_in m.place) writes ++ pieces_behind m
-        two = laid_two (extents_in m.place) ts writes tables as_long ∙ ap (λ cs. laid_in (extents_in m.place) writes ++ cs) (sym pieces)
-
-        taken : places (laid_in extents all_writes) ≡ merge_touches m
-        taken = λ i p. (ap (λ cs. places cs p) two ∙ places_append (laid_in (extents_in m.place) writes) (pieces_behind m) p
-            ∙ ap (λ h. h || places (pieces_behind m) p) (places_laid b.units (named b) writes (extents_in m.place) (subst (λ ns. PlacedAs b.units (named b) ns (extents_in m.place)) (sym long) (segment_front new m.place ts sized same placed)) p)) i
-
-        is_plan : IsPlan size b opened m.plan
-        is_plan = plan_is size b next is generation sound_next refl refl all_writes enough extents laid_out opened (replaced from n opened_now opened) many all_grown m.plan plan
-
-        goes_on : GoesOn (merge_touches m) b opened m.plan
-        goes_on = subst (λ t. GoesOn t b opened m.plan) taken
-            (goes_on_from size b next is generation sound_next refl refl all_writes enough extents laid_out opened (replaced from n opened_now opened) many all_grown m.plan plan
-            (omega arith) (taken_replaced b.next_segment opened from n opened_now (taken_new b opened m.place opened_now entries_now)))
-
-        table_claim : Each (λ c. IsAmong c (laid_in extents all_writes)) (table_claims next)
-        table_claim = table_in_writes b b.next_number (ids_in m.place) writes next.entries (extents_in m.place) ts as_long b.units (table_behind new m.place ts sized same placed).0
-            (subst (λ k. PlacedAs b.units (table_behind new m.place ts sized same placed).0 (table_writes k) ts) (sym left_now) (table_behind new m.place ts sized same placed).1)
-
-        abbrev promise : Claim → Type 0
-        promise c = IsAmong c (laid_in (extents_in m.place) writes) ⊎ IsAmong c (pieces_behind m)
-
-        goes : (stored stored' : List Stored) → AreEntries b.entries stored → AreEntries next.entries stored' → AreOpenOf (replaced from n opened_now opened) stored'
-            → Each (λ c. IsAmong c (claims_of b.entries stored) ⊎ IsAmong c (laid_in (extents_in m.place) writes)) (claims_of next.entries stored')
-            → GoesTo (merge_touches m) promise opened m.plan (committed_with b stored) (committed_with next stored')
-        goes stored stored' entries entries' open' among =
-            let olds = claims_of b.entries stored in
-            let laid = laid_in (extents_in m.place) writes in
-            subst (λ t. GoesTo t promise opened m.plan (committed_with b stored) (committed_with next stored')) taken
-            (goes_weaker (places (laid_in extents all_writes)) (λ c. IsAmong c (laid_in extents all_writes)) promise (λ c made. among_either c laid (pieces_behind m) (subst (IsAmong c) two made)) opened m.plan (committed_with b stored) (committed_with next stored')
-            (goes_to size b next is generation sound_next refl refl all_writes enough extents laid_out opened (replaced from n opened_now opened) many all_grown m.plan plan
-            stored stored' entries entries' open' table_claim
-            (either_weaker olds olds laid (laid_in extents all_writes) (λ c old. old) (λ c made. subst (IsAmong c) (sym two) (among_front c laid (pieces_behind m) made)) (claims_of next.entries stored') among)))
-
-      -- IT IS A PLAN
-      pub merge_rightly : PlansRightly size b opened n new m
-      merge_rightly = record {
-        plan = is_plan (any_bytes new) (any_long new);
-        goes_on = goes_on (any_bytes new) (any_long new);
-        next_number = ap (λ (x : Body). x.next_number) plan.manifest_is;
-        table = ts;
-        before = same;
-        placed = placed;
-        follows = follows;
-        tabled = is_tabled;
-      }
-
-      pub merge_goes : (docs : List Doc) → lengths_in new ≡ segment_writes docs → (stored stored' : List Stored) → AreEntries b.entries stored → AreEntries next.entries stored' → AreOpenOf (replaced from n opened_now opened) stored'
-          → Each (λ c. IsAmong c (claims_of b.entries stored) ⊎ IsAmong c (laid_in (extents_in m.place) (new_segments docs))) (claims_of next.entries stored')
-          → GoesTo (merge_touches m) (λ c. IsAmong c (laid_in (extents_in m.place) (new_segments docs)) ⊎ IsAmong c (pieces_behind m)) opened m.plan (committed_with b stored) (committed_with next stored')
-      merge_goes docs long = goes (new_segments docs) (docs_long docs ∙ sym long)
-
--- ---- what is committed after it
-
-abbrev stored_merged : List Doc → Option Extent → List Stored
-stored_merged docs None = []
-stored_merged docs (Some e) = new_stored docs ∷ []
+    merge_goes : (docs : List Doc) → IsNewOf docs new → (stored made : List Stored) → AreEntries b.entries stored → AreOpenOf opened stored → AreOpenOf merged made → AreEntries (entry_in b m.place) made → Each (λ c. IsAmong c (laid_in (extents_in m.place) (new_segments docs))) (claims_of (entry_in b m.place) made)
+        → GoesTo (merge_touches m) (λ c. IsAmong c (laid_in (extents_in m.place) (new_segments docs)) ⊎ IsAmong c (pieces_behind m)) opened m.plan (committed_with b stored) (committed_with (tabled ts (body_merged b from n m.place)) (replaced from n made stored))
+    merge_goes docs new_is stored made entries are stand fresh among =
+        let laid = laid_in (extents_in m.place) (new_segments docs) in
+        let long = docs_long docs ∙ sym (new_fits docs new new_is).0 in
+        let olds = claims_of b.entries stored in
+        let promise : Claim → Type 0 = λ c. IsAmong c laid ⊎ IsAmong c (pieces_behind m) in
+        let own = subst (λ (es : List Entry). AreEntries es stored) (sym even) entries in
+        let kept = subst (λ (es : List Entry). Each (λ c. IsAmong c olds ⊎ IsAmong c []) (claims_of es stored)) (sym even) (each_old olds olds [] (λ c k. k)) in
+        subst (λ (es : List Entry). GoesTo (merge_touches m) promise opened m.plan (committed_with b stored) (committed_with (body es) (replaced from n made stored))) even
+        (subst (λ t. GoesTo t promise opened m.plan (committed_with b stored) (committed_with (body (entries_of opened)) (replaced from n made stored))) (touched (new_segments docs) long)
+        (goes_weaker (places (laid ++ behind)) (λ c. IsAmong c (laid ++ behind)) promise (λ c is. among_either c laid (pieces_behind m) (subst (λ cs. IsAmong c (laid ++ cs)) behind_is is)) opened m.plan (committed_with b stored) (committed_with (body (entries_of opened)) (replaced from n made stored))
+        (next_goes next m.plan next_plans (new_segments docs) long stored stored made entries own are kept fresh stand among)))
 
 after_run : (b : Body) (stored : List Stored) (from n : ℕ) (place : Option Extent)
-    → after_merge (committed_with b stored) from n (extents_in place) ≡ committed_with (body_merged b from n place) (replaced from n (stored_merged (live_in (run_of from n stored)) place) stored)
+    → after_merge (committed_with b stored) from n (extents_in place) ≡ committed_with (body_merged b from n place) (replaced from n (stored_new (live_in (run_of from n stored)) place) stored)
 after_run b stored from n None = refl
 after_run b stored from n (Some e) = refl
 
-posting_none : IsPosting []
-posting_none = record { rising = λ i within. absurd (omega (arith, within)); below = λ i within. absurd (omega (arith, within)); short = omega arith }
-
--- what is the segment of documents is sized
-sized_of : (docs : List Doc) (new : Option NewSegment) → IsNewOf docs new → IsSized new
-sized_of docs None is = tt
-sized_of docs (Some new) is = (omega (arith, is.long, parts_of docs written_kind), is.fits)
-
--- the claim of the segment of some documents, in an extent
-laid_segment : (docs : List Doc) (e : Extent) → 0 < length docs → IsAmong (record { at = start_of e; bytes = segment_spelling docs written_kind }) (laid_in (e ∷ []) (new_segments docs))
-laid_segment [] e some = absurd (omega (arith, some))
-laid_segment (d ∷ docs) e some = inl refl
-
 -- of a run of open segments, and what its entries stand for
-module _ (b : Body) (opened : List OpenSegment) (stored : List Stored) (are : AreOpenOf opened stored) (rise : Above 0 (all_in stored)) where
+module _ (opened : List OpenSegment) (stored : List Stored) (are : AreOpenOf opened stored) (rise : Above 0 (all_in stored)) where
   abbrev left : List Doc
   left = live_in stored
 
-  entries_merged : (new : Option NewSegment) (place : Option Extent) → IsNewOf left new → PlacedAs b.units (named b) (lengths_in new) (extents_in place) → AreEntries (entry_in b place) (stored_merged left place)
-  entries_merged None None is placed = tt
-  entries_merged None (Some e) is placed = absurd placed
-  entries_merged (Some new) None is placed = absurd placed
-  entries_merged (Some new) (Some e) is placed =
-      (record { segment = record { kind = written_is_kind; are = is.are; fits = omega (arith, is.long, is.fits); long = placed.0.long ∙ is.long }; list = refl }, tt)
-
-  one_open : (new : NewSegment) (o : OpenSegment) → IsSegmentTo left new → IsMergedOpen opened new o → IsOpenOf o (new_stored left)
-  one_open new o is m = record {
-    segment = subst (λ (x : Segment). IsSegmentOf x left) (sym m.segment) is.opened.segment;
-    dictionary = λ two. subst (λ (x : Segment). dictionary_of x ≡ dictionary_place left) (sym m.segment) is.opened.dictionary;
-    dead = m.no_list;
-    kept = λ n h. absurd (let no : false ≡ true = h in cc);
-    names = λ k h. pending_names k opened stored are (sym (m.deleted k) ∙ h);
-    posting = m.posting;
-    was = subst IsPosting (sym m.no_list) posting_none;
-  }
-
-  open_merged : (new : Option NewSegment) (merged : List OpenSegment) (place : Option Extent) → IsNewOf left new → AreMerged opened new merged → PlacedAs b.units (named b) (lengths_in new) (extents_in place) → AreOpenOf merged (stored_merged left place)
-  open_merged None merged None is m placed = subst (λ os. AreOpenOf os []) (sym m) tt
-  open_merged None merged (Some e) is m placed = absurd placed
-  open_merged (Some new) merged None is m placed = absurd placed
-  open_merged (Some new) merged (Some e) is m placed = subst (λ os. AreOpenOf os (new_stored left ∷ [])) (sym m.1) (one_open new m.0 is m.2, tt)
-
-  now_merged : (new : Option NewSegment) (merged : List OpenSegment) (place : Option Extent) → IsNewOf left new → AreMerged opened new merged → PlacedAs b.units (named b) (lengths_in new) (extents_in place)
-      → live_in (present merged (stored_merged left place)) ≡ live_in (present opened stored)
-  now_merged None merged None is m placed = ap (λ os. live_in (present os [])) m ∙ none_now opened stored are rise is
-  now_merged None merged (Some e) is m placed = absurd placed
-  now_merged (Some new) merged None is m placed = absurd placed
-  now_merged (Some new) merged (Some e) is m placed =
-      ap (λ os. live_in (present os (new_stored left ∷ []))) m.1 ∙ one_now opened stored left m.0.deleted are rise refl m.2.deleted
-
-  among_merged : (olds : List Claim) (new : Option NewSegment) (place : Option Extent) → IsNewOf left new → PlacedAs b.units (named b) (lengths_in new) (extents_in place)
-      → Each (λ c. IsAmong c olds ⊎ IsAmong c (laid_in (extents_in place) (new_segments left))) (claims_of (entry_in b place) (stored_merged left place))
-  among_merged olds None None is placed = tt
-  among_merged olds None (Some e) is placed = absurd placed
-  among_merged olds (Some new) None is placed = absurd placed
-  among_merged olds (Some new) (Some e) is placed = (inr (laid_segment left e is.are.some), tt)
+  open_merged : (units : ℕ) (taken : List Extent) (new : Option NewSegment) (merged : List OpenSegment) (place : Option Extent) → IsNewOf left new → AreMerged opened new merged → PlacedAs units taken (lengths_in new) (extents_in place)
+      → AreOpenOf merged (stored_new left place) × (live_in (present merged (stored_new left place)) ≡ live_in (present opened stored))
+  open_merged units taken None merged None is m placed = (subst (λ os. AreOpenOf os []) (sym m) tt, ap (λ os. live_in (present os [])) m ∙ none_now opened stored are rise is)
+  open_merged units taken None merged (Some e) is m placed = absurd placed
+  open_merged units taken (Some new) merged None is m placed = absurd placed
+  open_merged units taken (Some new) merged (Some e) is m placed = (
+    subst (λ os. AreOpenOf os (new_stored left ∷ [])) (sym m.1)
+        (open_new left new m.0 is m.2.segment m.2.no_list (λ k h. pending_names k opened stored are (sym (m.2.deleted k) ∙ h)) m.2.posting, tt),
+    ap (λ os. live_in (present os (new_stored left ∷ []))) m.1 ∙ one_now opened stored left m.0.deleted are rise refl m.2.deleted,
+  )
 
 -- IT TAKES WHAT IS COMMITTED OVER
 module _ (size : ℕ) (b : Body) (is : IsBody (units_in size) b) (generation : b.generation < end_of_ids) (ids : b.next_segment < end_of_ids) (from n : ℕ) (some : 1 ≤ n) (within : from + n ≤ length b.entries)
@@ -445,28 +244,24 @@ module _ (size : ℕ) (b : Body) (is : IsBody (units_in size) b) (generation : b
   run_open = open_run from n opened stored are
 
   pub merge_plans : (new : Option NewSegment) (m : MergePlan) → IsNewOf docs new → PlansMerged b opened from n new (Ok m) → PlansMerge b opened stored from n m
-  merge_plans new m new_is (merged, are_merged, entries_now, ts, same, placed, plan, pieces) =
+  merge_plans new m new_is (merged, are_merged', entries_now, ts, same, placed, plan, pieces) =
       let after = after_run b stored from n m.place in
-      let olds = claims_of b.entries stored in
       let fits = new_fits docs new new_is in
-      let made = stored_merged docs m.place in
-      let touched = merge_touches m in
-      let first = segment_front size b is generation ids from n some within new m.place ts (sized_of docs new new_is) same placed in
-      let laid = laid_in (extents_in m.place) (new_segments docs) in
-      let fresh = entries_merged b (run_of from n opened) run run_open rise new m.place new_is first in
-      let fresh_open = open_merged b (run_of from n opened) run run_open rise new merged m.place new_is are_merged first in
+      let made = stored_new docs m.place in
+      let sized = sized_of docs new new_is in
+      let first = first_placed (next size b is generation ids from n some within opened even grown new m sized merged are_merged' entries_now ts same placed plan pieces) in
+      let fresh = entries_new b (units_in size) (named b) docs new m.place new_is first in
+      let stand = open_merged (run_of from n opened) run run_open rise (units_in size) (named b) new merged m.place new_is are_merged' first in
+      let promise : Claim → Type 0 = λ c. IsAmong c (laid_in (extents_in m.place) (new_segments docs)) ⊎ IsAmong c (pieces_behind m) in
       record {
         table = ts;
         before = same ∙ ap length fits.0;
         placed = subst (λ ns. PlacedAs b.units (named b) (ns ++ table_writes (length b.entries - n + length ns)) (extents_in m.place ++ ts)) fits.0 placed;
         fits = fits.1;
-        goes = subst (GoesTo touched (λ c. IsAmong c laid ⊎ IsAmong c (pieces_behind m)) opened m.plan (committed_with b stored)) (with_tabled ts (committed_with (body_merged b from n m.place) (replaced from n made stored)) ∙ ap (with_table ts) (sym after))
-            (merge_goes size b is generation ids from n some within opened even grown new m (sized_of docs new new_is) merged are_merged entries_now ts same placed plan pieces docs fits.0 stored (replaced from n made stored) entries
-            (entries_replaced from n (entry_in b m.place) made b.entries stored entries fresh)
-            (open_replaced from n opened stored are merged made fresh_open)
-            (claims_replaced from n (entry_in b m.place) made b.entries stored entries fresh laid (among_merged b (run_of from n opened) run run_open rise olds new m.place new_is first)));
-        now = ap (λ (x : Committed). live_in (present (changed m.plan.change opened) x.stored)) after ∙ ap (λ os. live_in (present os (replaced from n made stored))) plan.opened_is
-            ∙ now_replaced from n opened stored are merged made fresh_open (now_merged b (run_of from n opened) run run_open rise new merged m.place new_is are_merged first);
+        goes = subst (GoesTo (merge_touches m) promise opened m.plan (committed_with b stored)) (with_tabled ts (committed_with (body_merged b from n m.place) (replaced from n made stored)) ∙ ap (with_table ts) (sym after))
+            (merge_goes size b is generation ids from n some within opened even grown new m sized merged are_merged' entries_now ts same placed plan pieces docs new_is stored made entries are stand.0 fresh.0 fresh.1);
+        now = ap (λ (y : Committed). live_in (present (changed m.plan.change opened) y.stored)) after ∙ ap (λ os. live_in (present os (replaced from n made stored))) plan.opened_is
+            ∙ now_replaced from n opened stored are merged made stand.0 stand.1;
       }
 
   -- or there is none
@@ -482,7 +277,7 @@ module _ (size : ℕ) (b : Body) (is : IsBody (units_in size) b) (generation : b
 module _ (size : ℕ) (b : Body) (is : IsBody (units_in size) b) (generation : b.generation < end_of_ids) (ids : b.next_segment < end_of_ids) (from n : ℕ) (some : 1 ≤ n) (within : from + n ≤ length b.entries)
     (opened : List OpenSegment) (even : entries_of opened ≡ b.entries) (grown : All IsGrown opened) where
   pub planned_rightly : (new : Option NewSegment) (m : MergePlan) → IsSized new → PlansMerged b opened from n new (Ok m) → PlansRightly size b opened n new m
-  planned_rightly new m sized (merged, are_merged, entries_now, ts, same, placed, plan, pieces) = merge_rightly size b is generation ids from n some within opened even grown new m sized merged are_merged entries_now ts same placed plan pieces
+  planned_rightly new m sized (merged, are_merged', entries_now, ts, same, placed, plan, pieces) = merge_rightly size b is generation ids from n some within opened even grown new m sized merged are_merged' entries_now ts same placed plan pieces
 
 -- and where there is no plan
 pub refused_rightly : (size : ℕ) (b : Body) (opened : List OpenSegment) (from n : ℕ) (new : Option NewSegment) (fault : LayoutFault) → PlansMerged b opened from n new (Err fault) → PlansMergeRightly size b opened n new (Err (layout_refusal fault))

@@ -28,15 +28,10 @@ listed l o = record {
   deleted = o.deleted;
 }
 
--- the open segments, and entries, with these lists, each at its place
+-- the open segments with these lists, each at its place
 abbrev pub with_lists : List OpenSegment → List NewList → List OpenSegment
 with_lists opened [] = opened
 with_lists opened (l ∷ lists) = with_lists (made_at (listed l) l.place opened) lists
-
-abbrev pub listed_entries : List Entry → List NewList → List Entry
-listed_entries entries [] = entries
-listed_entries entries (l ∷ lists) =
-    listed_entries (made_at (λ e. with_list e l.extent) l.place entries) lists
 
 -- the lists of the segments with a pending deletion, which stand from a place on, in these extents,
 -- one after the other

@@ -21,7 +21,7 @@ use Rattle.pk_segment.specs.Placed.{IsIndexedOf}
 use Rattle.pk_segment.specs.Spelling.{AreDocuments, segment_length}
 use Rattle.pk_space.specs.Places.{FullAs, PlacedAs}
 use Rattle.pk_state.specs.Committed.{Stored, lists, live_in}
-use Rattle.pk_state.specs.Writing.{after_merge, is_too_large, next_body, replaced, segment_writes}
+use Rattle.pk_state.specs.Writing.{after_merge, is_too_large, replaced, segment_writes}
 use Rattle.pk_state.specs.Writing.{table_writes, with_table, written_kind}
 use Rattle.pk_layout.specs.Placed.{AreLaid}
 use Rattle.pk_layout.specs.declared.fault.LayoutFault.{LayoutFault}
@@ -30,7 +30,7 @@ use Rattle.pk_layout.specs.declared.merging.MergePlan.{MergePlan}
 use Rattle.pk_layout.specs.declared.merging.NewSegment.{NewSegment}
 use Rattle.pk_layout.specs.Deletions.{most_deleted}
 use Rattle.pk_layout.specs.Change.{changed}
-use Rattle.pk_layout.specs.Plan.{GoesOn, GoesTo, IsPlan, IsPlanOf, PromisesTable, entry_in, ids_in, laid_in}
+use Rattle.pk_layout.specs.Plan.{GoesOn, GoesTo, IsPlan, IsPlanOf, PromisesTable, body_replaced, entry_in, laid_in}
 use Rattle.pk_layout.specs.Plan.{new_segments, table_bytes, tabled}
 
 -- the number is deleted in the segment, and no commit has taken its deletion
@@ -120,8 +120,7 @@ bytes_in (e ∷ extents) p = in_range (start_of e) e.bytes p || bytes_in extents
 -- the body after a merge of n entries from a place on, whose segment is in the extent that there
 -- may be
 abbrev pub body_merged : Body → ℕ → ℕ → Option Extent → Body
-body_merged b from n segment = next_body b b.next_number (ids_in segment)
-    (replaced from n (entry_in b segment) b.entries)
+body_merged b from n segment = body_replaced b b.next_number from n segment b.entries
 
 -- how many entries there are after it
 abbrev pub count_merged : Body → ℕ → Option NewSegment → ℕ

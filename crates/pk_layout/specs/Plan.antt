@@ -13,27 +13,24 @@ use Rattle.pk_manifest.specs.Sound.{IsBody, named, segment_limit}
 use Rattle.pk_manifest.specs.declared.manifest.Part.{Part as Entry}
 use Rattle.pk_manifest.specs.Spelling.{Body, entry, spelling, view}
 use Rattle.pk_model.specs.Collection.{Doc, numbers_of}
-use Rattle.pk_model.specs.Limits.{end_of_ids, end_of_numbers, max_segment_bytes, max_segments}
+use Rattle.pk_model.specs.Limits.{end_of_ids, end_of_numbers, max_segments}
 use Rattle.pk_replace.specs.Claims.{AreApart, Claim, Each, IsAmong, IsBehind, IsInside, IsUntouched}
 use Rattle.pk_replace.specs.Claims.{claim_of, places}
 use Rattle.pk_replace.specs.Held.{IsNext}
-use Rattle.pk_segment.specs.declared.building.BuildFault.{BuildFault}
-use Rattle.pk_segment.specs.declared.building.BuildFault.TheVariants as building
-use Rattle.pk_segment.specs.declared.segment.Segment.{Segment}
 use Rattle.pk_segment.specs.Placed.{IsIndexedOf}
 use Rattle.pk_posting.specs.Spelling.{spelling as list_spelling}
 use Rattle.pk_open.specs.declared.opened.OpenSegment.{OpenSegment}
 use Rattle.pk_open.specs.Opened.{AreOpenOf, entries_of, pends, present}
 pub use Rattle.pk_open.specs.Opening.{IsGrown}
 use Rattle.pk_segment.specs.Spelling.{SegmentSpells}
-use Rattle.pk_segment.specs.Spelling.{segment_length, segment_spelling}
+use Rattle.pk_segment.specs.Spelling.{segment_spelling}
 use Rattle.pk_space.specs.declared.runs.Full.{Full as NoRoom}
 use Rattle.pk_space.specs.Free.{IsFirstFit, IsFullAt}
 use Rattle.pk_space.specs.Places.{PlacedAs, FullAs}
 use Rattle.pk_state.specs.Committed.{Stored, Committed}
 use Rattle.pk_state.specs.Kept.{AreEntries, all_claims, table_claims}
-use Rattle.pk_state.specs.Writing.{is_too_large, new_entry, new_stored, next_body, table_writes}
-use Rattle.pk_state.specs.Writing.{with_table, written_kind}
+use Rattle.pk_state.specs.Writing.{is_too_large, new_entry, new_stored, next_body, replaced}
+use Rattle.pk_state.specs.Writing.{table_writes, with_table, written_kind}
 use Rattle.pk_layout.specs.declared.committing.Built.{Built}
 use Rattle.pk_layout.specs.declared.committing.CommitPlan.{CommitPlan}
 use Rattle.pk_layout.specs.declared.fault.LayoutFault.{LayoutFault}
@@ -42,16 +39,6 @@ use Rattle.pk_layout.specs.declared.planning.Plan.{Plan}
 use Rattle.pk_layout.specs.declared.change.Change.{Change}
 use Rattle.pk_layout.specs.Change.{Fits, changed, with_list}
 use Rattle.pk_layout.specs.Placed.{AreLaid}
-
--- the entries, those with a pending deletion with their new lists in these extents, one after the
--- other
-abbrev pub relisted : List Entry → List OpenSegment → List Extent → List Entry
-relisted [] opened extents = []
-relisted (e ∷ es) [] extents = e ∷ es
-relisted (e ∷ es) (o ∷ opened) [] = e ∷ es
-relisted (e ∷ es) (o ∷ opened) (x ∷ extents) =
-    if pends o then with_list e x ∷ relisted es opened extents
-    else e ∷ relisted es opened (x ∷ extents)
 
 -- the bytes of the new lists
 abbrev pub new_lists : List OpenSegment → List (List ℕ)
@@ -107,8 +94,8 @@ settled x o = record {
 -- the open segments, those with a pending deletion with all of them in their new lists in these
 -- extents, one after the other
 abbrev pub settled_in : List OpenSegment → List Extent → List OpenSegment
-settled_in [] extents = []
-settled_in (o ∷ opened) [] = o ∷ opened
+settled_in opened [] = opened
+settled_in [] (x ∷ extents) = []
 settled_in (o ∷ opened) (x ∷ extents) =
     if pends o then settled x o ∷ settled_in opened extents
     else o ∷ settled_in opened (x ∷ extents)
@@ -120,16 +107,16 @@ AreSettled opened = list_any pends opened ≡ false
 -- what is committed after a commit of these documents and of all that is deleted
 abbrev pub commit_to : Committed → List OpenSegment → List Doc → ℕ → List Extent → Committed
 commit_to c opened [] next extents = record {
-  body = next_body c.body next 0 (relisted c.body.entries opened extents);
+  body = next_body c.body next 0 (entries_of (settled_in opened extents));
   stored = present opened c.stored;
 }
 commit_to c opened (d ∷ docs) next [] = record {
-  body = next_body c.body next 0 (relisted c.body.entries opened []);
+  body = next_body c.body next 0 (entries_of opened);
   stored = present opened c.stored;
 }
 commit_to c opened (d ∷ docs) next (e ∷ extents) = record {
   body = next_body c.body next 1
-      (relisted c.body.entries opened extents ++ new_entry c.body e ∷ []);
+      (entries_of (settled_in opened extents) ++ new_entry c.body e ∷ []);
   stored = present opened c.stored ++ new_stored (d ∷ docs) ∷ [];
 }
 
@@ -236,12 +223,18 @@ PlacesAs b lengths (Err (Full need largest)) = FullAs b.units (named b) lengths 
 PlacesAs b lengths (Err Memory) = Unit {0}
 PlacesAs b lengths (Err why) = ⊥
 
--- a segment is built and open, or why it is not
-abbrev pub BuildsAs : List Doc → Result Built BuildFault → Type 0
-BuildsAs docs (Ok built) =
+-- the segment that is built of the documents, and open: none where there is no document
+abbrev pub IsBuiltOf : List Doc → Option Built → Type 0
+IsBuiltOf docs None = docs ≡ []
+IsBuiltOf docs (Some built) =
     SegmentSpells built.bytes.items docs written_kind × IsIndexedOf built.segment docs
-BuildsAs docs (Err building.TooLarge) = max_segment_bytes < segment_length docs written_kind
-BuildsAs docs (Err building.Memory) = Unit {0}
+
+-- or why there is none
+abbrev pub BuildsAs : List Doc → Result (Option Built) LayoutFault → Type 0
+BuildsAs docs (Ok built) = IsBuiltOf docs built
+BuildsAs docs (Err TooLarge) = is_too_large docs ≡ true
+BuildsAs docs (Err Memory) = Unit {0}
+BuildsAs docs (Err why) = ⊥
 
 -- what may be written: at least five bytes each, and no more than a segment has
 abbrev pub CanBeWritten : List (List ℕ) → Type 0
@@ -251,40 +244,6 @@ CanBeWritten writes = All (λ w. (5 ≤ length w) × (length w ≤ segment_limit
 abbrev pub lengths_with : List (List ℕ) → ℕ → List ℕ
 lengths_with writes count = map length writes ++ table_writes count
 
--- a plan that writes these bytes at the first fit, and behind them the table of so many entries, and
--- puts the body of their extents in force with these open segments, or why there is none
-abbrev pub PlansWith : Body → List OpenSegment → List (List ℕ) → ℕ
-    → (List Extent → List OpenSegment) → (List Extent → Body) → Result CommitPlan LayoutFault
-    → Type 0
-PlansWith b opened writes count next body (Ok p) =
-    (extents : List Extent) × (table : List Extent) × (length extents ≡ length writes)
-    × PlacedAs b.units (named b) (lengths_with writes count) (extents ++ table)
-    × IsPlanOf (tabled table (body extents)) opened (next extents) p.plan
-    × (pieces_of p ≡ laid_in (extents ++ table) (writes ++ table_bytes (body extents).entries))
-PlansWith b opened writes count next body (Err (Full need largest)) =
-    FullAs b.units (named b) (lengths_with writes count) need largest
-PlansWith b opened writes count next body (Err Memory) = Unit {0}
-PlansWith b opened writes count next body (Err why) = ⊥
-
--- an open segment just built, with its entry
-abbrev pub fresh_segment : Entry → Segment → OpenSegment
-fresh_segment e s = record { entry = e; segment = s; dead = []; deleted = [] }
-
--- the open segments after a commit with a segment in the first of the extents
-abbrev pub opened_with_segment : Body → List OpenSegment → Segment → List Extent → List OpenSegment
-opened_with_segment b opened s [] = opened
-opened_with_segment b opened s (e ∷ extents) =
-    settled_in opened extents ++ fresh_segment (new_entry b e) s ∷ []
-
--- the body after a commit without a document, and with a segment in the first of the extents
-abbrev pub body_with_lists : Body → List OpenSegment → ℕ → List Extent → Body
-body_with_lists b opened next extents = next_body b next 0 (relisted b.entries opened extents)
-
-abbrev pub body_with_segment : Body → List OpenSegment → ℕ → List Extent → Body
-body_with_segment b opened next [] = body_with_lists b opened next []
-body_with_segment b opened next (e ∷ extents) =
-    next_body b next 1 (relisted b.entries opened extents ++ new_entry b e ∷ [])
-
 -- the entries of a segment that there may be, and how many ids they take
 abbrev pub entry_in : Body → Option Extent → List Entry
 entry_in b None = []
@@ -293,6 +252,12 @@ entry_in b (Some e) = new_entry b e ∷ []
 abbrev pub ids_in : Option Extent → ℕ
 ids_in None = 0
 ids_in (Some e) = 1
+
+-- the body that follows with this next number and these entries, of which a run of n from a place on
+-- gives way to the segment in the extent that there may be
+abbrev pub body_replaced : Body → ℕ → ℕ → ℕ → Option Extent → List Entry → Body
+body_replaced b next from n place entries =
+    next_body b next (ids_in place) (replaced from n (entry_in b place) entries)
 
 -- the plan is one of a commit of these documents and of all that is deleted, placed at the first fit
 pub record PlansCommit (b : Body) (opened : List OpenSegment) (docs : List Doc) (next : ℕ)

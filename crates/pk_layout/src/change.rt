@@ -1,10 +1,12 @@
 //! What becomes of the open segments once a plan's body is in force: those with a new deletion list
 //! get it, and a run of them gives way to one segment, or to none. They are changed in place, and
 //! all others stay where they are.
-ghost use Rattle.std.specs.Prelude.{◌≡◌, ◌≤◌, ◌<◌, ◌+◌, ◌++◌, ℕ, List, All, IfOk};
+ghost use Rattle.std.specs.Prelude.{◌≡◌, ◌≤◌, ◌<◌, ◌+◌, All, IfOk, OnOk};
 ghost use Rattle.std.specs.Prelude.{length, vec_capacity};
-ghost use Rattle.pk_layout.specs.Change.{Fits, changed, listed_entries, new_lists_in};
-ghost use Rattle.pk_layout.specs.Change.{opened_in, with_lists};
+ghost use Rattle.pk_layout.specs.Change.{Fits, changed, new_lists_in, opened_in, with_lists};
+ghost use Rattle.pk_layout.specs.Next.{run_behind};
+ghost use Rattle.pk_layout.specs.Plan.{settled_in};
+ghost use Rattle.pk_open.specs.Opened.{entries_of};
 ghost use Rattle.pk_state.specs.Writing.{replaced};
 
 use pk_dead::Dead;
@@ -20,6 +22,18 @@ pub struct Run {
     pub from: usize,
     /// How many there are.
     pub count: usize,
+}
+
+impl Run {
+    /// The empty run behind all segments.
+    pub(crate) fn behind(opened: &[OpenSegment]) -> Run
+        ensures { result ≡ run_behind opened.now }
+    {
+        Run {
+            from: opened.len(),
+            count: 0,
+        }
+    }
 }
 
 /// A deletion list that a segment gets.
@@ -44,14 +58,19 @@ pub struct Change {
     pub(crate) segment: Option<OpenSegment>,
 }
 
-/// The new lists of the segments with a pending deletion, in these extents, one after the other.
+/// The new lists of the segments with a pending deletion, in these extents, one after the other. The
+/// entries of those segments get them.
 pub(crate) fn new_lists_in(
     alloc: Global,
     opened: &[OpenSegment],
     extents: &[Extent],
+    entries: &mut Vec<Part>,
 ) -> Result<Vec<NewList>, AllocError>
+    requires { entries_of opened.now ≡ entries.old.items }
     ensures lists { IfOk result (λ v. v.items ≡ new_lists_in 0 opened.now extents.now) }
     ensures places { IfOk result (λ v. All (λ l. l.place < length opened.now) v.items) }
+    ensures entries { OnOk result
+        (entries.new.items ≡ entries_of (settled_in opened.now extents.now)) }
 {
     let mut lists = Vec::with_capacity(alloc, extents.len())?;
     for place in 0..opened.len() {
@@ -59,6 +78,8 @@ pub(crate) fn new_lists_in(
         if segment.is_pending() && lists.len() < extents.len() {
             let extent = extents[lists.len()];
             let numbers = segment.deleted.copy(alloc)?;
+            let entry = &mut entries[place];
+            entry.dead = Some(extent);
             lists.push(NewList {
                 place,
                 extent,
@@ -67,24 +88,6 @@ pub(crate) fn new_lists_in(
         }
     }
     Ok(lists)
-}
-
-/// The entries, with these lists.
-pub(crate) fn entries_with(
-    alloc: Global,
-    entries: &[Part],
-    lists: &[NewList],
-) -> Result<Vec<Part>, AllocError>
-    requires { All (λ l. l.place < length entries.now) lists.now }
-    ensures { IfOk result (λ v. v.items ≡ listed_entries entries.now lists.now) }
-{
-    let mut listed = Vec::with_capacity(alloc, entries.len() + 1)?;
-    listed.extend_from_slice(entries)?;
-    for list in lists {
-        let entry = &mut listed[list.place];
-        entry.dead = Some(list.extent);
-    }
-    Ok(listed)
 }
 
 // Each of these lists takes the place of the one that its segment had.
@@ -118,45 +121,9 @@ fn put_over(run: Run, segment: Option<OpenSegment>, opened: &mut Vec<OpenSegment
 }
 
 impl Change {
-    /// The change by these lists, and by a segment behind the others, if there is one.
-    pub(crate) fn behind(
-        opened: &[OpenSegment],
-        lists: Vec<NewList>,
-        segment: Option<OpenSegment>,
-    ) -> Change
-        requires { All (λ l. l.place < length opened.now) lists.items }
-        ensures fits { Fits result (length opened.now) }
-        ensures opened { changed result opened.now
-            ≡ with_lists opened.now lists.items ++ opened_in segment }
-    {
-        let run = Run {
-            from: opened.len(),
-            count: 0,
-        };
-        Change {
-            lists,
-            run,
-            segment,
-        }
-    }
-
-    /// The change of a run into this segment, or into none.
-    pub(crate) fn of_run(alloc: Global, run: Run, segment: Option<OpenSegment>) -> Change
-        ensures fits { (n : ℕ) → run.from + run.count ≤ n → Fits result n }
-        ensures opened { (opened : List OpenSegment) → changed result opened
-            ≡ replaced run.from run.count (opened_in segment) opened }
-    {
-        let lists = Vec::new(alloc);
-        Change {
-            lists,
-            run,
-            segment,
-        }
-    }
-
     /// Makes of the open segments those of the next body. It takes no memory: there is room for as
     /// many as there are then.
-    pub fn settle(self, opened: &mut Vec<OpenSegment>)
+    pub fn apply(self, opened: &mut Vec<OpenSegment>)
         requires fits { Fits self (length opened.old.items) }
         requires room { length (changed self opened.old.items) ≤ vec_capacity opened.old }
         ensures opened { opened.new.items ≡ changed self opened.old.items }

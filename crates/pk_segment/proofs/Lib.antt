@@ -3,6 +3,7 @@ pub mod DirectoryLemmas
 pub mod BegunLemmas
 pub mod IndexLemmas
 pub mod ListingLemmas
+pub mod RangeLemmas
 pub mod OnlyReadLemmas
 pub mod OpeningLemmas
 pub mod PlacedLemmas

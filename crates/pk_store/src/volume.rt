@@ -33,6 +33,7 @@ ghost use Rattle.pk_layout.specs.Merging.{run_of};
 ghost use Rattle.pk_store.specs.Merging.{AreInputsOf, MergesRun, PlansRun};
 ghost use Rattle.pk_layout.specs.Plan.{AreNext, GoesOn, IsPlan, LeavesRoom, PlansAs};
 ghost use Rattle.pk_layout.specs.Plan.{PromisesTable};
+ghost use Rattle.pk_open.specs.Opened.{entries_of};
 ghost use Rattle.pk_store.specs.Carrying.{Carries, Goes};
 ghost use Rattle.pk_store.specs.Refusing.{stream_refusal};
 ghost use Rattle.pk_store.specs.Room.{HasRoom};
@@ -308,8 +309,9 @@ impl<D: Disk> Volume<D> {
         requires index { Keeps index.now (docs_of documents.now) }
         requires room { LeavesRoom self.now.body (length documents.now) }
         requires next { AreNext self.now.body (docs_of documents.now) next_number }
-        ensures { PlansAs (length (D.content self.now.disk)) self.now.body self.now.opened
+        ensures plan { PlansAs (length (D.content self.now.disk)) self.now.body self.now.opened
             (docs_of documents.now) next_number result }
+        ensures opened { entries_of self.now.opened ≡ self.now.body.entries }
     {
         let new = Uncommitted {
             documents,
@@ -482,7 +484,7 @@ impl<D: Disk> Volume<D> {
         match replace_with(&mut self.disk, self.spare, writer, &plan.body) {
             Ok(()) => {
                 self.manifest = plan.manifest;
-                plan.change.settle(&mut self.opened);
+                plan.change.apply(&mut self.opened);
                 self.spare = self.spare.other();
                 Ok(())
             }

@@ -24,8 +24,8 @@ loop-low-preserved-then-entry-number-2 g c =
       asked = λ k lt. let was = c.loop-low.invariant.asked k lt in
           let now = halved was.0 (c.loop-low.high - c.loop-low.low) (asked c.loop-low.source) (asked c.args.source.now) k (omega (arith, c.loop-low-test.true)) was.1 was.2 in
           (now.0, omega (arith, now.1, c.loop-low-test.true), omega (arith, now.2, c.entry_of.ensures.left.asks));
-      below = λ honest docs kind is count i le.
-          let lt : middle < length docs = omega (arith, count, c.loop-low.invariant.within, c.loop-low-test.true) in
+      below = λ honest docs kind is of i le.
+          let lt : middle < length docs = omega (arith, of.count_is, c.loop-low.invariant.within, c.loop-low-test.true) in
           let at = subst (λ (x : List ℕ). IsEntry (entry_field x middle) c.in_ok-entry.entry) (c.loop-low.invariant.left.same honest) (c.in_ok-entry.ensures.value honest) in
           let entry = says (content c.args.source.now) docs kind middle c.in_ok-entry.entry is lt at in
           below_middle docs middle i c.args.number _ _ _ is.spelled.are lt entry c.if-entry-number-2.true le;
@@ -44,8 +44,8 @@ loop-low-preserved g c =
           let now = halved was.0 (c.loop-low.high - c.loop-low.low) (asked c.loop-low.source) (asked c.args.source.now) k (omega (arith, c.loop-low-test.true)) was.1 was.2 in
           (now.0, omega (arith, now.1, c.loop-low-test.true), omega (arith, now.2, c.entry_of.ensures.left.asks));
       below = c.loop-low.invariant.below;
-      above = λ honest docs kind is count i le long.
-          let lt : middle < length docs = omega (arith, count, c.loop-low.invariant.within, c.loop-low-test.true) in
+      above = λ honest docs kind is of i le long.
+          let lt : middle < length docs = omega (arith, of.count_is, c.loop-low.invariant.within, c.loop-low-test.true) in
           let at = subst (λ (x : List ℕ). IsEntry (entry_field x middle) c.in_ok-entry.entry) (c.loop-low.invariant.left.same honest) (c.in_ok-entry.ensures.value honest) in
           let entry = says (content c.args.source.now) docs kind middle c.in_ok-entry.entry is lt at in
           let more : c.args.number < c.in_ok-entry.entry.number = omega (arith, c.if-entry-number.false, c.if-entry-number-2.false) in
@@ -55,4 +55,4 @@ loop-low-preserved g c =
 pub returns-clause-found : goal.returns-clause-found
 returns-clause-found g c = λ honest docs kind is of.
     none_between docs c.loop-low.low c.loop-low.high c.args.number c.loop-low-test.false
-    (c.loop-low.invariant.below honest docs kind is of.count_is) (c.loop-low.invariant.above honest docs kind is of.count_is)
+    (c.loop-low.invariant.below honest docs kind is of) (c.loop-low.invariant.above honest docs kind is of)

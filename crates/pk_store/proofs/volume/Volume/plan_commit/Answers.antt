@@ -1,9 +1,10 @@
 -- The body is sound on a disk of its units.
-use Rattle.std.proofs.Common.{ℕ, ◌∙◌, ap, subst, sym}
+use Rattle.std.proofs.Common.{ℕ, ◌≡◌, ◌∙◌, ap, subst, sym}
 use Rattle.pk_manifest.specs.Sound.{IsBody}
 use Rattle.pk_manifest.specs.Spelling.{view}
 use Rattle.pk_manifest.proofs.Sound.{says_sound}
 use Rattle.pk_open.specs.Opened.{entries_of}
+use Rattle.pk_store.specs.View.{VolumeView}
 use Rattle.pk_store.proofs.volume.Volume.plan_commit.Goals as goal
 
 pub plan_commit-requires-clause-sound : goal.plan_commit-requires-clause-sound
@@ -13,3 +14,6 @@ plan_commit-requires-clause-sound g c =
 
 pub plan_commit-requires-clause-opened : goal.plan_commit-requires-clause-opened
 plan_commit-requires-clause-opened g c = ap entries_of c.deref.ensures.value ∙ c.self.invariant.0.opened
+
+pub returns-clause-opened : goal.returns-clause-opened
+returns-clause-opened g c = subst (λ (v : VolumeView _). entries_of v.opened ≡ v.body.entries) c.self.view_is c.self.invariant.0.opened

@@ -1,7 +1,7 @@
 -- The lists leave as many segments as there were.
 use Rattle.std.proofs.Common.{ap, arith, length}
 use Rattle.pk_layout.proofs.ChangeLemmas.{lists_long}
-use Rattle.pk_layout.proofs.change.Change.settle.Goals as goal
+use Rattle.pk_layout.proofs.change.Change.apply.Goals as goal
 
 pub put_over-requires-clause-within : goal.put_over-requires-clause-within
 put_over-requires-clause-within c =

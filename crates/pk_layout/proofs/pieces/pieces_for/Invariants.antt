@@ -2,7 +2,7 @@
 use Rattle.std.proofs.Common.{◌≡◌, length, map, take}
 use Rattle.pk_layout.specs.Plan.{laid_in}
 use Rattle.pk_replace.specs.Claims.{claim_of}
-use Rattle.pk_layout.proofs.planning.pieces_for.Given as goal
+use Rattle.pk_layout.proofs.pieces.pieces_for.Given as goal
 
 abbrev pub invariant-loop-bytes : goal.invariant-loop-bytes
 invariant-loop-bytes l = record {

@@ -6,7 +6,7 @@ use Rattle.std.proofs.lemmas.List.{get_or_default, length_push}
 use Rattle.pk_disk.specs.declared.units.Extent.{Extent}
 use Rattle.pk_disk.specs.Units.{start_of}
 use Rattle.pk_layout.proofs.WriteLemmas.{all_pieces, one_piece}
-use Rattle.pk_layout.proofs.planning.pieces_for.Goals as goal
+use Rattle.pk_layout.proofs.pieces.pieces_for.Goals as goal
 
 abbrev no_place : Extent
 no_place = record { first = 0; units = 0; bytes = 0 }
