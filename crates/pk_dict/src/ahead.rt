@@ -1,7 +1,7 @@
 //! Words made of what was read ahead of a dictionary, or where that is too short of the source.
 
 ghost use Rattle.std.specs.Prelude.{◌≡◌, ◌≤◌, ◌<◌, ◌+◌, ◌^◌, ℕ, List, length, Ok, None};
-ghost use Rattle.std.specs.Prelude.{IfOk, IfErr, IfSome, OnOk};
+ghost use Rattle.std.specs.Prelude.{IfOk, IfErr, IfSome, IsErrOf, OnOk, vec_capacity};
 ghost use Rattle.pk_dict.specs.Entries.{IsListed, TermGives};
 ghost use Rattle.pk_dict.specs.Place.{LiesIn, bytes_at};
 ghost use Rattle.pk_dict.specs.Reading.{IsPieceAt};
@@ -33,6 +33,8 @@ pub(crate) struct Held {
     pub(crate) from: u32,
     // How many are read at once, at most.
     pub(crate) most: u32,
+    // Where the word before is kept while one is read that they have not all of.
+    pub(crate) before: Vec<u8>,
     ghost short: { from + length bytes.items < 2 ^ 32 },
     ghost few: { length bytes.items ≤ most },
     ghost lent: { most ≤ most_lent },
@@ -50,7 +52,35 @@ impl Held {
             bytes: Vec::new(alloc),
             from: 0,
             most,
+            before: Vec::new(alloc),
         }
+    }
+
+    // Nothing again.
+    pub(crate) fn clear(&mut self)
+        ensures bytes { length self.new.bytes.items ≡ 0 }
+        ensures from { self.new.from ≡ 0 }
+        ensures most { self.new.most ≡ self.old.most }
+        ensures same { vec_capacity self.new.bytes ≡ vec_capacity self.old.bytes }
+        ensures before { self.new.before ≡ self.old.before }
+    {
+        self.bytes.clear();
+        self.from = 0;
+    }
+
+    // Takes room for what is read at once, and to keep a word of so many bytes. It holds nothing
+    // then.
+    pub(crate) fn reserve(&mut self, word: usize) -> Result<(), AllocError>
+        ensures bytes { length self.new.bytes.items ≡ 0 }
+        ensures from { self.new.from ≡ 0 }
+        ensures most { self.new.most ≡ self.old.most }
+        ensures ahead { OnOk result (self.new.most ≤ vec_capacity self.new.bytes) }
+        ensures before { OnOk result (word ≤ vec_capacity self.new.before) }
+    {
+        self.clear();
+        self.before.clear();
+        self.bytes.reserve(self.most as usize)?;
+        self.before.reserve(word)
     }
 
     // Reads from a place on, up to the end of the dictionary at most.
@@ -65,6 +95,10 @@ impl Held {
         ensures value { S.honest → OnOk result
             (IsPieceAt (bytes_at (S.content source.old) place) self.new.from self.new.bytes.items) }
         ensures most { self.new.most ≡ self.old.most }
+        // Memory is refused only where there is no room for what is read at once.
+        ensures full { IsErrOf result EntriesFault.Memory → vec_capacity self.old.bytes < self.old.most }
+        ensures room { vec_capacity self.old.bytes ≤ vec_capacity self.new.bytes }
+        ensures before { self.new.before ≡ self.old.before }
         ensures fault { IfErr result (λ e. e ≡ EntriesFault.Damaged → ⊥) }
         ensures left { IsListed S.honest S.content S.failures S.keeps result source.old source.new }
         ensures asks { S.asked source.new ≤ S.asked source.old + 1 }
@@ -84,6 +118,12 @@ impl Held {
             → IfOk result (λ found. IfSome found (λ r. word_at bytes spot.index word.old.items spot.at
             ≡ Ok (word.new.items, r.0, r.1))) }
         ensures none { result ≡ Ok None → word.new ≡ word.old }
+        // Memory is refused only where there is no room for the word.
+        ensures full { (bytes : List ℕ) → IsPieceAt bytes self.now.from self.now.bytes.items
+            → IfErr result (λ _. (t : List ℕ × Entry × ℕ)
+            → word_at bytes spot.index word.old.items spot.at ≡ Ok t
+            → vec_capacity word.old < length t.0) }
+        ensures room { vec_capacity word.old ≤ vec_capacity word.new }
     {
         let Spot { index, at } = spot;
         let piece = self.bytes.as_slice();
@@ -123,19 +163,27 @@ fn far_word<S: ByteSource>(
     source: &mut S,
     place: DictPlace,
     spot: Spot,
+    before: &mut Vec<u8>,
     word: &mut Vec<u8>,
 ) -> Result<(Entry, u32), EntriesFault>
     requires { LiesIn place (length (S.content source.old)) }
     ensures value { S.honest → TermGives result word.new.items
         (word_at (bytes_at (S.content source.old) place) spot.index word.old.items spot.at) }
+    // Memory is refused only where there is no room for the word, or for the one before.
+    ensures full { S.honest → IsErrOf result EntriesFault.Memory → (t : List ℕ × Entry × ℕ)
+        → word_at (bytes_at (S.content source.old) place) spot.index word.old.items spot.at ≡ Ok t
+        → length word.old.items ≤ vec_capacity before.old → vec_capacity word.old < length t.0 }
+    ensures room { vec_capacity word.old ≤ vec_capacity word.new }
+    ensures before { vec_capacity before.old ≤ vec_capacity before.new }
     ensures left { IsListed S.honest S.content S.failures S.keeps result source.old source.new }
     ensures asks { S.honest → OnOk result (S.asked source.new
         ≤ S.asked source.old + 5 + asks_for (length word.new.items)) }
 {
     let Spot { index, at } = spot;
-    let before = Vec::from_slice(*word.allocator(), word)?;
+    before.clear();
+    before.extend_from_slice(word)?;
     let (entry, next) = next_term(source, place, index % 16 == 0, at, word)?;
-    if index > 0 && !is_less(&before, word) {
+    if index > 0 && !is_less(before, word) {
         return Err(EntriesFault::Damaged);
     }
     Ok((entry, next))
@@ -159,6 +207,17 @@ pub(crate) fn next_word<S: ByteSource>(
         → OnOk result
         (IsPieceAt (bytes_at (S.content source.old) place) held.new.from held.new.bytes.items) }
     ensures most { held.new.most ≡ held.old.most }
+    // Memory is refused only where there is no room for the word, for the one before, or for what is
+    // read at once.
+    ensures full { S.honest
+        → IsPieceAt (bytes_at (S.content source.old) place) held.old.from held.old.bytes.items
+        → IsErrOf result EntriesFault.Memory → (t : List ℕ × Entry × ℕ)
+        → word_at (bytes_at (S.content source.old) place) spot.index word.old.items spot.at ≡ Ok t
+        → held.old.most ≤ vec_capacity held.old.bytes
+        → length word.old.items ≤ vec_capacity held.old.before → vec_capacity word.old < length t.0 }
+    ensures room { vec_capacity word.old ≤ vec_capacity word.new }
+    ensures rooms { (vec_capacity held.old.bytes ≤ vec_capacity held.new.bytes)
+        × (vec_capacity held.old.before ≤ vec_capacity held.new.before) }
     ensures left { IsListed S.honest S.content S.failures S.keeps result source.old source.new }
     ensures asks { S.honest → OnOk result (S.asked source.new
         ≤ S.asked source.old + 6 + asks_for (length word.new.items)) }
@@ -172,5 +231,5 @@ pub(crate) fn next_word<S: ByteSource>(
             return Ok(found);
         }
     }
-    far_word(source, place, spot, word)
+    far_word(source, place, spot, &mut held.before, word)
 }

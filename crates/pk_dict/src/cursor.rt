@@ -3,6 +3,7 @@
 ghost use Rattle.std.specs.Prelude.{◌≡◌, ◌≤◌, ◌<◌, ◌+◌, ◌*◌, ◌^◌, ◌↔◌, ℕ, List, length};
 ghost use Rattle.std.specs.Prelude.{None, Some, Ok, Err, true};
 ghost use Rattle.std.specs.Prelude.{IfErr, IfOk, IfSome, IsErrOf, IsOk, IsTrue, MatchResult, OnOk};
+ghost use Rattle.std.specs.Prelude.{vec_capacity};
 ghost use Rattle.std.specs.List.{AllByRecursion};
 ghost use Rattle.pk_dict.specs.Dictionary.{DictSpells, Item, group_count};
 ghost use Rattle.pk_dict.specs.Entries.{IsListed};
@@ -17,8 +18,14 @@ use crate::head::GroupStart;
 use crate::look_up::groups_of;
 use crate::seeking::first_start;
 use pk_posting::{ByteSource, ListPlace};
-use std::alloc::Global;
+use std::alloc::{AllocError, Global};
 use std::vec::Vec;
+
+// What is said of no word.
+const NO_ENTRY: Entry = Entry {
+    frequency: 0,
+    place: ListPlace { at: 0, bytes: 0 },
+};
 
 /// A place among the words of a dictionary that lies in a source. It owns nothing of the source,
 /// which is handed to each call that reads: so one source serves any number of cursors. It holds
@@ -42,6 +49,9 @@ pub struct TermCursor {
 impl TermCursor {
     ghost use Rattle.pk_dict.specs.Cursor.{BeginsAt, Comes, HasRead, HoldsOf, IsBroken, IsNext};
     ghost use Rattle.pk_dict.specs.Cursor.{IsSought, ReadsAhead, StandsAt, words_left};
+    ghost use Rattle.pk_dict.specs.Cursor.{word_after};
+    ghost use Rattle.pk_dict.specs.Memory.{HasRoom};
+    ghost use Rattle.pk_dict.specs.Said.{GoesOn, IsFirst};
 
     /// A cursor before the first word of a dictionary, which reads so many bytes ahead at once. It
     /// reads nothing and takes no memory yet.
@@ -53,19 +63,46 @@ impl TermCursor {
         ensures holds { (bytes : List ℕ) → HoldsOf bytes result }
         ensures ahead { ReadsAhead ahead result }
         ensures sound { result.fault ≡ None }
+        ensures first { IsFirst result }
     {
         TermCursor {
             place,
             read: 0,
             at: 4 * groups_of(place.terms),
             word: Vec::new(alloc),
-            entry: Entry {
-                frequency: 0,
-                place: ListPlace { at: 0, bytes: 0 },
-            },
+            entry: NO_ENTRY,
             held: Held::new(alloc, ahead),
             fault: None,
         }
+    }
+
+    /// Goes back before the first word. What was read ahead and a fault are forgotten, and the
+    /// memory for both is kept.
+    pub fn rewind(&mut self)
+        ensures first { IsFirst self.new }
+        ensures place { self.new.place ≡ self.old.place }
+        ensures ahead { ReadsAhead self.old.held.most self.new }
+        ensures same { vec_capacity self.new.word ≡ vec_capacity self.old.word }
+    {
+        self.read = 0;
+        self.at = 4 * groups_of(self.place.terms);
+        self.word.clear();
+        self.entry = NO_ENTRY;
+        self.held.clear();
+        self.fault = None;
+    }
+
+    /// Goes back before the first word, and takes room for what it reads ahead, and for a word as
+    /// long as one for which there is room: so it takes no memory for the words that it passed, when
+    /// it passes them again.
+    pub fn rewind_with_room(&mut self) -> Result<(), AllocError>
+        ensures first { IsFirst self.new }
+        ensures place { self.new.place ≡ self.old.place }
+        ensures ahead { ReadsAhead self.old.held.most self.new }
+        ensures room { OnOk result (HasRoom (vec_capacity self.old.word) self.new) }
+    {
+        self.rewind();
+        self.held.reserve(self.word.capacity())
     }
 
     /// The word that was passed last; no bytes before the first.
@@ -109,6 +146,17 @@ impl TermCursor {
             → self.old.fault ≡ None → IsErrOf result EntriesFault.Damaged
             → IsBroken (bytes_at (S.content source.old) self.old.place) self.old }
         ensures end { IfOk result (λ more. IsTrue more ↔ (0 < words_left self.old)) }
+        ensures goes { IfOk result (GoesOn self.old self.new) }
+        ensures some { self.old.fault ≡ None → IfErr result (λ _. 0 < words_left self.old) }
+        // Memory is refused only where there is no room for the word.
+        ensures full { S.honest
+            → HoldsOf (bytes_at (S.content source.old) self.old.place) self.old
+            → self.old.fault ≡ None → IsErrOf result EntriesFault.Memory → (n : ℕ)
+            → HasRoom n self.old → length self.old.word.items ≤ n → (t : List ℕ × Entry × ℕ)
+            → word_after (bytes_at (S.content source.old) self.old.place) self.old ≡ Ok t
+            → n < length t.0 }
+        ensures room { vec_capacity self.old.word ≤ vec_capacity self.new.word }
+        ensures rooms { (n : ℕ) → HasRoom n self.old → HasRoom n self.new }
 
         ensures fewer { IfOk result (λ more. IsTrue more
             → words_left self.new < words_left self.old) }
@@ -255,6 +303,14 @@ impl TermCursor {
             → HoldsOf (bytes_at (S.content source.old) self.old.place) self.old
             → IsErrOf result EntriesFault.Damaged
             → IsBroken (bytes_at (S.content source.old) self.old.place) self.old }
+        ensures full { S.honest
+            → HoldsOf (bytes_at (S.content source.old) self.old.place) self.old
+            → IsErrOf result EntriesFault.Memory → (n : ℕ)
+            → HasRoom n self.old → length self.old.word.items ≤ n → (t : List ℕ × Entry × ℕ)
+            → word_after (bytes_at (S.content source.old) self.old.place) self.old ≡ Ok t
+            → n < length t.0 }
+        ensures room { vec_capacity self.old.word ≤ vec_capacity self.new.word }
+        ensures rooms { (n : ℕ) → HasRoom n self.old → HasRoom n self.new }
         ensures place { self.new.place ≡ self.old.place }
         ensures ahead { ReadsAhead self.old.held.most self.new }
         ensures fault { self.new.fault ≡ self.old.fault }

@@ -1,5 +1,5 @@
 -- Where a walk through the words of inputs has come.
-use Rattle.std.proofs.Common.{◌≡◌, ◌∙◌, ◌+◌, ◌<◌, ◌≤◌, ◌++◌, ℕ, zero, suc, List, [], ◌∷◌, Some, length, refl, sym, ap, subst, arith}
+use Rattle.std.proofs.Common.{◌≡◌, ◌∙◌, ◌+◌, ◌≤◌, ◌++◌, ℕ, zero, suc, List, [], ◌∷◌, Some, refl, sym, ap, subst, arith}
 use Rattle.std.specs.Prelude.{All, slice_get}
 use Rattle.std.proofs.lemmas.List.Elements.{All-cons, All-head, All-tail}
 use Rattle.pk_disk.specs.Units.{start_of}
@@ -10,11 +10,11 @@ use Rattle.pk_join.specs.declared.input.MergeInput.{MergeInput}
 use Rattle.pk_join.specs.declared.walk.Walk.{Walk}
 use Rattle.pk_join.specs.Inputs.{HasSameBytes, LiesInside, SpellsInputs}
 use Rattle.pk_join.specs.Walk.{GoesTo, HasCome, IsAtStart, IsSameWalk, WalksWithin, walk_lists, walk_numbers, walk_room, walk_word}
-use Rattle.pk_join.specs.WalkInput.{HaveExtentsOf, Holds, IsWithin, bytes_or_none, extents_of, heads_of, lists_of, passed_of}
-use Rattle.pk_join.specs.Walking.{AreListed, CanHold, HasPassedAt, Walks, passed_at}
+use Rattle.pk_join.specs.WalkInput.{HaveExtentsOf, Holds, IsWithin, extents_of, lists_of, passed_of, word_in, words_of}
+use Rattle.pk_join.specs.Walking.{AreListed, CanHold, HasPassedAt, Walks}
 use Rattle.pk_join.specs.declared.walk_input.Input.{Input}
 use Rattle.pk_segment.specs.Indexed.{list_with}
-use Rattle.pk_join.proofs.AheadLemmas.{heads_zero, hold_same, hold_start}
+use Rattle.pk_join.proofs.AheadLemmas.{hold_same, hold_start, passed_zero}
 use Rattle.pk_join.proofs.StandLemmas.{all_stay}
 use Rattle.pk_join.proofs.TermWalkLemmas.{walks_start}
 use Rattle.pk_segment.specs.Spelling.{SegmentSpells}
@@ -30,8 +30,7 @@ come_start bytes inputs stored walk extents spells listed can start = record {
   spells = spells;
   listed = listed;
   can = can;
-  walks = walks_start (walk_lists walk) (heads_of walk.inputs.items) stored
-      (heads_zero walk.inputs.items start);
+  walks = walks_start (passed_of walk.inputs.items) stored (passed_zero walk.inputs.items start);
   hold = hold_start bytes walk.inputs.items start;
 }
 
@@ -99,24 +98,23 @@ within_same size old new same =
 
 -- ---- the walk has gone to a word
 
-word_is : (is : List Input) (i : ℕ) (w : List ℕ) → i < length (lists_of is)
-    → passed_at (lists_of is) (heads_of is) i ≡ Some w → passed_of (slice_get is i) ≡ w
-word_is [] i w lt there = absurd (omega arith)
-word_is (x ∷ is) zero w lt there = ap bytes_or_none there
-word_is (x ∷ is) (suc i) w lt there = word_is is i w (omega arith) there
+word_is : (is : List Input) (i : ℕ) (w : List ℕ) → slice_get (words_of is) i ≡ Some w → word_in (slice_get is i) ≡ w
+word_is [] i w there = absurd (cc)
+word_is (x ∷ is) zero w there = cc
+word_is (x ∷ is) (suc i) w there = word_is is i w there
 
 pub gone : (bytes : List ℕ) (inputs : List MergeInput) (stored : List Stored) (walk : Walk) (js : List Input)
     (xs ys : List (List ℕ)) → walk.inputs.items ≡ js → HaveExtentsOf inputs js
     → SpellsInputs bytes inputs stored
     → AreListed inputs (lists_of js) stored → CanHold stored (walk_room walk) → All (Holds bytes) js
-    → HasPassedAt (lists_of js) (heads_of js) stored xs ys (walk_numbers walk) walk.at
+    → HasPassedAt (words_of js) (passed_of js) stored xs ys (walk_numbers walk) walk.at
     → GoesTo bytes inputs stored walk xs ys
 gone bytes inputs stored walk js xs ys same extents spells listed can hold passed =
     let is = passed.passed in
-    let e : walk_word walk ≡ passed.word = ap (λ (l : List Input). passed_of (slice_get l walk.at)) same
-    ∙ word_is js walk.at passed.word passed.within passed.there in
+    let e : walk_word walk ≡ passed.word = ap (λ (l : List Input). word_in (slice_get l walk.at)) same
+    ∙ word_is js walk.at passed.word passed.there in
     let walks =
-    subst (λ (l : List Input). Walks (lists_of l) (heads_of l) stored (xs ++ passed.word ∷ []) is.rest)
+    subst (λ (l : List Input). Walks (passed_of l) stored (xs ++ passed.word ∷ []) is.rest)
     (sym same) is.walks in
     record {
       rest = is.rest;
@@ -128,7 +126,7 @@ gone bytes inputs stored walk js xs ys same extents spells listed can hold passe
         listed = subst (λ (l : List Input). AreListed inputs (lists_of l) stored) (sym same) listed;
         can = can;
         walks =
-            subst (λ (u : List ℕ). Walks (walk_lists walk) (heads_of walk.inputs.items) stored (xs ++ u ∷ [])
+            subst (λ (u : List ℕ). Walks (passed_of walk.inputs.items) stored (xs ++ u ∷ [])
             is.rest) (sym e) walks;
         hold = subst (All (Holds bytes)) (sym same) hold;
       };

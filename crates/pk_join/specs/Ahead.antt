@@ -10,4 +10,4 @@ share_ahead inputs = min 32768 (67108864 / max 1 inputs)
 -- the same of this input: none where its lists are in memory
 abbrev pub bytes_ahead : ℕ → InputLists → ℕ
 bytes_ahead inputs (Stored words postings marks) = share_ahead inputs
-bytes_ahead inputs (Indexed t marks) = 0
+bytes_ahead inputs (Indexed words marks) = 0

@@ -13,40 +13,42 @@
 //! | item | what it is |
 //! |---|---|
 //! | `MergeInput` | a segment on the disk: its extent, its kind, and its deletion list |
-//! | `InputLists` | the words of an input, with their lists |
+//! | `InputLists` | a cursor over the words of an input, with their lists |
 //! | `read_lists` | those of a segment of either kind |
 //! | `Input` | an input of a walk: its words with their lists, and how far the walk has come |
 //! | `Walk` | goes through the words that the inputs leave, each with its numbers |
 //!
-//! Of an input of kind 2 the terms are in memory, end to end, and 6 bytes and a sixteenth for each:
-//! 2 and a sixteenth for where it ends, and 4 for where its list does, which begins where the one
-//! before it ends. Where 64 terms have 64 KiB or more, or the lists lie otherwise, it is up to 16.
-//! A list is read when its word comes, and with it what stands behind: a `Walk` holds 32,768 bytes
-//! of each input of kind 2, and lends lists of them as long as they last, since they lie in the
-//! order of their words. A longer list is read beside, block by block. Of an input of kind 1 there
-//! is an index of the texts, in memory. Of the lists that are joined one word's is in memory at a
-//! time. After `read_lists`, `Input::new` and `Walk::new` no call takes memory.
+//! Of an input of kind 2 a cursor goes through the dictionary: one word of it is in memory, and
+//! 4,096 bytes that were read at once. So the memory of a walk goes by its inputs, not by their
+//! words. A word's place stays where it was passed, and the next one is read when the walk goes on:
+//! so the word where it has gone is still there. A list is read when its word comes, and with it
+//! what stands behind: a `Walk` holds 32,768 bytes of each input of kind 2, and lends lists of them
+//! as long as they last, since they lie in the order of their words. A longer list is read beside,
+//! block by block. Of an input of kind 1 there is an index of the texts, in memory. Of the lists
+//! that are joined one word's is in memory at a time. After `read_lists`, `Input::new` and
+//! `Walk::new` a step takes memory only for a word that is longer than those before it; and a walk
+//! that has passed all and begins anew takes room for the longest of each input, so then none.
 //!
 //! # What is refused
 //!
 //! `Damaged` is a segment that is none, or numbers that don't rise, or are more than there is room
-//! for; `Disk` is answered exactly where a read failed, and then nothing of that input is held; and
-//! `Memory` where memory was refused, by `read_lists`, `Input::new` and `Walk::new` alone. The disk
-//! is only read. Whatever the bytes are, the words of an input of kind 2 are all that its
+//! for; `Disk` is answered exactly where a read failed, and then nothing of that input's lists is
+//! held; and `Memory` where memory was refused. The disk is only read, and after a refusal a walk is
+//! of no more use. Whatever the bytes are, the words of an input of kind 2 are all that its
 //! dictionary says, and no word is passed whose list is none, or goes past the segment.
 //!
 //! Where the words are: `specs/Ahead` says how much is read ahead, `specs/Inputs` has what inputs
-//! spell, `specs/Words` how words lie end to end, `specs/Ends` where they end and `specs/Places`
-//! where their lists lie, `specs/Listed` what the words and lists of an input are, `specs/Said`
-//! what any bytes say they are, `specs/Marks` what the marks of deleted numbers say,
-//! `specs/Joining` what is joined, `specs/Keys` the keys of words, `specs/Walking` the words side
-//! by side, `specs/Noted` which inputs have the least of them, `specs/WalkInput` the inputs of a
-//! walk, `specs/Walk` where it has come, `specs/Whole`
-//! that it passes whole lists, and `specs/WholeLists` that all of a segment are. Lemma pages: `TermWalkLemmas` on the walk, whose words are
-//! the terms of the documents that are left; `JoinLemmas` on one word's list.
+//! spell, `specs/Listed` what the words and lists of an input are, `specs/Reading` what was read of
+//! them, `specs/Rooms` that there is room for each, `specs/Counted` how many were passed, `specs/Said` where any bytes say they lie,
+//! `specs/Marks` what the marks of deleted numbers say, `specs/Joining` what is joined, `specs/Keys`
+//! the keys of words, `specs/Noted` which inputs have the least of the words at their heads,
+//! `specs/Walking` the words side by side, `specs/WalkInput` the inputs of a walk, `specs/Walk`
+//! where it has come, `specs/Whole` that it passes whole lists, and `specs/WholeLists` that all of
+//! a segment are. Lemma pages: `TermWalkLemmas` on the walk, whose words are the terms of the
+//! documents that are left; `ShowLemmas` on what cursors show of them; `RoomLemmas` on their memory;
+//! `JoinLemmas` on one word's list.
 #![tactic(auto)]
 
-mod ends;
 mod input;
 mod joined;
 mod joining;
@@ -54,14 +56,14 @@ mod keys;
 mod lent;
 mod lists;
 mod marks;
-mod places;
 mod reading;
 mod rooms;
+mod terms;
+mod text_cursor;
 mod text_lists;
 mod walk;
 mod walk_input;
 mod walking;
-mod words;
 
 pub use input::MergeInput;
 pub use lists::InputLists;

@@ -10,6 +10,7 @@ use Rattle.pk_merge.specs.Merging.{CountsMerge}
 use Rattle.pk_disk.specs.declared.units.Extent.{Extent}
 use Rattle.pk_join.specs.declared.input.MergeInput.{MergeInput}
 use Rattle.pk_join.specs.declared.lists.InputLists.{InputLists}
+use Rattle.pk_join.specs.Listed.{source_of}
 use Rattle.pk_join.specs.declared.walk_input.Input.{Input}
 use Rattle.pk_join.specs.WalkInput.{HaveExtentsOf, extents_of, lists_of}
 use Rattle.pk_join.proofs.WalkLemmas.{inputs_more}
@@ -54,9 +55,9 @@ counts_ok same = record {
 -- ---- one input more
 
 pub pushed_lists : (is js : List Input) (y : Input) (l : InputLists) → js ≡ is ++ y ∷ [] → y.lists ≡ l
-    → lists_of js ≡ lists_of is ++ l ∷ []
-pushed_lists is js y l more same = ap lists_of more ∙ map-append (λ (i : Input). i.lists) is (y ∷ [])
-    ∙ ap (λ (m : InputLists). lists_of is ++ m ∷ []) same
+    → lists_of js ≡ lists_of is ++ source_of l ∷ []
+pushed_lists is js y l more same = ap lists_of more ∙ map-append (λ (i : Input). source_of i.lists) is (y ∷ [])
+    ∙ ap (λ (m : InputLists). lists_of is ++ source_of m ∷ []) same
 
 pub pushed_extents : (given : List MergeInput) (i : ℕ) (x : MergeInput) (is js : List Input) (y : Input)
     → i < length given → x ≡ get_or given i x → js ≡ is ++ y ∷ [] → y.extent ≡ x.extent

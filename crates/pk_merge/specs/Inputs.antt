@@ -1,7 +1,7 @@
 -- What a merge has read of its inputs.
 use Rattle.std.specs.Prelude.{ℕ, List, ◌++◌, Result, Ok, Err}
 use Rattle.pk_join.specs.declared.lists.InputLists.{InputLists}
-use Rattle.pk_join.specs.Listed.{AreListsOf}
+use Rattle.pk_join.specs.Listed.{AreListsOf, source_of}
 use Rattle.pk_merge.specs.declared.fault.MergeFault.{MergeFault}
 use Rattle.pk_merge.specs.declared.left.Left.{Left}
 use Rattle.pk_merge.specs.Gathering.{RiseFrom, left_by}
@@ -14,7 +14,7 @@ use Rattle.pk_model.specs.Collection.{Doc}
 -- behind those so far.
 pub record HasRead (kind : ℕ) (bytes : List ℕ) (so_far docs : List Doc) (dead : List ℕ)
     (more : List Doc) (new : Left) (lists : InputLists) : Type 0 where
-  pub listed : AreListsOf lists kind docs dead
+  pub listed : AreListsOf (source_of lists) kind docs dead
   pub kept : AreKept bytes (kept_in new) (so_far ++ left_by dead docs)
   pub rise : RiseFrom new.last more
 

@@ -2,8 +2,10 @@
 use Rattle.std.specs.Prelude.{◌≡◌, ◌≤◌, ℕ, List, length, All}
 use Rattle.pk_join.specs.declared.input.MergeInput.{MergeInput}
 use Rattle.pk_join.specs.declared.walk.Walk.{Walk}
+use Rattle.pk_join.specs.Inputs.{SpellsInputs}
+use Rattle.pk_join.specs.Rooms.{WalkIsRoomy}
 use Rattle.pk_join.specs.Walk.{IsAtStart, WalksWithin, walk_lists, walk_room}
-use Rattle.pk_join.specs.WalkInput.{HaveExtentsOf}
+use Rattle.pk_join.specs.WalkInput.{HaveExtentsOf, Holds}
 use Rattle.pk_join.specs.Walking.{AreListed, CanHold}
 use Rattle.pk_merge.specs.declared.lists.Lists.{Lists}
 use Rattle.pk_merge.specs.declared.lists.Lists.TheVariants.{Packed, Walked}
@@ -23,6 +25,17 @@ pub record JoinsLists (inputs : List MergeInput) (stored : List Stored) (walk : 
   -- and no more than the longest list needs
   pub no_more : (n : ℕ) → All (λ w. length (list_spelling (list_with w (live_in stored))) ≤ n)
       (terms_of (live_in stored)) → room ≤ n
+  -- there is room for each word, so it takes no memory
+  pub roomy : (bytes : List ℕ) → SpellsInputs bytes inputs stored → WalkIsRoomy bytes walk
+
+-- A walk has passed all words of these inputs, on a disk of these bytes.
+pub record HasGone (bytes : List ℕ) (inputs : List MergeInput) (stored : List Stored) (walk : Walk)
+    : Type 0 where
+  pub extents : HaveExtentsOf inputs walk.inputs.items
+  pub spells : SpellsInputs bytes inputs stored
+  pub listed : AreListed inputs (walk_lists walk) stored
+  pub can : CanHold stored (walk_room walk)
+  pub hold : All (Holds bytes) walk.inputs.items
 
 -- they are the posting lists of what these inputs leave
 abbrev pub GiveLists : List MergeInput → List Stored → Lists → Type 0

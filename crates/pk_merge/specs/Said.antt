@@ -2,14 +2,14 @@
 use Rattle.std.specs.Prelude.{◌≡◌, ℕ, List, [], ◌∷◌, All, Option, Some, None, Result, Ok, Err}
 use Rattle.pk_disk.specs.Units.{extent_bytes}
 use Rattle.pk_join.specs.declared.input.MergeInput.{MergeInput}
-use Rattle.pk_join.specs.declared.lists.InputLists.{InputLists}
+use Rattle.pk_join.specs.Listed.{ListSource}
 use Rattle.pk_join.specs.Said.{AreSaidIn}
 use Rattle.pk_join.specs.WholeLists.{ListsAreWhole}
 use Rattle.pk_merge.specs.declared.fault.MergeFault.{MergeFault}
 use Rattle.pk_merge.specs.declared.prepared.Prepared.{Prepared}
 
--- the words of each input, with their lists, are those that the bytes of its extent say
-abbrev pub AreAllSaid : List ℕ → List MergeInput → List InputLists → Type 0
+-- the words of each input, with their lists, lie where the bytes of its extent say
+abbrev pub AreAllSaid : List ℕ → List MergeInput → List ListSource → Type 0
 AreAllSaid bytes [] [] = Unit {0}
 AreAllSaid bytes [] (l ∷ ls) = ⊥
 AreAllSaid bytes (i ∷ is) [] = ⊥

@@ -20,13 +20,14 @@
 //!
 //! # A merge that is written as it is read
 //!
-//! `prepare` reads the directories and the dictionaries (of inputs of kind 1 the texts), and goes
-//! through the words of all inputs side by side (pk_join): the least at their heads is next.
+//! `prepare` reads the directories (of inputs of kind 1 the texts), and goes through the words of
+//! all inputs side by side (pk_join), by a cursor over each dictionary: the least at their heads is
+//! next.
 //! Its list is joined from those of the inputs without the dead numbers, and packed. So the exact
 //! length is known, and all memory taken, before the first write.
 //!
 //! The packed lists are kept as long as all of them have at most 67,108,864 bytes: then one walk is
-//! enough, and the tables of words are let go before anything is written. Once they have more, or
+//! enough, and it is let go before anything is written. Once they have more, or
 //! where memory for them is refused, they are let go, and only their lengths are kept.
 //!
 //! `merge_into` then writes header and directory, the texts, the posting lists and the dictionary:
@@ -44,10 +45,9 @@
 //! | what | how much |
 //! |---|---|
 //! | each document left | 16 bytes for its place, 12 in the directory, 4 in the list of one word |
-//! | each term of an input of kind 2 | 6 bytes and the word, up to 16 where pk_join says so |
-//! | each term of the input that is read | some 40 bytes and the word once more |
 //! | an input of kind 1 | the index of its texts, and its words |
-//! | an input of kind 2 | 32,768 bytes to read ahead, past 2,048 inputs its share of 64 MiB |
+//! | an input of kind 2 | its longest word, twice, and 4,096 bytes of its dictionary |
+//! | of its lists | 32,768 bytes to read ahead, past 2,048 inputs its share of 64 MiB |
 //! | each deleted number | 4 bytes, and one for each number up to the next one, at most 64 |
 //! | the dictionary | its bytes |
 //! | the posting lists, up to 67,108,864 bytes of them | their bytes, and up to as many to grow |
@@ -56,7 +56,7 @@
 //! | what is to be written | 65,536 bytes |
 //!
 //! It keeps no texts (of an input of kind 1 one at a time), and of inputs of kind 2 no lists but
-//! the one that is joined. What it takes for terms, inputs and deleted numbers it lets go where the
+//! the one that is joined. What it takes for inputs and deleted numbers it lets go where the
 //! new lists are kept.
 //!
 //! # What is refused

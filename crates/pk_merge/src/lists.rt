@@ -1,12 +1,11 @@
 //! The posting lists of a merge that is prepared.
 
-ghost use Rattle.std.specs.Prelude.{◌≡◌, ◌≤◌, ◌+◌, List, length, All, IfOk};
+ghost use Rattle.std.specs.Prelude.{◌≡◌, ◌≤◌, ◌+◌, ℕ, List, length, All, IfOk};
 ghost use Rattle.pk_join.specs.Inputs.{SpellsInputs};
-ghost use Rattle.pk_join.specs.Walk.{walk_lists, walk_room};
+ghost use Rattle.pk_join.specs.Walk.{words_to_come};
 ghost use Rattle.pk_join.specs.WalkInput.{HaveExtentsOf};
-ghost use Rattle.pk_join.specs.Walking.{AreListed, CanHold};
 ghost use Rattle.pk_join.specs.declared.input.MergeInput.{MergeInput};
-ghost use Rattle.pk_merge.specs.Lists.{AreOfInputs, AreWithin, GiveLists};
+ghost use Rattle.pk_merge.specs.Lists.{AreOfInputs, AreWithin, GiveLists, HasGone};
 ghost use Rattle.pk_merge.specs.Output.{AreGiven, IsGiven, LiesApart};
 ghost use Rattle.pk_model.specs.Terms.{terms_of};
 ghost use Rattle.pk_segment.specs.Indexed.{postings};
@@ -41,9 +40,10 @@ pub(crate) fn lists_for(
     mut walk: Walk,
     index: &mut IndexWriter,
 ) -> Result<Lists, AllocError>
-    requires { index.old.most_kept ≡ MOST_KEPT_LISTS }
-    ensures lists { (inputs : List MergeInput) (stored : List Stored)
-        → AreListed inputs (walk_lists walk) stored → CanHold stored (walk_room walk)
+    requires most_kept { index.old.most_kept ≡ MOST_KEPT_LISTS }
+    requires ended { words_to_come walk ≡ 0 }
+    ensures lists { (bytes : List ℕ) (inputs : List MergeInput) (stored : List Stored)
+        → HasGone bytes inputs stored walk
         → HasWords index.old (terms_of (live_in stored)) (live_in stored)
         → IfOk result (GiveLists inputs stored) }
     ensures inputs { (inputs : List MergeInput) → HaveExtentsOf inputs walk.inputs.items
@@ -54,7 +54,7 @@ pub(crate) fn lists_for(
     if let Some(bytes) = index.take_lists() {
         return Ok(Lists::Packed(bytes));
     }
-    walk.restart();
+    walk.restart()?;
     let encoded = vec![in alloc; 0u8; longest as usize]?;
     Ok(Lists::Walked { walk, encoded })
 }

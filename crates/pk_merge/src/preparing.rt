@@ -3,14 +3,14 @@
 ghost use Rattle.std.specs.Prelude.{◌≡◌, ◌⊎◌, ◌<◌, ℕ, List, length, All, IfErr, IfOk, OnOk};
 ghost use Rattle.std.specs.List.Sorted.{IsStrictlyIncreasing};
 ghost use Rattle.pk_join.specs.Inputs.{HasKind, LiesInside, SpellsInputs};
-ghost use Rattle.pk_join.specs.Walk.{walk_lists, walk_room};
+ghost use Rattle.pk_join.specs.Walk.{words_to_come};
 ghost use Rattle.pk_join.specs.WalkInput.{HaveExtentsOf, IsBefore, IsWithin, lists_of};
-ghost use Rattle.pk_join.specs.Walking.{AreListed, CanHold};
+ghost use Rattle.pk_join.specs.Walking.{AreListed};
 ghost use Rattle.pk_join.specs.Whole.{AllAreWhole};
 ghost use Rattle.pk_merge.specs.Counting.{LeavesEnough};
 ghost use Rattle.pk_merge.specs.Keeping.{AreKept};
 ghost use Rattle.pk_merge.specs.Left.{kept_in};
-ghost use Rattle.pk_merge.specs.Lists.{AreOfInputs};
+ghost use Rattle.pk_merge.specs.Lists.{AreOfInputs, HasGone};
 ghost use Rattle.pk_merge.specs.Merging.{CountsMerge};
 ghost use Rattle.pk_merge.specs.Prepared.{IsReady, PreparesAs, PreparesOneAs};
 ghost use Rattle.pk_merge.specs.Said.{NameWhole};
@@ -44,10 +44,10 @@ fn prepare_of(
 ) -> Result<Prepared, MergeFault>
     requires entries { HasEntries index }
     requires most_kept { index.most_kept ≡ MOST_KEPT_LISTS }
+    requires ended { words_to_come walk ≡ 0 }
     ensures prepared { (bytes : List ℕ) (inputs : List MergeInput) (stored : List Stored)
-        → AreListed inputs (walk_lists walk) stored
+        → HasGone bytes inputs stored walk
         → AreKept bytes (kept_in left) (live_in stored)
-        → CanHold stored (walk_room walk)
         → HasWords index (terms_of (live_in stored)) (live_in stored)
         → PreparesOneAs bytes inputs stored result }
     ensures documents { IfOk result (λ p. p.documents.items ≡ kept_in left) }

@@ -17,6 +17,7 @@ ghost use Rattle.std.specs.Prelude.{
 ghost use Rattle.std.specs.List.Sorted.{IsStrictlyIncreasing};
 ghost use Rattle.pk_disk.specs.Units.{extent_bytes, start_of};
 ghost use Rattle.pk_join.specs.Inputs.{HasKind, LiesInside, SpellsInputs};
+ghost use Rattle.pk_join.specs.Listed.{AreFresh, LieIn, source_of};
 ghost use Rattle.pk_join.specs.Said.{AreSaidIn};
 ghost use Rattle.pk_join.specs.WalkInput.{HaveExtentsOf, IsBefore, lists_of};
 ghost use Rattle.pk_merge.specs.Counting.{count_said, counts_said, numbers_listed};
@@ -62,7 +63,10 @@ fn read_from<S: ByteSource>(
     ensures enough { S.honest → OnOk result
         (count_said (S.content source.old) + length (kept_in left.old)
         ≤ length (kept_in left.new) + length input.now.dead.now) }
-    ensures said { S.honest → IfOk result (AreSaidIn (S.content source.old) input.now.kind) }
+    ensures said { S.honest → IfOk result
+        (λ lists. AreSaidIn (S.content source.old) input.now.kind (source_of lists)) }
+    ensures lies { IfOk result (λ lists. LieIn (length (S.content source.old)) (source_of lists)) }
+    ensures fresh { IfOk result AreFresh }
     ensures disk_bytes { left.new.disk_bytes ≡ left.old.disk_bytes }
     ensures left { ReadsSource S.ByteSource CountsMerge result source.old source.new }
 {
@@ -106,8 +110,10 @@ pub(crate) fn read_input<D: Disk>(
     ensures enough { D.honest → OnOk result
         (count_said (extent_bytes (D.content disk.old) input.now.extent)
         + length (kept_in left.old) ≤ length (kept_in left.new) + length input.now.dead.now) }
-    ensures said { D.honest → IfOk result
-        (AreSaidIn (extent_bytes (D.content disk.old) input.now.extent) input.now.kind) }
+    ensures said { D.honest → IfOk result (λ lists. AreSaidIn
+        (extent_bytes (D.content disk.old) input.now.extent) input.now.kind (source_of lists)) }
+    ensures lies { IfOk result (λ lists. LieIn input.now.extent.bytes (source_of lists)) }
+    ensures fresh { IfOk result AreFresh }
     ensures disk_bytes { left.new.disk_bytes ≡ left.old.disk_bytes }
     ensures left { ReadsDisk D.Disk CountsMerge result disk.old disk.new }
 {

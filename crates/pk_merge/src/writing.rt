@@ -17,6 +17,8 @@ ghost use Rattle.std.specs.Prelude.{
   false,
 };
 ghost use Rattle.pk_disk.specs.Frames.{KeepsDisk};
+ghost use Rattle.pk_join.specs.Inputs.{SpellsInputs};
+ghost use Rattle.pk_join.specs.Rooms.{WalkIsRoomy};
 ghost use Rattle.pk_join.specs.Walk.{GoesAs, HasCome, IsSameWalk, WalksWithin, words_to_come};
 ghost use Rattle.pk_join.specs.Whole.{WalksWhole};
 ghost use Rattle.pk_join.specs.declared.input.MergeInput.{MergeInput};
@@ -32,28 +34,33 @@ ghost use Rattle.pk_state.specs.Committed.{Stored, live_in};
 use crate::output::Output;
 use pk_disk::Disk;
 use pk_join::Walk;
-use pk_posting::{SourceFault, encode_into, length_of};
+use pk_posting::{encode_into, length_of};
 use pk_replace::StreamFault;
+use pk_segment::ReadFault;
 
 // Goes on to the next word; whether there was one.
 fn go_on<D: Disk>(disk: &mut D, walk: &mut Walk) -> Result<bool, StreamFault>
     requires { WalksWithin (length (D.content disk.old)) walk.old }
     ensures goes { D.honest → (inputs : List MergeInput) (stored : List Stored)
         (xs ys : List (List ℕ)) → HasCome (D.content disk.old) inputs stored walk.old xs ys
+        → WalkIsRoomy (D.content disk.old) walk.old
         → MatchResult result (GoesAs (D.content disk.new) inputs stored walk.new xs ys)
         (λ e. e ≡ StreamFault.Read) }
     ensures fewer { IfOk result (λ more. IsTrue more
         → words_to_come walk.new < words_to_come walk.old) }
     ensures ended { IfOk result (λ more. more ≡ false → words_to_come walk.new ≡ 0) }
     ensures whole { OnOk result (WalksWhole D.honest (D.content disk.old) walk.old walk.new) }
+    ensures rooms { (bytes : List ℕ) → WalkIsRoomy bytes walk.old
+        → OnOk result (WalkIsRoomy bytes walk.new) }
     ensures same { IsSameWalk walk.old walk.new }
     ensures keeps { KeepsDisk D.Disk disk.old disk.new }
     ensures cause { IsCause D.Disk disk.old disk.new result }
 {
     match walk.next(disk) {
         Ok(more) => Ok(more),
-        Err(SourceFault::Disk) => Err(StreamFault::Read),
-        Err(SourceFault::Damaged) => Err(StreamFault::Damaged),
+        Err(ReadFault::Disk) => Err(StreamFault::Read),
+        // There is room for each word that the walk before passed.
+        Err(ReadFault::Damaged | ReadFault::Memory) => Err(StreamFault::Damaged),
     }
 }
 
@@ -100,6 +107,7 @@ pub(crate) fn write_lists<D: Disk>(
         (D.content disk.old) walk.old walk.new) }
     ensures bytes { D.honest → (inputs : List MergeInput) (stored : List Stored)
         → HasCome (D.content disk.old) inputs stored walk.old [] (terms_of (live_in stored))
+        → ((b : List ℕ) → SpellsInputs b inputs stored → WalkIsRoomy b walk.old)
         → All (LiesApart output.old.start output.old.end) inputs
         → All (λ w. length (list_spelling (list_with w (live_in stored))) ≤ length encoded.old)
         (terms_of (live_in stored))

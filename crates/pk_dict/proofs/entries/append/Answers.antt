@@ -22,6 +22,8 @@ loop-done-preserved g c =
       kept = g.met.S.ByteSource.keeps_then _ _ _ c.loop-done.invariant.kept left.kept;
       failures = left.faults.ok ∙ c.loop-done.invariant.failures;
       below = omega arith;
+      long = omega (arith, c.in_ok-append_stretch.ensures.long, c.loop-done.invariant.long);
+      room = omega (arith, c.in_ok-append_stretch.ensures.room, c.loop-done.invariant.room);
       value = λ h. joined c.loop-done.out.items _ c.args.out.now.items _ c.args.at c.loop-done.done c.min-size.result (c.loop-done.invariant.value h)
           (c.in_ok-append_stretch.ensures.value h ∙ ap (λ (l : List ℕ). c.loop-done.out.items ++ take c.min-size.result (drop (c.args.at + c.loop-done.done) (bytes_at l c.args.place))) (c.loop-done.invariant.same h));
     }

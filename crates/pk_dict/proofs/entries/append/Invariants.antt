@@ -1,5 +1,6 @@
 -- The first bytes stand at the end; a piece asks once.
 use Rattle.std.proofs.Common.{◌-◌, ◌+◌, ◌≡◌, ◌≤◌, ◌++◌, length, take, drop}
+use Rattle.std.specs.Prelude.{vec_capacity}
 use Rattle.pk_posting.specs.Limits.{asks_for}
 use Rattle.pk_dict.specs.Place.{bytes_at}
 use Rattle.pk_dict.proofs.entries.append.Given as goal
@@ -12,6 +13,8 @@ invariant-loop-done g l = record {
   kept : g.S.ByteSource.keeps l.fn.source l.source;
   failures : g.S.ByteSource.failures l.source ≡ g.S.ByteSource.failures l.fn.source;
   below : l.done ≤ l.n;
+  long : length l.out.items ≡ length l.fn.out.items + l.done;
+  room : vec_capacity l.fn.out ≤ vec_capacity l.out;
   value : g.S.ByteSource.honest → l.out.items ≡ l.fn.out.items ++ take l.done (drop l.at (bytes_at (g.S.ByteSource.content l.fn.source) l.place));
 }
 

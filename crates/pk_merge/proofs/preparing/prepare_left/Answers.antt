@@ -3,12 +3,12 @@ use Rattle.std.proofs.Common.{◌≡◌, ◌∙◌, List, ℕ, [], length, sym, 
 use Rattle.std.specs.Prelude.{All}
 use Rattle.std.specs.Global.{Vec}
 use Rattle.pk_join.specs.declared.input.MergeInput.{MergeInput}
-use Rattle.pk_join.specs.declared.lists.InputLists.{InputLists}
+use Rattle.pk_join.specs.Listed.{ListSource}
 use Rattle.pk_join.specs.declared.walk.Walk.{Walk}
 use Rattle.pk_join.specs.declared.walk_input.Input.{Input}
 use Rattle.pk_join.specs.Inputs.{SpellsInputs}
-use Rattle.pk_join.specs.WalkInput.{HaveExtentsOf, IsBefore, IsWithin, extents_of, lists_of}
-use Rattle.pk_join.specs.Walk.{HasCome, walk_room}
+use Rattle.pk_join.specs.WalkInput.{HaveExtentsOf, Holds, IsBefore, IsWithin, extents_of, lists_of}
+use Rattle.pk_join.specs.Walk.{HasCome, IsSameWalk, walk_room}
 use Rattle.pk_join.specs.Walking.{AreListed, CanHold}
 use Rattle.pk_join.specs.Whole.{PassWhole}
 use Rattle.pk_join.proofs.ComeLemmas.{come_start}
@@ -17,6 +17,7 @@ use Rattle.pk_segment.specs.Spelling.{AreDocuments}
 use Rattle.pk_state.specs.Committed.{Stored, live_in}
 use Rattle.pk_merge.specs.declared.left.Left.{Left}
 use Rattle.pk_merge.specs.Keeping.{AreKept}
+use Rattle.pk_merge.specs.Lists.{HasGone}
 use Rattle.pk_merge.specs.Left.{kept_in}
 use Rattle.pk_merge.specs.Prepared.{PreparesOneAs}
 use Rattle.pk_merge.proofs.FaultLemmas.{passed_on}
@@ -41,6 +42,18 @@ comes bytes inputs stored read left walk is room before spells extents listed ke
       few = omega (arith, kept_long bytes (kept_in left) (live_in stored) kept, room);
     })
     (subst (λ (v : Vec Input). All IsBefore v.items) (sym is) before)
+
+-- and one that went through them has passed all
+gone : (bytes : List ℕ) (inputs : List MergeInput) (stored : List Stored) (old new : Walk) → IsSameWalk old new
+    → HasCome bytes inputs stored old [] (terms_of (live_in stored)) → All (Holds bytes) new.inputs.items
+    → HasGone bytes inputs stored new
+gone bytes inputs stored old new same come hold = record {
+  extents = come.extents ∙ sym same.extents;
+  spells = come.spells;
+  listed = subst (λ (ls : List ListSource). AreListed inputs ls stored) (sym same.lists) come.listed;
+  can = subst (CanHold stored) (sym same.room) come.can;
+  hold = hold;
+}
 
 pub plan_words-requires : goal.plan_words-requires
 plan_words-requires g c =
@@ -67,8 +80,7 @@ returns-in_err-prepared-clause-prepared g c = λ honest inputs stored spells ext
     c.requires.before spells extents listed kept are in
     let same = c.plan_words.ensures.same in
     let fault = c.in_err-prepared.ensures.prepared (g.D.Disk.content c.args.disk.now) inputs stored
-    (subst (λ (ls : List InputLists). AreListed inputs ls stored) (sym same.lists) come.listed) kept
-    (subst (CanHold stored) (sym same.room) come.can)
+    (gone _ inputs stored walk c.plan_words.new.walk same come (c.in_ok-index.ensures.whole.hold honest come.hold)) kept
     (c.in_ok-index.ensures.planned honest inputs stored come) in
     passed_on (PreparesOneAs (g.D.Disk.content c.args.disk.now) inputs stored)
     c.from_residual-in_err-prepared.result c.from_residual-in_err-prepared.ensures.1 fault
@@ -82,8 +94,7 @@ returns-clause-prepared g c = λ honest inputs stored spells extents listed kept
     c.requires.before spells extents listed kept are in
     let same = c.plan_words.ensures.same in
     c.in_ok-prepared.ensures.prepared (g.D.Disk.content c.args.disk.now) inputs stored
-    (subst (λ (ls : List InputLists). AreListed inputs ls stored) (sym same.lists) come.listed) kept
-    (subst (CanHold stored) (sym same.room) come.can)
+    (gone _ inputs stored walk c.plan_words.new.walk same come (c.in_ok-index.ensures.whole.hold honest come.hold)) kept
     (c.in_ok-index.ensures.planned honest inputs stored come)
 
 pub returns-clause-inputs : goal.returns-clause-inputs

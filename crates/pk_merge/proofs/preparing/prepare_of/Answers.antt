@@ -30,7 +30,7 @@ invariant_of-result-clause-short c =
     )
 
 pub returns-clause-prepared : goal.returns-clause-prepared
-returns-clause-prepared c = λ bytes inputs stored listed kept can has.
+returns-clause-prepared c = λ bytes inputs stored gone kept has.
     let docs = live_in stored in
     let ks = kept_in c.args.left in
     let front = c.bytes.ensures.value ∙ kept_size bytes ks docs kept in
@@ -38,9 +38,9 @@ returns-clause-prepared c = λ bytes inputs stored listed kept can has.
     let headed = c.in_ok-header.ensures.header docs has count front in
     let size = header_size docs c.in_ok-header.header headed.0 in
     record {
-      are = can.are;
+      are = gone.can.are;
       kept = kept;
-      lists_are = c.in_ok-lists.ensures.lists inputs stored listed can has;
+      lists_are = c.in_ok-lists.ensures.lists bytes inputs stored gone has;
       dictionary_is = c.in_ok-dictionary.ensures docs
           (subst (λ (w : DictWriter). HasAdded w (items_of docs)) (sym c.lists_for.ensures.dictionary) has.added);
       front_is = c.in_ok-front.ensures.bytes
@@ -51,7 +51,7 @@ returns-clause-prepared c = λ bytes inputs stored listed kept can has.
     }
 
 pub returns-in_err-header-clause-prepared : goal.returns-in_err-header-clause-prepared
-returns-in_err-header-clause-prepared c = λ bytes inputs stored listed kept can has.
+returns-in_err-header-clause-prepared c = λ bytes inputs stored gone kept has.
     let docs = live_in stored in
     let ks = kept_in c.args.left in
     let front = c.bytes.ensures.value ∙ kept_size bytes ks docs kept in

@@ -5,10 +5,9 @@ use Rattle.std.proofs.lemmas.List.{take_all}
 use Rattle.std.proofs.lemmas.List.Elements.{All-nil, All-push}
 use Rattle.pk_disk.specs.Units.{extent_bytes}
 use Rattle.pk_join.specs.declared.input.MergeInput.{MergeInput}
-use Rattle.pk_join.specs.declared.lists.InputLists.{InputLists}
 use Rattle.pk_join.specs.declared.walk_input.Input.{Input}
 use Rattle.pk_join.specs.WalkInput.{HaveExtentsOf, IsBefore, extents_of, lists_of}
-use Rattle.pk_join.specs.Listed.{AreListsOf}
+use Rattle.pk_join.specs.Listed.{AreFresh, AreListsOf, ListSource, source_of}
 use Rattle.pk_join.specs.Said.{AreSaidIn}
 use Rattle.pk_join.specs.Walking.{AreListed, stored_at}
 use Rattle.pk_join.proofs.InputLemmas.{inputs_long, live_append, take_stored}
@@ -102,8 +101,8 @@ loop-input-preserved g c =
           let bytes = content c.args.disk.now in
           let before = take i c.args.inputs.now in
           let l = c.in_ok-lists.lists in
-          let more = said_snoc bytes before (lists_of c.loop-input.read.items) x l (inv.said honest)
-          (subst (λ (b : List ℕ). AreSaidIn (extent_bytes b x.extent) x.kind l)
+          let more = said_snoc bytes before (lists_of c.loop-input.read.items) x (source_of l) (inv.said honest)
+          (subst (λ (b : List ℕ). AreSaidIn (extent_bytes b x.extent) x.kind (source_of l))
           (inv.left.keeps.read honest).bytes (c.in_ok-lists.ensures.said honest)) in
           subst (λ (is : List MergeInput). AreAllSaid bytes is (lists_of c.push.new.self.items))
           (sym (inputs_more c.args.inputs.now i x c.loop-input-test.true c.input-item.is))
@@ -115,7 +114,11 @@ loop-input-preserved g c =
           inv.extents;
       before = subst (All IsBefore) (sym c.in-Ok.ensures.items)
           (All-push IsBefore c.loop-input.read.items y inv.before
-          (record { head = c.in_ok-before.ensures.start; ahead = c.in_ok-before.ensures.none }));
+          (record {
+            stands = c.in_ok-before.ensures.start;
+            lists = subst AreFresh (sym c.in_ok-before.ensures.lists) c.in_ok-lists.ensures.fresh;
+            ahead = c.in_ok-before.ensures.none;
+          }));
       read = λ honest stored spells rising.
           let s = stored_at stored i in
           let same = (inv.left.keeps.read honest).bytes in
@@ -129,18 +132,18 @@ loop-input-preserved g c =
           next.input.segment next.rise kept in
           let all = left_next live_in live_append stored i s [] before (left_by x.dead.now s.documents)
           (take_stored stored i next.within) (live_here x.dead.now s next.input.dead) refl in
-          let listed = subst (AreListsOf c.in_ok-lists.lists x.kind s.documents) next.input.dead has.listed in
+          let listed = subst (AreListsOf (source_of c.in_ok-lists.lists) x.kind s.documents) next.input.dead has.listed in
           let more = listed_snoc (take i c.args.inputs.now) (lists_of c.loop-input.read.items) (take i stored)
-          x c.in_ok-lists.lists s known.0 listed in
+          x (source_of c.in_ok-lists.lists) s known.0 listed in
           let pushed = pushed_lists c.loop-input.read.items c.push.new.self.items y c.in_ok-lists.lists
           c.in-Ok.ensures.items c.in_ok-before.ensures.lists in (
             subst (λ (is : List MergeInput). AreListed is (lists_of c.push.new.self.items)
                 (take (i + 1) stored)) (sym
                 (inputs_more c.args.inputs.now i x c.loop-input-test.true c.input-item.is))
-                (subst (λ (ls : List InputLists). AreListed (take i c.args.inputs.now ++ x ∷ []) ls
+                (subst (λ (ls : List ListSource). AreListed (take i c.args.inputs.now ++ x ∷ []) ls
                 (take (i + 1) stored)) (sym pushed)
                 (subst (AreListed (take i c.args.inputs.now ++ x ∷ [])
-                (lists_of c.loop-input.read.items ++ c.in_ok-lists.lists ∷ []))
+                (lists_of c.loop-input.read.items ++ source_of c.in_ok-lists.lists ∷ []))
                 (sym (take_stored stored i next.within)) more)),
             subst (λ (b : List ℕ). AreKept b (kept_in c.read_input.new.left)
                 (live_in (take (i + 1) stored))) same

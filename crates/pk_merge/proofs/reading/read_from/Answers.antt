@@ -1,5 +1,6 @@
 -- The directory tells the documents that are left, then the words are read.
 use Rattle.std.proofs.Common.{◌≡◌, ◌∙◌, ◌++◌, ◌+◌, ℕ, List, length, take, drop, sym, subst, arith}
+use Rattle.pk_join.specs.Listed.{source_of}
 use Rattle.pk_join.specs.Said.{AreSaid}
 use Rattle.pk_model.specs.Collection.{Doc}
 use Rattle.pk_segment.specs.Directory.{IsDirectoryOf}
@@ -121,7 +122,7 @@ returns-clause-said g c = λ honest.
     let content = g.S.ByteSource.content c.args.source.now in
     let kind = c.args.input.now.kind in
     let segment = c.in_ok-segment.segment in
-    let lists = c.in_ok-lists.lists in
+    let lists = source_of c.in_ok-lists.lists in
     let opened = c.in_ok-segment.ensures.opened honest in
     let at : lists_from segment ≡ lists_said content =
     omega (arith, opened.count_is, opened.read.count_is, opened.texts_is, opened.read.texts_is) in

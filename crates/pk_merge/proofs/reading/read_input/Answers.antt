@@ -3,6 +3,7 @@ use Rattle.std.proofs.Common.{◌≡◌, ◌∙◌, ◌+◌, ◌*◌, ℕ, List,
 use Rattle.std.specs.Prelude.{IfOk, OnOk}
 use Rattle.std.proofs.lemmas.List.{length-drop, length-take-le}
 use Rattle.pk_disk.specs.Units.{DiskExtent, extent_bytes, start_of}
+use Rattle.pk_join.specs.Listed.{LieIn, source_of}
 use Rattle.pk_join.specs.Said.{AreSaidIn}
 use Rattle.pk_merge.specs.Keeping.{KeepsBetween}
 use Rattle.pk_merge.specs.Left.{kept_in}
@@ -52,5 +53,15 @@ returns-clause-said g c = λ honest.
     let same = ap (λ (x : DiskExtent). extent_bytes (g.D.Disk.content source.disk.now) x)
     c.on-source.ensures.extent
     ∙ ap (λ (d : g.row.D.Denot). extent_bytes (g.D.Disk.content d) extent) c.on-source.ensures.disk in
-    subst (λ (b : List ℕ). IfOk c.read_from.result (AreSaidIn b c.args.input.now.kind)) same
+    subst (λ (b : List ℕ). IfOk c.read_from.result (λ lists. AreSaidIn b c.args.input.now.kind (source_of lists))) same
     (c.read_from.ensures.said honest)
+
+pub returns-clause-lies : goal.returns-clause-lies
+returns-clause-lies g c =
+    let source = c.on-source.result in
+    let content = g.D.Disk.content source.disk.now in
+    let long : length (extent_bytes content source.extent) ≡ c.args.input.now.extent.bytes =
+    length-take-le source.extent.bytes (drop (start_of source.extent) content)
+    (omega (arith, length-drop (start_of source.extent) content, source.inside))
+    ∙ ap (λ (x : DiskExtent). x.bytes) c.on-source.ensures.extent in
+    subst (λ (n : ℕ). IfOk c.read_from.result (λ lists. LieIn n (source_of lists))) long c.read_from.ensures.lies

@@ -1,5 +1,5 @@
 -- One word after the other.
-use Rattle.std.proofs.Common.{◌≡◌, ◌∙◌, ◌⊎◌, ◌+◌, ◌≤◌, ◌++◌, ◌∷◌, [], refl, ap, sym, subst, append_assoc, append-nil, arith, List, ℕ, length}
+use Rattle.std.proofs.Common.{◌≡◌, ◌∙◌, ◌⊎◌, ◌+◌, ◌≤◌, ◌++◌, ◌∷◌, [], refl, ap, sym, subst, append_assoc, append-nil, arith, List, ℕ, Err, length}
 use Rattle.std.specs.Prelude.{All}
 use Rattle.pk_disk.specs.Units.{start_of}
 use Rattle.pk_disk.specs.declared.units.Extent.{Extent}
@@ -14,6 +14,8 @@ use Rattle.pk_posting.specs.Spelling.{spelling as list_spelling}
 use Rattle.pk_segment.specs.Indexed.{list_with, lists_of, postings}
 use Rattle.pk_segment.proofs.PlanLemmas.{lists_all, lists_next}
 use Rattle.pk_state.specs.Committed.{live_in}
+use Rattle.pk_replace.specs.declared.stream.StreamFault.{StreamFault}
+use Rattle.pk_replace.specs.Cause.{IsUndamaged}
 use Rattle.pk_merge.specs.Apart.{WalksApart}
 use Rattle.pk_merge.specs.Output.{AreGiven}
 use Rattle.pk_merge.proofs.GivenLemmas.{all_mid, are_given_all, are_given_read, are_given_then, err_given, inputs_stay, is_given_read, is_given_then, lists_within, same_bytes, well}
@@ -23,12 +25,13 @@ use Rattle.pk_merge.proofs.writing.write_lists.Goals as goal
 use Rattle.pk_merge.proofs.writing.write_lists.Goals.{After-go_on}
 
 pub returns-in_err-write_list-clause-bytes : goal.returns-in_err-write_list-clause-bytes
-returns-in_err-write_list-clause-bytes g c = λ honest inputs stored start apart enough room.
+returns-in_err-write_list-clause-bytes g c = λ honest inputs stored start fit apart enough room.
     let inv = c.words.invariant in
     let docs = live_in stored in
-    let known = inv.come honest inputs stored start apart enough room in
+    let known = inv.come honest inputs stored start fit apart enough room in
     let to = subst (GoesAs (g.D.Disk.content c.go_on.new.disk) inputs stored c.go_on.new.walk known.0 known.1)
-    c.if-branch.true (c.in_ok-go_on.ensures.goes honest inputs stored known.0 known.1 known.2) in
+    c.if-branch.true (c.in_ok-go_on.ensures.goes honest inputs stored known.0 known.1 known.2
+    (c.words.invariant.rooms _ (fit _ known.2.spells))) in
     let w = walk_word c.go_on.new.walk in
     let terms = to.come.walks.terms ∙ append_assoc known.0 (w ∷ []) to.rest in
     let P = λ (v : List ℕ). length (list_spelling (list_with v docs)) ≤ length c.args.encoded.now in
@@ -47,6 +50,16 @@ returns-in_err-write_list-clause-bytes g c = λ honest inputs stored start apart
     err_given g.D.Disk c.args.disk.now c.write_list.new.disk c.args.output.now c.write_list.new.output
     (postings docs) c.from_residual-in_err-write_list.result c.in_err-write_list.field-0.0
     c.from_residual-in_err-write_list.ensures.1 given.undamaged
+
+pub returns-in_err-go_on-clause-bytes : goal.returns-in_err-go_on-clause-bytes
+returns-in_err-go_on-clause-bytes g c = λ honest inputs stored start fit apart enough room.
+    let inv = c.words.invariant in
+    let known = inv.come honest inputs stored start fit apart enough room in
+    let read = c.in_err-go_on.ensures.goes honest inputs stored known.0 known.1 known.2
+    (inv.rooms _ (fit _ known.2.spells)) in
+    err_given g.D.Disk c.args.disk.now c.go_on.new.disk c.args.output.now c.words.output
+    (postings (live_in stored)) c.from_residual.result c.in_err-go_on.field-0.0 c.from_residual.ensures.1
+    (subst (λ (x : StreamFault). IsUndamaged {T = Unit {0}} (Err x)) (sym read) tt)
 
 -- the walk has gone on where the inputs have the bytes that they had
 goes_whole : (g : given.Over) (c : goal.After-go_on g)
@@ -86,13 +99,14 @@ words-preserved g c =
       same = same_walk_then c.args.walk.now c.words.walk c.go_on.new.walk inv.same c.go_on.ensures.same;
       whole = goes_whole g (goal.at.words-preserved g c).After-go_on c.in_ok-go_on.ensures.whole;
       encoded = omega (arith, c.write_list.auto.encoded, inv.encoded);
-      come = λ honest inputs stored start apart enough room.
+      rooms = λ bytes rooms. c.in_ok-go_on.ensures.rooms bytes (inv.rooms bytes rooms);
+      come = λ honest inputs stored start fit apart enough room.
           let docs = live_in stored in
-          let known = inv.come honest inputs stored start apart enough room in
+          let known = inv.come honest inputs stored start fit apart enough room in
           let to =
           subst (GoesAs (g.D.Disk.content c.go_on.new.disk) inputs stored c.go_on.new.walk known.0
-          known.1) c.if-branch.true (c.in_ok-go_on.ensures.goes honest inputs stored known.0 known.1
-          known.2) in
+          known.1) c.if-branch.true (c.in_ok-go_on.ensures.goes honest inputs stored known.0 known.1 known.2
+          (c.words.invariant.rooms _ (fit _ known.2.spells))) in
           let ws = known.0 in
           let w = walk_word c.go_on.new.walk in
           let same = (c.go_on.ensures.keeps.read honest).bytes in
@@ -133,12 +147,13 @@ words-preserved g c =
     }
 
 pub returns-clause-bytes : goal.returns-clause-bytes
-returns-clause-bytes g c = λ honest inputs stored start apart enough room.
+returns-clause-bytes g c = λ honest inputs stored start fit apart enough room.
     let docs = live_in stored in
-    let known = c.words.invariant.come honest inputs stored start apart enough room in
+    let known = c.words.invariant.come honest inputs stored start fit apart enough room in
     let all : known.1 ≡ [] =
     subst (GoesAs (g.D.Disk.content c.go_on.new.disk) inputs stored c.go_on.new.walk known.0 known.1)
-    c.if-branch.false (c.in_ok-go_on.ensures.goes honest inputs stored known.0 known.1 known.2) in
+    c.if-branch.false (c.in_ok-go_on.ensures.goes honest inputs stored known.0 known.1 known.2
+    (c.words.invariant.rooms _ (fit _ known.2.spells))) in
     let terms = known.2.walks.terms ∙ ap (λ (us : List (List ℕ)). known.0 ++ us) all ∙ append-nil known.0 in
     let lists = ap (λ (ws : List (List ℕ)). lists_of ws docs) (sym terms)
     ∙ lists_all docs (terms_of docs) refl in

@@ -2,6 +2,8 @@
 use Rattle.std.proofs.Common.{◌≡◌, ◌≤◌, ◌+◌, List, ℕ, [], Ok, length}
 use Rattle.std.specs.Prelude.{All, Result}
 use Rattle.pk_join.specs.declared.input.MergeInput.{MergeInput}
+use Rattle.pk_join.specs.Inputs.{SpellsInputs}
+use Rattle.pk_join.specs.Rooms.{WalkIsRoomy}
 use Rattle.pk_join.specs.Walk.{HasCome, IsSameWalk, words_to_come}
 use Rattle.pk_join.specs.Whole.{WalksWhole}
 use Rattle.pk_model.specs.Terms.{terms_of}
@@ -29,8 +31,10 @@ invariant-words g l =
       whole : WalksWhole (disk.honest × WalksApart l.fn.output.start l.fn.output.end l.fn.walk)
           (disk.content l.fn.disk) l.fn.walk l.walk;
       encoded : length l.encoded ≡ length l.fn.encoded;
+      rooms : (bytes : List ℕ) → WalkIsRoomy bytes l.fn.walk → WalkIsRoomy bytes l.walk;
       come : disk.honest → (inputs : List MergeInput) (stored : List Stored)
           → HasCome (disk.content l.fn.disk) inputs stored l.fn.walk [] (terms_of (live_in stored))
+          → ((b : List ℕ) → SpellsInputs b inputs stored → WalkIsRoomy b l.fn.walk)
           → All (LiesApart l.fn.output.start l.fn.output.end) inputs
           → All (λ w. length (list_spelling (list_with w (live_in stored))) ≤ length l.fn.encoded)
           (terms_of (live_in stored))

@@ -18,4 +18,4 @@ returns-in-Walked-clause-bytes g c = λ honest inputs stored give are spells apa
     let enough = subst (λ (l : List ℕ). All (λ w. length (list_spelling (list_with w docs)) ≤ length l) (terms_of docs))
     (sym c.deref_mut.ensures.value) joins.enough in
     c.write_lists.ensures.bytes honest inputs stored
-    (come_start _ inputs stored walk of.0 spells joins.listed joins.can of.1) apart enough room
+    (come_start _ inputs stored walk of.0 spells joins.listed joins.can of.1) joins.roomy apart enough room

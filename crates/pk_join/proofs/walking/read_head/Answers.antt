@@ -1,0 +1,1 @@
+-- An input whose key says that no word is to be read stands at one, or has passed all.
