@@ -4,10 +4,10 @@ ghost use Rattle.std.specs.Prelude.{◌≡◌, ◌+◌};
 ghost use Rattle.pk_command.specs.Endings.{CheckOutcome, FileCheckOutcome};
 ghost use Rattle.pk_command.specs.Left.{files_in_hand};
 
-use super::left::Left;
-use super::opening::store_at;
-use super::reporting::{DONE, FAILED, OUTPUT, checking_reason, fail, opening_reason};
-use super::telling::tell_checked;
+use crate::left::Left;
+use crate::opening::store_at;
+use crate::reporting::{DONE, FAILED, OUTPUT, checking_reason, fail, opening_reason};
+use crate::telling::tell_checked;
 use pk_disk::Disk;
 use pk_filedisk::{FileDisk, OpensFiles, RawFile};
 use pk_store::Store;

@@ -4,9 +4,9 @@ ghost use Rattle.std.specs.Prelude.{◌≡◌, ◌+◌};
 ghost use Rattle.pk_command.specs.Endings.{CreationOutcome, FileCreationOutcome, IsOfSize};
 ghost use Rattle.pk_command.specs.Left.{files_in_hand};
 
-use super::left::{Left, left_of};
-use super::reporting::{DONE, OUTPUT, creating_reason, fail, file_reason};
-use super::telling::tell_made;
+use crate::left::{Left, left_of};
+use crate::reporting::{DONE, OUTPUT, creating_reason, fail, file_reason};
+use crate::telling::tell_made;
 use pk_disk::Disk;
 use pk_filedisk::{FileDisk, FileSystem, RawFile};
 use pk_store::Store;

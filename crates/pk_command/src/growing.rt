@@ -7,9 +7,9 @@ ghost use Rattle.pk_disk.specs.Disk.{nowhere};
 ghost use Rattle.pk_disk.specs.Sizes.{least_units};
 ghost use Rattle.pk_manifest.specs.Current.{units_of_disk};
 
-use super::left::{Left, left_of};
-use super::reporting::{DONE, OUTPUT, fail, file_reason, growing_reason};
-use super::telling::tell_growth;
+use crate::left::{Left, left_of};
+use crate::reporting::{DONE, OUTPUT, fail, file_reason, growing_reason};
+use crate::telling::tell_growth;
 use pk_disk::Disk;
 use pk_filedisk::{FileDisk, OpensFiles, RawFile};
 use pk_grow::grow_file;

@@ -4,8 +4,8 @@ ghost use Rattle.std.specs.Prelude.{◌≡◌, ◌+◌, IfErr, IfOk};
 ghost use Rattle.pk_command.specs.Endings.{IsStoreAt, NoStoreAt};
 ghost use Rattle.pk_command.specs.Left.{files_in_hand};
 
-use super::left::{Left, left_of};
-use super::reporting::{DISK, FAILED, fail, file_reason};
+use crate::left::{Left, left_of};
+use crate::reporting::{DISK, FAILED, fail, file_reason};
 use pk_disk::Disk;
 use pk_filedisk::{FileDisk, OpensFiles, RawFile};
 use pk_grow::store_on;

@@ -4,8 +4,8 @@ ghost use Rattle.std.specs.Prelude.{◌≡◌};
 ghost use Rattle.pk_command.specs.Reading.{IsBegun, ReadOutcome, reading_words, shared_words};
 ghost use Rattle.pk_reader.specs.Held.{file_bytes};
 
-use super::reporting::{DONE, fail, file_reason, opening_reason, session_reason};
-use super::running::{CACHE_BLOCKS, PAGES};
+use crate::reporting::{DONE, fail, file_reason, opening_reason, session_reason};
+use crate::running::{CACHE_BLOCKS, PAGES};
 use pk_filedisk::FileFault;
 use pk_reader::{Caches, Open, OpensShared, Reader, SharedFault};
 use pk_shell::{Engine, serve_engine};

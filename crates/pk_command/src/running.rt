@@ -4,9 +4,9 @@ ghost use Rattle.std.specs.Prelude.{◌≡◌, ◌+◌};
 ghost use Rattle.pk_command.specs.Endings.{FileSessionOutcome, SessionOutcome};
 ghost use Rattle.pk_command.specs.Left.{files_in_hand};
 
-use super::left::Left;
-use super::opening::store_at;
-use super::reporting::{DONE, FAILED, fail, opening_reason, session_reason};
+use crate::left::Left;
+use crate::opening::store_at;
+use crate::reporting::{DONE, FAILED, fail, opening_reason, session_reason};
 use pk_disk::Disk;
 use pk_filedisk::{FileDisk, OpensFiles, RawFile};
 use pk_pages::PageCache;

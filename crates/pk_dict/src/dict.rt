@@ -1,4 +1,5 @@
-//! A dictionary in memory.
+//! A dictionary in memory: for what keeps one there, and for tests. The engine reads dictionaries
+//! where they lie.
 
 ghost use Rattle.std.specs.Prelude.{◌≡◌, List, length, Ok, IfErr, MatchResult};
 ghost use Rattle.pk_dict.specs.Dict.{

@@ -49,22 +49,22 @@
 //! it, `Reading`, `Scan` and `Search` what each private step finds.
 #![tactic(auto)]
 
-pub(crate) mod ahead;
-pub(crate) mod compare;
-pub mod cursor;
-pub mod dict;
-pub mod entries;
-pub mod entry;
-pub(crate) mod fields;
-pub(crate) mod head;
-pub mod laws;
-pub mod look_up;
-pub(crate) mod near;
-pub mod prefix;
-pub(crate) mod seeking;
-pub(crate) mod steps;
-pub mod windows;
-pub mod writer;
+mod ahead;
+mod compare;
+mod cursor;
+mod dict;
+mod entries;
+mod entry;
+mod fields;
+mod head;
+mod laws;
+mod look_up;
+mod near;
+mod prefix;
+mod seeking;
+mod steps;
+mod windows;
+mod writer;
 
 pub use cursor::TermCursor;
 pub use dict::Dict;

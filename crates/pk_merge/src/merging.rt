@@ -1,4 +1,5 @@
-//! One segment of the documents that several leave.
+//! One segment of the documents that several leave, in memory: the plain form that tests hold
+//! `merge_into` against. The engine writes a merge as it is read.
 
 ghost use Rattle.std.specs.Prelude.{
   ◌≡◌,

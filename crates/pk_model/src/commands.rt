@@ -1,7 +1,7 @@
 //! Commands, replies and refusals.
 
-use super::documents::DocNo;
-use super::queries::Query;
+use crate::documents::DocNo;
+use crate::queries::Query;
 use std::alloc::AllocError;
 
 /// What a store is asked to do.

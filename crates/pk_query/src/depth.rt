@@ -4,8 +4,8 @@ ghost use Rattle.std.specs.Prelude.{◌≡◌, ◌↔◌, IsTrue};
 ghost use Rattle.pk_query.specs.Depth.{IsTooDeep, nests_too_deep, has_long_nots};
 ghost use Rattle.pk_query.specs.Tokens.{tokens};
 
-use super::lexer::{Lexer, Placed, Token};
-use super::limits::MAX_DEPTH;
+use crate::lexer::{Lexer, Placed, Token};
+use crate::limits::MAX_DEPTH;
 
 /// Whether the brackets nest too deep, or too many `NOT` stand in a row.
 pub(crate) fn is_too_deep(text: &str) -> bool

@@ -1,4 +1,5 @@
-//! The plainest stream: bytes of a disk, copied to another place of it through a buffer.
+//! The plainest stream: bytes of a disk, copied to another place of it through a buffer. Tests put
+//! bodies in force with it; what the engine writes is a merge's.
 ghost use Rattle.std.specs.Prelude.{◌≡◌, ◌<◌, ◌≤◌, ◌+◌, length, IfOk, OnOk};
 ghost use Rattle.pk_disk.specs.Disk.{in_range};
 ghost use Rattle.pk_replace.specs.Cause.{IsCause, IsUndamaged};

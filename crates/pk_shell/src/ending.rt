@@ -1,6 +1,6 @@
 //! How `serve` ends.
 
-use super::sending::Unwritten;
+use crate::sending::Unwritten;
 use std::alloc::AllocError;
 
 /// The ends of a session that was served.

@@ -5,8 +5,8 @@ ghost use Rattle.pk_shell.specs.Asked.{Asked, is_quit, refuses};
 ghost use Rattle.pk_shell.specs.AskView.{line_asks};
 ghost use Rattle.pk_shell.specs.Response.{is_bye, response_text};
 
-use super::ask::Ask;
-use super::reply::Response;
+use crate::ask::Ask;
+use crate::reply::Response;
 use std::alloc::Global;
 
 /// What answers the lines of a session that are text and not too long.

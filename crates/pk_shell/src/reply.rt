@@ -9,9 +9,9 @@ ghost use Rattle.pk_shell.specs.Script.{IsReply};
 ghost use Rattle.pk_shell.specs.Response.{response_text, is_bye};
 ghost use Rattle.pk_shell.specs.StoreStep.{StoreStep};
 
-use super::ask::{Ask, ask_of};
-use super::engine::Engine;
-use super::line::Line;
+use crate::ask::{Ask, ask_of};
+use crate::engine::Engine;
+use crate::line::Line;
 use pk_disk::Disk;
 use pk_model::{DocNo, Query, Reply};
 use pk_query::{QueryFault, parse};

@@ -15,8 +15,8 @@ ghost use Rattle.pk_shell.specs.Sending.{Sent, Puts, Flushes};
 ghost use Rattle.pk_shell.specs.Response.{response_text};
 ghost use Rattle.pk_shell.specs.Lines.{with_feed};
 
-use super::outbox::Outbox;
-use super::reply::Response;
+use crate::outbox::Outbox;
+use crate::reply::Response;
 use itoa::Buffer;
 use memchr::memchr2;
 use pk_model::{Counts, DocNo, Refusal, Reply};

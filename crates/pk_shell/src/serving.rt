@@ -7,12 +7,12 @@ ghost use Rattle.pk_shell.specs.Script.{Ends, EndsAs, TakesAtMost};
 ghost use Rattle.pk_shell.specs.StoreStep.{StoreStep};
 ghost use Rattle.pk_shell.specs.Transcript.{AnswersLine, AnswersLines};
 
-use super::ending::{Ended, ShellFault};
-use super::engine::Engine;
-use super::line::Line;
-use super::outbox::Outbox;
-use super::reply::answer_held;
-use super::sending::{Unwritten, send};
+use crate::ending::{Ended, ShellFault};
+use crate::engine::Engine;
+use crate::line::Line;
+use crate::outbox::Outbox;
+use crate::reply::answer_held;
+use crate::sending::{Unwritten, send};
 use memchr::memchr;
 use pk_disk::Disk;
 use pk_store::Store;
