@@ -16,29 +16,36 @@ use pk_posting::ByteSource;
 use pk_segment::ReadFault;
 use std::alloc::Global;
 
-// How many bytes a dictionary has at most that gets a filter: what is read for it costs no more
-// than a few look-ups.
-const LONGEST_DICTIONARY: u32 = 16_384;
+// How many bytes a dictionary has at most that gets a filter.
+const LONGEST_DICTIONARY: u32 = 1_048_576;
 
 // How many bytes all filters take at most.
 const MOST_FILTER_BYTES: usize = 1 << 22;
 
-// The find that makes the filter of a segment, so that one find alone reads no whole dictionary.
-const MAKING_LOOK: u8 = 2;
+// A dictionary gets its filter once as many finds looked into it as it has stretches of so many
+// bytes, but two at the least: so the filter costs no more than they did.
+const BYTES_A_LOOK: u32 = 256;
+const FEWEST_LOOKS: u32 = 2;
+
+// Behind so many bytes of dictionaries a find makes no more filters: later ones do.
+const MOST_READ_AT_ONCE: u32 = 1_048_576;
+
+// The looks of a segment that has its filter, or that gets none.
+const DECIDED: u32 = u32::MAX;
 
 /// What is kept of a segment.
 #[derive(Drop)]
 pub(crate) struct SegmentFilter {
     /// The segment's id.
     pub(crate) segment: u64,
-    /// How many finds looked into it: two, where there were more.
-    pub(crate) looks: u8,
+    /// How many finds looked into it, until it is decided whether it gets a filter.
+    pub(crate) looks: u32,
     /// The filter of its words, if it has one.
     pub(crate) filter: Option<WordFilter>,
 }
 
-/// Filters of the words of segments (pk_filter). A segment gets one at the second find that looks
-/// into it, where its dictionary is short, and as long as all filters together keep their limit.
+/// Filters of the words of segments (pk_filter). A segment gets one once enough finds looked into
+/// it, as long as all filters together keep their limit.
 ///
 /// Where memory for one is wanting, or the dictionary is damaged, words are looked up without it:
 /// that costs reads and nothing else.
@@ -49,6 +56,8 @@ pub(crate) struct SegmentFilters {
     pub(crate) kept: Vec<SegmentFilter>,
     /// How many bytes the filters take.
     pub(crate) bytes: usize,
+    /// How many bytes of dictionaries the find has read for filters.
+    pub(crate) read: u32,
 }
 
 impl SegmentFilters {
@@ -61,13 +70,16 @@ impl SegmentFilters {
         SegmentFilters {
             kept: Vec::new(alloc),
             bytes: 0,
+            read: 0,
         }
     }
 
-    /// Puts what is kept of the open segments at their places, and drops what is kept of others.
+    /// Begins a find: puts what is kept of the open segments at their places, and drops what is kept
+    /// of others.
     pub(crate) fn settle(&mut self, opened: &[OpenSegment])
         ensures { AddsNoFilter self.old.kept.items self.new.kept.items }
     {
+        self.read = 0;
         for place in 0..opened.len() {
             self.settle_at(place, opened[place].entry.segment);
         }
@@ -138,7 +150,7 @@ impl SegmentFilters {
     }
 
     /// Notes that a find looks into an open segment, whose bytes the source has, and makes its filter
-    /// the second time.
+    /// if that is due.
     pub(crate) fn note<S: ByteSource>(
         &mut self,
         alloc: Global,
@@ -152,11 +164,16 @@ impl SegmentFilters {
         ensures left { ReadsSource S.ByteSource CountsReads result source.old source.new }
     {
         let segment = opened.entry.segment;
-        if !self.is_at(place, segment) || self.kept[place].looks == MAKING_LOOK {
+        if !self.is_at(place, segment) || self.kept[place].looks == DECIDED {
             return Ok(());
         }
+        let lies = opened.segment.dictionary_place();
         let looks = self.kept[place].looks.saturating_add(1);
-        let filter = self.filter_at_look(alloc, source, looks, opened.segment.dictionary_place())?;
+        let (looks, filter) = if self.is_due(looks, lies.bytes) {
+            (DECIDED, self.filter_of(alloc, source, lies)?)
+        } else {
+            (looks, None)
+        };
         self.kept[place] = SegmentFilter {
             segment,
             looks,
@@ -165,14 +182,18 @@ impl SegmentFilters {
         Ok(())
     }
 
-    // The filter of the words of a dictionary that lies there, at the find that makes it: none where
-    // it would be too long, the dictionary is damaged, or memory is wanting.
+    // Whether a find that is one of so many is to make the filter of a dictionary of so many bytes.
+    fn is_due(&self, looks: u32, bytes: u32) -> bool {
+        looks >= FEWEST_LOOKS.max(bytes / BYTES_A_LOOK) && self.read < MOST_READ_AT_ONCE
+    }
+
+    // The filter of the words of a dictionary that lies there: none where it would be too long, the
+    // dictionary is damaged, or memory is wanting.
     #[cold]
-    fn filter_at_look<S: ByteSource>(
+    fn filter_of<S: ByteSource>(
         &mut self,
         alloc: Global,
         source: &mut S,
-        looks: u8,
         lies: DictPlace,
     ) -> Result<Option<WordFilter>, ReadFault>
         ensures words { S.honest → (docs : List Doc) → IndexSpells (S.content source.old) docs
@@ -183,12 +204,13 @@ impl SegmentFilters {
         ensures left { ReadsSource S.ByteSource CountsReads result source.old source.new }
     {
         let bytes = self.bytes.saturating_add(WordFilter::bytes_for(lies.terms));
-        if looks != MAKING_LOOK || lies.bytes > LONGEST_DICTIONARY || bytes > MOST_FILTER_BYTES {
+        if lies.bytes > LONGEST_DICTIONARY || bytes > MOST_FILTER_BYTES {
             return Ok(None);
         }
         if u64::from(source.len()) < u64::from(lies.at) + u64::from(lies.bytes) {
             return Ok(None);
         }
+        self.read = self.read.saturating_add(lies.bytes);
         match WordFilter::of_dictionary(alloc, source, lies) {
             Ok(filter) => {
                 self.bytes = bytes;

@@ -33,7 +33,7 @@
 //!
 //! The caller also keeps `tables`. Those of the pivots of the dictionaries (`pivots`), by which a
 //! look-up spares its first reads, are not believed, and no contract speaks of them. Filters of the
-//! words of small segments (`filters`, pk_filter) are: a word that one rules out is not looked up.
+//! words of segments (`filters`, pk_filter) are: a word that one rules out is not looked up.
 //! They are kept by the segment's id, and agree with the open segments as the cache does
 //! (`FiltersAgree`).
 //!
