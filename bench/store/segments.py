@@ -24,6 +24,8 @@ COMMITS = 11
 OPENINGS = 31
 COUNTS = 101
 FINDS = 11
+# Finds behind which each segment that is worth it has a filter of its words.
+FINDS_BEFORE = 500
 TIDIES = 5
 
 
@@ -54,6 +56,13 @@ def opened(side):
     session.close()
 
 
+def again(session, word):
+    """The median milliseconds of a find of a word that was asked for often."""
+    for _ in range(FINDS_BEFORE):
+        session.find(word)
+    return middle(FINDS, lambda: session.find(word))
+
+
 def fill(side, texts, count):
     """Takes texts in so many commits; the median milliseconds of the last ones."""
     commits = count - COMMITS
@@ -72,6 +81,7 @@ def measured(side, word, commit):
         "opening and count, best": opening,
         "count": middle(COUNTS, session.count),
         "find of a rare word": middle(FINDS, lambda: session.find(word)),
+        f"the same behind {FINDS_BEFORE} finds": again(session, word),
         "add and commit of one": commit,
     }
     return session, figures, hits

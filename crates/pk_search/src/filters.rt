@@ -23,8 +23,9 @@ const LONGEST_DICTIONARY: u32 = 1_048_576;
 const MOST_FILTER_BYTES: usize = 1 << 22;
 
 // A dictionary gets its filter once as many finds looked into it as it has stretches of so many
-// bytes, but two at the least: so the filter costs no more than they did.
+// bytes, but two at the least: so the filter is to cost no more than they did.
 const BYTES_A_LOOK: u32 = 256;
+
 const FEWEST_LOOKS: u32 = 2;
 
 // Behind so many bytes of dictionaries a find makes no more filters: later ones do.
