@@ -7,7 +7,7 @@ ghost use Rattle.pk_cache.specs.Keys.{IsSound, Rises};
 ghost use Rattle.pk_cache.specs.Limits.{most_blocks};
 ghost use Rattle.pk_posting.specs.Posting.{block};
 ghost use Rattle.pk_posting.specs.Parts.{Fits, HasShape, LiesIn, bytes_at};
-ghost use Rattle.pk_posting.specs.Source.{IsRead};
+ghost use Rattle.pk_posting.specs.Frames.{IsRead};
 
 use crate::key::BlockKey;
 use lru::LruCache;
@@ -47,6 +47,13 @@ impl BlockCache {
             kept,
             unkept: false,
         })
+    }
+
+    /// How many blocks it keeps at the most.
+    pub fn capacity(&self) -> usize
+        ensures { result ≡ self.now.kept.cap }
+    {
+        self.kept.cap().get()
     }
 
     /// The numbers of a block of the list that lies at a place of the source and has this shape:
@@ -98,8 +105,7 @@ impl BlockCache {
             → MatchResult result (λ xs. blocks key ≡ Some xs) (λ e. e ≡ SourceFault.Disk)
             × Agrees blocks self.new }
 
-        ensures left { IsRead S.honest S.content S.asked S.failures S.keeps
-            2 result source.old source.new }
+        ensures left { IsRead S.ByteSource 2 result source.old source.new }
     {
         if let Some(numbers) = self.kept_block(key) {
             return Ok(numbers);

@@ -3,9 +3,9 @@
 ghost use Rattle.std.specs.Prelude.{◌≡◌, ◌≤◌, ◌<◌, ◌+◌, ◌^◌, ◌↔◌};
 ghost use Rattle.std.specs.Prelude.{length, take, drop, IfErr, IfOk, IsTrue};
 ghost use Rattle.pk_posting.specs.Posting.{IsPosting};
-ghost use Rattle.pk_posting.specs.Source.{IsLeft};
+ghost use Rattle.pk_posting.specs.Frames.{ReadsSource};
+ghost use Rattle.pk_posting.specs.Source.{CountsFaults};
 ghost use Rattle.pk_posting.specs.Spelling.{spelling};
-ghost use Rattle.pk_segment.specs.OnlyRead.{ReadsSource};
 ghost use Rattle.pk_segment.specs.Reading.{CountsReads, IsNoDamage};
 
 use pk_posting::{ByteSource, MOST_LENT, SourceFault, encode_into, length_of};
@@ -29,7 +29,7 @@ pub(crate) fn is_there<S: ByteSource>(
     ensures there { S.honest → IfOk result (λ yes. IsTrue yes
         ↔ (take (length bytes.now) (drop at (S.content source.old)) ≡ bytes.now)) }
     ensures cause { IfErr result (λ e. e ≡ SourceFault.Disk) }
-    ensures left { IsLeft S.honest S.content S.failures S.keeps result source.old source.new }
+    ensures left { ReadsSource S.ByteSource CountsFaults result source.old source.new }
 {
     let mut done = 0;
     while done < bytes.len() {

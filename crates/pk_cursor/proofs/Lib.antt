@@ -1,3 +1,2 @@
 pub mod DoublingLemmas
 pub mod SeekingLemmas
-pub mod SourceLemmas

@@ -1,8 +1,10 @@
 -- Where a cursor stands in a list.
 use Rattle.std.specs.Prelude.{◌≡◌, ◌≤◌, ◌<◌, ◌+◌, ◌-◌, ◌*◌, ℕ, List, length, min, slice_index}
 use Rattle.std.specs.Prelude.{Option, None, Some, Result, Ok, Err, IsOk, IfErr, IfSome}
+use Rattle.pk_posting.specs.declared.source.ByteSource.{Ghosts}
 use Rattle.pk_posting.specs.declared.source.SourceFault.{SourceFault}
-use Rattle.pk_posting.specs.Source.{IsRead, full_count}
+use Rattle.pk_posting.specs.Frames.{IsRead}
+use Rattle.pk_posting.specs.Source.{full_count}
 use Rattle.pk_posting.specs.Parts.{HasShape}
 use Rattle.pk_cursor.specs.Seeking.{Between, IsFirst}
 use Rattle.pk_cursor.specs.declared.standing.Standing.{Standing}
@@ -40,16 +42,14 @@ pub record CountsDecoded {T : Type 0} (result : Result T SourceFault) (old new :
 
 -- what a move leaves: it asks at most `most` times, keeps a fault that it met, and after an earlier
 -- fault answers that one and asks nothing; after a move that went on there is no fault
-pub record IsMoved {S T : Type 0} (honest : Type 0) (content : S → List ℕ) (asked failures : S → ℕ)
-    (keeps : S → S → Type 0) (most : ℕ) (result : Result T SourceFault) (old new : Standing)
-    (before after : S) : Type 0 where
+pub record IsMoved {S T : Type 0} (s : Ghosts S) (most : ℕ) (result : Result T SourceFault)
+    (old new : Standing) (before after : S) : Type 0 where
   pub place : new.place ≡ old.place
   pub decoded : CountsDecoded result old new
   pub faults : IfErr result (λ e. new.fault ≡ Some e)
   pub sound : IsOk result → new.fault ≡ None
   pub repeats : IfSome old.fault (λ e. (result ≡ Err e) × (after ≡ before))
-  pub left : old.fault ≡ None
-      → IsRead honest content asked failures keeps most result before after
+  pub left : old.fault ≡ None → IsRead s most result before after
 
 -- a fault that is kept, as the answer of the call that met it
 abbrev pub outcome : Option SourceFault → Result ℕ SourceFault

@@ -6,7 +6,7 @@ ghost use Rattle.std.specs.Prelude.{IfSome, OnOk, None, Err};
 ghost use Rattle.std.specs.Prelude.{MatchResult, MatchOption};
 ghost use Rattle.pk_posting.specs.Posting.{Spells};
 ghost use Rattle.pk_posting.specs.Parts.{LiesIn, bytes_at};
-ghost use Rattle.pk_posting.specs.Source.{IsRead};
+ghost use Rattle.pk_posting.specs.Frames.{IsRead};
 ghost use Rattle.pk_cursor.specs.Standing.{IsMoved, IsSought, StandsAt, outcome};
 
 use crate::standing::Standing;
@@ -36,8 +36,8 @@ impl<'a, S: ByteSource> Cursor<'a, S> {
         ensures first { result.standing.fault ≡ None → 0 < result.standing.shape.blocks
             → result.standing.decoded ≡ 1 }
         ensures decoded { result.standing.decoded ≤ 1 }
-        ensures left { IsRead S.honest S.content S.asked S.failures S.keeps
-            6 (outcome result.standing.fault) source.old result.source.now }
+        ensures left { IsRead S.ByteSource 6 (outcome result.standing.fault)
+            source.old result.source.now }
         ensures same_reference { result.source.ghost_name ≡ source.entry.ghost_name }
     {
         match Standing::open(source, place) {
@@ -98,8 +98,8 @@ impl<'a, S: ByteSource> Cursor<'a, S> {
             (λ _. StandsAt (bytes_at (S.content self.new.source.now) self.new.standing.place)
             self.new.standing xs (min (n + 1) (length xs)))
             (λ e. e ≡ SourceFault.Disk) }
-        ensures moved { IsMoved S.honest S.content S.asked S.failures S.keeps 2 result
-            self.old.standing self.new.standing self.old.source.now self.new.source.now }
+        ensures moved { IsMoved S.ByteSource 2 result self.old.standing self.new.standing
+            self.old.source.now self.new.source.now }
         ensures same_reference { self.new.source.ghost_name ≡ self.old.source.ghost_name }
     {
         self.standing.step(self.source)
@@ -115,8 +115,8 @@ impl<'a, S: ByteSource> Cursor<'a, S> {
             (λ _. StandsAt (bytes_at (S.content self.new.source.now) self.new.standing.place)
             self.new.standing xs (n + (self.old.standing.held - self.old.standing.at)))
             (λ e. e ≡ SourceFault.Disk) }
-        ensures moved { IsMoved S.honest S.content S.asked S.failures S.keeps 2 result
-            self.old.standing self.new.standing self.old.source.now self.new.source.now }
+        ensures moved { IsMoved S.ByteSource 2 result self.old.standing self.new.standing
+            self.old.source.now self.new.source.now }
         ensures same_reference { self.new.source.ghost_name ≡ self.old.source.ghost_name }
     {
         self.standing.pass(self.source)
@@ -132,8 +132,8 @@ impl<'a, S: ByteSource> Cursor<'a, S> {
             (λ _. IsSought (bytes_at (S.content self.new.source.now) self.new.standing.place)
             self.new.standing xs n target)
             (λ e. e ≡ SourceFault.Disk) }
-        ensures moved { IsMoved S.honest S.content S.asked S.failures S.keeps 44 result
-            self.old.standing self.new.standing self.old.source.now self.new.source.now }
+        ensures moved { IsMoved S.ByteSource 44 result self.old.standing self.new.standing
+            self.old.source.now self.new.source.now }
         ensures asks { OnOk result
             ((k : ℕ) → self.new.standing.block - self.old.standing.block < 2 ^ k
             → S.asked self.new.source.now ≤ S.asked self.old.source.now + 2 * k + 2) }

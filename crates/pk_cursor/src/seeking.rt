@@ -4,7 +4,7 @@ ghost use Rattle.std.specs.Prelude.{◌≡◌, ◌+◌, ◌*◌, ◌-◌, ◌<�
 ghost use Rattle.std.specs.Prelude.{ℕ, List, length, slice_index};
 ghost use Rattle.std.specs.Prelude.{IfErr, IsOk, OnOk, Some, None, Err, MatchResult};
 ghost use Rattle.pk_posting.specs.Parts.{LiesIn, bytes_at};
-ghost use Rattle.pk_posting.specs.Source.{IsRead};
+ghost use Rattle.pk_posting.specs.Frames.{IsRead};
 
 use crate::skips::find_block;
 use crate::standing::Standing;
@@ -26,8 +26,7 @@ impl Standing {
             → MatchResult result
             (λ _. IsSought (bytes_at (S.content source.old) self.old.place) self.new xs n target)
             (λ e. e ≡ SourceFault.Disk) }
-        ensures moved { IsMoved S.honest S.content S.asked S.failures S.keeps 44 result
-            self.old self.new source.old source.new }
+        ensures moved { IsMoved S.ByteSource 44 result self.old self.new source.old source.new }
         ensures asks { OnOk result ((k : ℕ) → self.new.block - self.old.block < 2 ^ k
             → S.asked source.new ≤ S.asked source.old + 2 * k + 2) }
     {
@@ -66,8 +65,7 @@ impl Standing {
         ensures after { IsOk result → self.new.fault ≡ None }
         ensures asks { OnOk result ((k : ℕ) → self.new.block - self.old.block < 2 ^ k
             → S.asked source.new ≤ S.asked source.old + 2 * k + 2) }
-        ensures left { IsRead S.honest S.content S.asked S.failures S.keeps
-            44 result source.old source.new }
+        ensures left { IsRead S.ByteSource 44 result source.old source.new }
     {
         match find_block(source, self.place, self.shape, self.block, target) {
             Ok(block) => self.enter(source, block),

@@ -3,7 +3,8 @@
 ghost use Rattle.std.specs.Prelude.{◌+◌, ◌*◌, ◌-◌, ◌<◌, ◌≤◌, ◌^◌};
 ghost use Rattle.std.specs.Prelude.{ℕ, List, length, IfOk, MatchResult, ◌≡◌};
 ghost use Rattle.pk_posting.specs.Parts.{Fits, HasShape, LiesIn, bytes_at};
-ghost use Rattle.pk_posting.specs.Source.{IsLeft};
+ghost use Rattle.pk_posting.specs.Frames.{ReadsSource};
+ghost use Rattle.pk_posting.specs.Source.{CountsFaults};
 ghost use Rattle.pk_cursor.specs.Seeking.{Between, IsGalloped, block_end};
 
 use pk_posting::{ByteSource, ListPlace, Shape, SourceFault, last_in};
@@ -27,7 +28,7 @@ pub(crate) fn find_block<S: ByteSource>(
     ensures asks { IfOk result (λ j. (k : ℕ) → j - from < 2 ^ k
         → S.asked source.new ≤ S.asked source.old + 2 * k) }
     ensures most { S.asked source.new ≤ S.asked source.old + 42 }
-    ensures left { IsLeft S.honest S.content S.failures S.keeps result source.old source.new }
+    ensures left { ReadsSource S.ByteSource CountsFaults result source.old source.new }
 {
     let (low, high) = gallop(source, place, shape, from, target)?;
     let j = narrow(source, place, shape, low, high, target)?;
@@ -54,7 +55,7 @@ fn gallop<S: ByteSource>(
     ensures asks { IfOk result
         (λ r. IsGalloped from r.0 r.1 (S.asked source.old) (S.asked source.new)) }
     ensures most { S.asked source.new ≤ S.asked source.old + 21 }
-    ensures left { IsLeft S.honest S.content S.failures S.keeps result source.old source.new }
+    ensures left { ReadsSource S.ByteSource CountsFaults result source.old source.new }
 {
     let mut low = from;
     let mut step: u32 = 1;
@@ -90,7 +91,7 @@ fn narrow<S: ByteSource>(
     ensures order { IfOk result (λ j. (start < j) × (j ≤ shape.blocks)) }
     ensures asks { (t : ℕ) → end - start ≤ 2 ^ t
         → S.asked source.new ≤ S.asked source.old + t }
-    ensures left { IsLeft S.honest S.content S.failures S.keeps result source.old source.new }
+    ensures left { ReadsSource S.ByteSource CountsFaults result source.old source.new }
 {
     let mut low = start;
     let mut high = end;

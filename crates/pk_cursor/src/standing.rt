@@ -7,7 +7,8 @@ ghost use Rattle.std.specs.Prelude.{MatchResult, MatchOption};
 ghost use Rattle.std.proofs.Props.{props};
 ghost use Rattle.pk_posting.specs.Posting.{Spells};
 ghost use Rattle.pk_posting.specs.Parts.{Fits, HasShape, LiesIn, bytes_at};
-ghost use Rattle.pk_posting.specs.Source.{IsRead, full_count};
+ghost use Rattle.pk_posting.specs.Frames.{IsRead};
+ghost use Rattle.pk_posting.specs.Source.{full_count};
 
 use pk_posting::{ByteSource, ListPlace, Shape, SourceFault, block_in, tail_in};
 
@@ -53,8 +54,7 @@ impl Standing {
         ensures first { IfOk result
             (λ standing. 0 < standing.shape.blocks → standing.decoded ≡ 1) }
         ensures lies { IsOk result → LiesIn place (length (S.content source.old)) }
-        ensures left { IsRead S.honest S.content S.asked S.failures S.keeps
-            6 result source.old source.new }
+        ensures left { IsRead S.ByteSource 6 result source.old source.new }
     {
         let shape = Shape::read(source, place)?;
         let mut standing = Standing {
@@ -113,8 +113,7 @@ impl Standing {
         ensures counted { IsOk result → block < self.old.shape.blocks
             → self.new.decoded ≡ min (self.old.decoded + 1) full_count }
         ensures tail { block ≡ self.old.shape.blocks → self.new.decoded ≡ self.old.decoded }
-        ensures left { IsRead S.honest S.content S.asked S.failures S.keeps
-            2 result source.old source.new }
+        ensures left { IsRead S.ByteSource 2 result source.old source.new }
     {
         self.at = 0;
         self.held = 0;
@@ -152,8 +151,7 @@ impl Standing {
         ensures decoded { CountsDecoded result self.old self.new }
         ensures faults { IfErr result (λ e. self.new.fault ≡ Some e) }
         ensures sound { IsOk result → self.new.fault ≡ None }
-        ensures left { IsRead S.honest S.content S.asked S.failures S.keeps
-            2 result source.old source.new }
+        ensures left { IsRead S.ByteSource 2 result source.old source.new }
     {
         match self.load(source, block) {
             Ok(()) => Ok(()),
@@ -202,8 +200,7 @@ impl Standing {
             (λ _. StandsAt (bytes_at (S.content source.old) self.old.place) self.new xs
             (n + (self.old.held - self.old.at)))
             (λ e. e ≡ SourceFault.Disk) }
-        ensures moved { IsMoved S.honest S.content S.asked S.failures S.keeps 2 result
-            self.old self.new source.old source.new }
+        ensures moved { IsMoved S.ByteSource 2 result self.old self.new source.old source.new }
     {
         if let Some(fault) = self.fault {
             return Err(fault);
@@ -226,8 +223,7 @@ impl Standing {
             (λ _. StandsAt (bytes_at (S.content source.old) self.old.place) self.new xs
             (min (n + 1) (length xs)))
             (λ e. e ≡ SourceFault.Disk) }
-        ensures moved { IsMoved S.honest S.content S.asked S.failures S.keeps 2 result
-            self.old self.new source.old source.new }
+        ensures moved { IsMoved S.ByteSource 2 result self.old self.new source.old source.new }
     {
         if self.held - self.at > 1 {
             self.at += 1;

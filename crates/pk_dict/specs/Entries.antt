@@ -1,4 +1,4 @@
--- A list of entries, and what making it leaves of a source.
+-- A list of entries, and how making it counts failures.
 use Rattle.std.specs.Prelude.{◌≡◌, ◌≤◌, ◌<◌, ◌+◌, ◌-◌, ◌*◌, ◌%◌, ℕ, zero, suc, List, [], ◌∷◌, ◌++◌, length, take, drop, map, Bool, not, ◌||◌, Result, Ok, Err, OnOk, IsErrOf, nat_lt, nat_eq, if◌then◌else◌}
 use Rattle.std.specs.List.{starts_with}
 use Rattle.std.specs.Global.{Vec}
@@ -40,14 +40,6 @@ pub record CountsEntriesFaults {T : Type 0} (before now : ℕ) (result : Result 
   pub damaged : IsErrOf result Damaged → now ≡ before
   pub memory : IsErrOf result Memory → now ≡ before
   pub disk : IsErrOf result Disk → Rose before now
-
--- what making a list of entries leaves of a source
-pub record IsListed {S T : Type 0} (honest : Type 0) (content : S → List ℕ) (failures : S → ℕ)
-    (keeps : S → S → Type 0) (result : Result T EntriesFault) (old new : S) : Type 0 where
-  pub same : honest → content new ≡ content old
-  pub size : length (content new) ≡ length (content old)
-  pub kept : keeps old new
-  pub faults : CountsEntriesFaults (failures old) (failures new) result
 
 -- the term at a place, whole: the bytes that it keeps of the one before, then its rest; what is
 -- said of it; the place after it

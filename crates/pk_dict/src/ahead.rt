@@ -2,11 +2,12 @@
 
 ghost use Rattle.std.specs.Prelude.{◌≡◌, ◌≤◌, ◌<◌, ◌+◌, ◌^◌, ℕ, List, length, Ok, None};
 ghost use Rattle.std.specs.Prelude.{IfOk, IfErr, IfSome, IsErrOf, OnOk, vec_capacity};
-ghost use Rattle.pk_dict.specs.Entries.{IsListed, TermGives};
+ghost use Rattle.pk_dict.specs.Entries.{CountsEntriesFaults, TermGives};
 ghost use Rattle.pk_dict.specs.Place.{LiesIn, bytes_at};
 ghost use Rattle.pk_dict.specs.Reading.{IsPieceAt};
 ghost use Rattle.pk_dict.specs.Words.{word_at};
 ghost use Rattle.pk_posting.specs.Limits.{asks_for, most_lent};
+ghost use Rattle.pk_posting.specs.Frames.{ReadsSource};
 
 use crate::compare::is_less;
 use crate::entries::next_term;
@@ -100,7 +101,7 @@ impl Held {
         ensures room { vec_capacity self.old.bytes ≤ vec_capacity self.new.bytes }
         ensures before { self.new.before ≡ self.old.before }
         ensures fault { IfErr result (λ e. e ≡ EntriesFault.Damaged → ⊥) }
-        ensures left { IsListed S.honest S.content S.failures S.keeps result source.old source.new }
+        ensures left { ReadsSource S.ByteSource CountsEntriesFaults result source.old source.new }
         ensures asks { S.asked source.new ≤ S.asked source.old + 1 }
     {
         self.bytes.clear();
@@ -175,7 +176,7 @@ fn far_word<S: ByteSource>(
         → length word.old.items ≤ vec_capacity before.old → vec_capacity word.old < length t.0 }
     ensures room { vec_capacity word.old ≤ vec_capacity word.new }
     ensures before { vec_capacity before.old ≤ vec_capacity before.new }
-    ensures left { IsListed S.honest S.content S.failures S.keeps result source.old source.new }
+    ensures left { ReadsSource S.ByteSource CountsEntriesFaults result source.old source.new }
     ensures asks { S.honest → OnOk result (S.asked source.new
         ≤ S.asked source.old + 5 + asks_for (length word.new.items)) }
 {
@@ -218,7 +219,7 @@ pub(crate) fn next_word<S: ByteSource>(
     ensures room { vec_capacity word.old ≤ vec_capacity word.new }
     ensures rooms { (vec_capacity held.old.bytes ≤ vec_capacity held.new.bytes)
         × (vec_capacity held.old.before ≤ vec_capacity held.new.before) }
-    ensures left { IsListed S.honest S.content S.failures S.keeps result source.old source.new }
+    ensures left { ReadsSource S.ByteSource CountsEntriesFaults result source.old source.new }
     ensures asks { S.honest → OnOk result (S.asked source.new
         ≤ S.asked source.old + 6 + asks_for (length word.new.items)) }
 {

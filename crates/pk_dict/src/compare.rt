@@ -6,7 +6,7 @@ ghost use Rattle.pk_dict.specs.Order.{less};
 ghost use Rattle.pk_dict.specs.Place.{LiesIn, bytes_at};
 ghost use Rattle.pk_dict.specs.Reading.{Gives, shared_at};
 ghost use Rattle.pk_posting.specs.Limits.{asks_for, most_lent};
-ghost use Rattle.pk_posting.specs.Source.{IsRead};
+ghost use Rattle.pk_posting.specs.Frames.{IsRead};
 
 use crate::entry::DictPlace;
 use pk_posting::{ByteSource, MOST_LENT, SourceFault};
@@ -46,8 +46,7 @@ pub(crate) fn shared_stretch<S: ByteSource>(
         c ≡ shared (take size (drop at (bytes_at (S.content source.old) place))) term.now) }
     ensures most { IfOk result (λ c. (c ≤ size) × (c ≤ length term.now)) }
     ensures fault { IfErr result (λ e. e ≡ SourceFault.Disk) }
-    ensures left { IsRead S.honest S.content S.asked S.failures S.keeps
-        1 result source.old source.new }
+    ensures left { IsRead S.ByteSource 1 result source.old source.new }
 {
     let piece = source.bytes(place.at + at, size)?;
     Ok(shared_front(piece, term))
@@ -66,9 +65,7 @@ pub(crate) fn shared_with<S: ByteSource>(
         (shared_at (bytes_at (S.content source.old) place) at n term.now) }
     ensures most { IfOk result (λ c. (c ≤ n) × (c ≤ length term.now)) }
     ensures inside { IfOk result (λ _. at + n ≤ place.bytes) }
-    ensures left { IsRead S.honest S.content S.asked S.failures S.keeps
-        (asks_for (length term.now))
-        result source.old source.new }
+    ensures left { IsRead S.ByteSource (asks_for (length term.now)) result source.old source.new }
 {
     if u64::from(place.bytes) < u64::from(at) + u64::from(n) {
         return Err(SourceFault::Damaged);

@@ -6,10 +6,11 @@ ghost use Rattle.std.specs.Prelude.{IfErr, IfOk, IfSome, IsErrOf, IsOk, IsTrue, 
 ghost use Rattle.std.specs.Prelude.{vec_capacity};
 ghost use Rattle.std.specs.List.{AllByRecursion};
 ghost use Rattle.pk_dict.specs.Dictionary.{DictSpells, Item, group_count};
-ghost use Rattle.pk_dict.specs.Entries.{IsListed};
+ghost use Rattle.pk_dict.specs.Entries.{CountsEntriesFaults};
 ghost use Rattle.pk_dict.specs.Order.{less};
 ghost use Rattle.pk_dict.specs.Place.{LiesIn, bytes_at};
 ghost use Rattle.pk_posting.specs.Limits.{asks_for, most_lent};
+ghost use Rattle.pk_posting.specs.Frames.{ReadsSource};
 
 use crate::ahead::{Held, Spot, next_word};
 use crate::compare::is_less;
@@ -168,7 +169,7 @@ impl TermCursor {
         ensures repeats { IfSome self.old.fault
             (λ e. (result ≡ Err e) × (source.new ≡ source.old)) }
         ensures left { self.old.fault ≡ None
-            → IsListed S.honest S.content S.failures S.keeps result source.old source.new }
+            → ReadsSource S.ByteSource CountsEntriesFaults result source.old source.new }
         ensures asks { S.honest → OnOk result (S.asked source.new
             ≤ S.asked source.old + 6 + asks_for (length self.new.word.items)) }
     {
@@ -210,7 +211,7 @@ impl TermCursor {
         ensures repeats { IfSome self.old.fault
             (λ e. (result ≡ Err e) × (source.new ≡ source.old)) }
         ensures left { self.old.fault ≡ None
-            → IsListed S.honest S.content S.failures S.keeps result source.old source.new }
+            → ReadsSource S.ByteSource CountsEntriesFaults result source.old source.new }
         ensures asks { S.honest → (es : List Item) (n : ℕ)
             → StandsAt (bytes_at (S.content source.old) self.old.place) self.old es n
             → OnOk result ((k m : ℕ) → group_count self.old.place.terms ≤ 2 ^ k
@@ -244,7 +245,7 @@ impl TermCursor {
         ensures place { self.new.place ≡ self.old.place }
         ensures ahead { ReadsAhead self.old.held.most self.new }
         ensures fault { self.new.fault ≡ self.old.fault }
-        ensures left { IsListed S.honest S.content S.failures S.keeps result source.old source.new }
+        ensures left { ReadsSource S.ByteSource CountsEntriesFaults result source.old source.new }
         ensures asks { S.honest → (es : List Item) (n : ℕ)
             → Comes (bytes_at (S.content source.old) self.old.place) self.old es n
             → OnOk result ((k m : ℕ) → group_count self.old.place.terms ≤ 2 ^ k
@@ -315,7 +316,7 @@ impl TermCursor {
         ensures ahead { ReadsAhead self.old.held.most self.new }
         ensures fault { self.new.fault ≡ self.old.fault }
         ensures read { OnOk result (self.new.read ≡ self.old.read + 1) }
-        ensures left { IsListed S.honest S.content S.failures S.keeps result source.old source.new }
+        ensures left { ReadsSource S.ByteSource CountsEntriesFaults result source.old source.new }
         ensures asks { S.honest → OnOk result (S.asked source.new
             ≤ S.asked source.old + 6 + asks_for (length self.new.word.items)) }
     {

@@ -3,7 +3,7 @@
 ghost use Rattle.std.specs.Prelude.{◌≤◌, ◌<◌, ◌+◌, length, take, IfOk};
 ghost use Rattle.pk_dict.specs.Place.{LiesIn, bytes_at};
 ghost use Rattle.pk_dict.specs.Reading.{Gives, byte_at, entry_at, number_at, offset_at};
-ghost use Rattle.pk_posting.specs.Source.{IsRead};
+ghost use Rattle.pk_posting.specs.Frames.{IsRead};
 
 use crate::entry::{DictPlace, Entry};
 use pk_posting::{ByteSource, ListPlace, SourceFault};
@@ -19,8 +19,7 @@ pub(crate) fn number<S: ByteSource>(
     requires { LiesIn place (length (S.content source.old)) }
     ensures value { S.honest → Gives result (number_at (bytes_at (S.content source.old) place) at) }
     ensures inside { IfOk result (λ r. (at ≤ place.bytes) × (r.1 ≤ place.bytes)) }
-    ensures left { IsRead S.honest S.content S.asked S.failures S.keeps
-        1 result source.old source.new }
+    ensures left { IsRead S.ByteSource 1 result source.old source.new }
 {
     if place.bytes < at {
         return Err(SourceFault::Damaged);
@@ -42,8 +41,7 @@ pub(crate) fn entry<S: ByteSource>(
     requires { LiesIn place (length (S.content source.old)) }
     ensures value { S.honest → Gives result (entry_at (bytes_at (S.content source.old) place) at) }
     ensures inside { IfOk result (λ r. (at ≤ place.bytes) × (r.1 ≤ place.bytes)) }
-    ensures left { IsRead S.honest S.content S.asked S.failures S.keeps
-        3 result source.old source.new }
+    ensures left { IsRead S.ByteSource 3 result source.old source.new }
 {
     let (frequency, at) = number(source, place, at)?;
     let (list, at) = number(source, place, at)?;
@@ -61,8 +59,7 @@ pub(crate) fn byte<S: ByteSource>(
 ) -> Result<u8, SourceFault>
     requires { LiesIn place (length (S.content source.old)) }
     ensures value { S.honest → Gives result (byte_at (bytes_at (S.content source.old) place) at) }
-    ensures left { IsRead S.honest S.content S.asked S.failures S.keeps
-        1 result source.old source.new }
+    ensures left { IsRead S.ByteSource 1 result source.old source.new }
 {
     if place.bytes <= at {
         return Err(SourceFault::Damaged);
@@ -80,8 +77,7 @@ pub(crate) fn offset<S: ByteSource>(
 ) -> Result<u32, SourceFault>
     requires { LiesIn place (length (S.content source.old)) }
     ensures value { S.honest → Gives result (offset_at (bytes_at (S.content source.old) place) at) }
-    ensures left { IsRead S.honest S.content S.asked S.failures S.keeps
-        1 result source.old source.new }
+    ensures left { IsRead S.ByteSource 1 result source.old source.new }
 {
     if place.bytes < 4 || place.bytes - 4 < at {
         return Err(SourceFault::Damaged);

@@ -24,7 +24,8 @@ ghost use Rattle.pk_dict.specs.Place.{LiesIn, bytes_at};
 ghost use Rattle.pk_dict.specs.Reading.{Gives};
 ghost use Rattle.pk_dict.specs.Search.{Goes, IsAmid, IsAmong, IsKnown, IsStanding};
 ghost use Rattle.pk_keys.specs.Keys.{pivot_at};
-ghost use Rattle.pk_posting.specs.Source.{IsLeft, IsRead};
+ghost use Rattle.pk_posting.specs.Frames.{IsRead, ReadsSource};
+ghost use Rattle.pk_posting.specs.Source.{CountsFaults};
 
 use crate::entry::{DictPlace, Entry};
 use crate::head::{Between, Search, Standing, Step, TermsLeft};
@@ -54,7 +55,7 @@ pub fn look_up_in<S: ByteSource>(
         → MatchResult result (λ r. r ≡ entry_of es term.now) (λ e. e ≡ SourceFault.Disk) }
     ensures inside { IsOk result → place.at + place.bytes ≤ length (S.content source.old) }
 
-    ensures left { IsLeft S.honest S.content S.failures S.keeps result source.old source.new }
+    ensures left { ReadsSource S.ByteSource CountsFaults result source.old source.new }
     ensures asks { (k : ℕ) → group_count place.terms ≤ 2 ^ k → S.asked source.new
         ≤ S.asked source.old + (k + 16) * (6 + asks_for (length term.now)) }
 {
@@ -93,7 +94,7 @@ pub fn look_up_near<S: ByteSource>(
         (look_up_of (S.content source.old) place term.now) }
 
     ensures inside { IsOk result → place.at + place.bytes ≤ length (S.content source.old) }
-    ensures left { IsLeft S.honest S.content S.failures S.keeps result source.old source.new }
+    ensures left { ReadsSource S.ByteSource CountsFaults result source.old source.new }
     ensures asks { (k : ℕ) → group_count place.terms ≤ 2 ^ k → S.asked source.new
         ≤ S.asked source.old + (k + 18) * (6 + asks_for (length term.now)) }
     ensures most { S.asked source.new
@@ -120,8 +121,8 @@ fn scan_after<S: ByteSource>(
     requires among { IsAmong (group_count place.terms) (length term.now) standing }
     ensures value { S.honest → Gives result
         (scanned (bytes_at (S.content source.old) place) place.terms term.now standing) }
-    ensures left { IsRead S.honest S.content S.asked S.failures S.keeps
-        (15 * (6 + asks_for (length term.now))) result source.old source.new }
+    ensures left { IsRead S.ByteSource (15 * (6 + asks_for (length term.now))) result
+        source.old source.new }
 {
     match standing {
         Standing::First(_, entry) => Ok(Some(entry)),
@@ -157,7 +158,7 @@ pub(crate) fn narrow<S: ByteSource>(
     ensures value { S.honest → Gives result
         (standing_at (bytes_at (S.content source.old) place) place.terms term.now) }
     ensures among { IfOk result (IsAmong (group_count place.terms) (length term.now)) }
-    ensures left { IsLeft S.honest S.content S.failures S.keeps result source.old source.new }
+    ensures left { ReadsSource S.ByteSource CountsFaults result source.old source.new }
     ensures asks { (k : ℕ) → group_count place.terms ≤ 2 ^ k → S.asked source.new
         ≤ S.asked source.old + (k + 1) * (6 + asks_for (length term.now)) }
 {
@@ -187,7 +188,7 @@ fn narrow_from<S: ByteSource>(
         (4 * group_count place.terms) term.now between.low between.high between.matched
         between.next) }
     ensures among { IfOk result (IsAmong (group_count place.terms) (length term.now)) }
-    ensures left { IsLeft S.honest S.content S.failures S.keeps result source.old source.new }
+    ensures left { ReadsSource S.ByteSource CountsFaults result source.old source.new }
     ensures asks { (k : ℕ) → between.high - between.low ≤ 2 ^ k → S.asked source.new
         ≤ S.asked source.old + (k + 1) * (6 + asks_for (length term.now)) }
 {
@@ -239,8 +240,8 @@ fn probe<S: ByteSource>(
         → IfOk result (IsToldIn (bytes_at (S.content source.old) place) place.terms term.now) }
     ensures past { (b : Between) → search ≡ Search.Open b → b.high ≤ group
         → result ≡ Ok (Search.Open b) }
-    ensures left { IsRead S.honest S.content S.asked S.failures S.keeps
-        (6 + asks_for (length term.now)) result source.old source.new }
+    ensures left { IsRead S.ByteSource (6 + asks_for (length term.now)) result
+        source.old source.new }
 {
     let between = match search {
         Search::Open(between) => between,
@@ -284,7 +285,7 @@ fn stand_near<S: ByteSource>(
     ensures unknown { S.honest → pivot_at pivots.old 1 ≡ 0 → Gives result
         (standing_at (bytes_at (S.content source.old) place) place.terms term.now) }
     ensures among { IfOk result (IsAmong (group_count place.terms) (length term.now)) }
-    ensures left { IsLeft S.honest S.content S.failures S.keeps result source.old source.new }
+    ensures left { ReadsSource S.ByteSource CountsFaults result source.old source.new }
     ensures asks { (k : ℕ) → group_count place.terms ≤ 2 ^ k → S.asked source.new
         ≤ S.asked source.old + (k + 3) * (6 + asks_for (length term.now)) }
 {

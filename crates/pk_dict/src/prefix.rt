@@ -5,9 +5,10 @@ ghost use Rattle.std.specs.Prelude.{None, Some, Ok, Err, true, false};
 ghost use Rattle.std.specs.Prelude.{IfErr, IfOk, IfSome, IsOk, IsTrue, MatchResult, OnOk};
 ghost use Rattle.std.specs.List.{AllByRecursion, starts_with};
 ghost use Rattle.pk_dict.specs.Dictionary.{DictSpells, Item, group_count, items_with_prefix};
-ghost use Rattle.pk_dict.specs.Entries.{IsListed};
+ghost use Rattle.pk_dict.specs.Entries.{CountsEntriesFaults};
 ghost use Rattle.pk_dict.specs.Place.{LiesIn, bytes_at};
 ghost use Rattle.pk_posting.specs.Limits.{asks_for, most_lent};
+ghost use Rattle.pk_posting.specs.Frames.{ReadsSource};
 
 use crate::cursor::TermCursor;
 use crate::entry::{DictPlace, EntriesFault, Entry};
@@ -82,7 +83,7 @@ impl<'a> PrefixCursor<'a> {
             (λ e. (result ≡ Err e) × (source.new ≡ source.old)) }
         ensures ended { self.old.ended ≡ true → (result ≡ Ok None) × (source.new ≡ source.old) }
         ensures left { self.old.cursor.fault ≡ None
-            → IsListed S.honest S.content S.failures S.keeps result source.old source.new }
+            → ReadsSource S.ByteSource CountsEntriesFaults result source.old source.new }
         ensures asks { S.honest → self.old.begun ≡ true → OnOk result (S.asked source.new
             ≤ S.asked source.old + 6 + asks_for (length self.new.cursor.word.items)) }
         ensures first { S.honest → (es rest : List Item)
@@ -127,7 +128,7 @@ impl<'a> PrefixCursor<'a> {
         ensures repeats { IfSome self.old.cursor.fault
             (λ e. (result ≡ Err e) × (source.new ≡ source.old)) }
         ensures left { self.old.cursor.fault ≡ None
-            → IsListed S.honest S.content S.failures S.keeps result source.old source.new }
+            → ReadsSource S.ByteSource CountsEntriesFaults result source.old source.new }
         ensures asks { S.honest → self.old.begun ≡ true → OnOk result (S.asked source.new
             ≤ S.asked source.old + 6 + asks_for (length self.new.cursor.word.items)) }
         ensures first { S.honest → (es rest : List Item)

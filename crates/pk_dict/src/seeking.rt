@@ -6,7 +6,8 @@ ghost use Rattle.pk_dict.specs.Cursor.{BeginsAt};
 ghost use Rattle.pk_dict.specs.Dictionary.{DictSpells, Item, group_count};
 ghost use Rattle.pk_dict.specs.Place.{LiesIn, bytes_at};
 ghost use Rattle.pk_posting.specs.Limits.{asks_for};
-ghost use Rattle.pk_posting.specs.Source.{IsLeft};
+ghost use Rattle.pk_posting.specs.Frames.{ReadsSource};
+ghost use Rattle.pk_posting.specs.Source.{CountsFaults};
 
 use crate::entries::{first_group, group_start};
 use crate::entry::DictPlace;
@@ -30,7 +31,7 @@ pub(crate) fn first_start<S: ByteSource>(
     ensures some { IfOk result (λ s. 16 * s.group < place.terms) }
     ensures asks { (k : ℕ) → group_count place.terms ≤ 2 ^ k → S.asked source.new
         ≤ S.asked source.old + (k + 1) * (6 + asks_for (length word.now)) + 1 }
-    ensures left { IsLeft S.honest S.content S.failures S.keeps result source.old source.new }
+    ensures left { ReadsSource S.ByteSource CountsFaults result source.old source.new }
 {
     let standing = narrow(source, place, word)?;
     let group = first_group(standing);

@@ -20,7 +20,7 @@ ghost use Rattle.pk_dict.specs.Reading.{
   step_at,
 };
 ghost use Rattle.pk_dict.specs.Scan.{IsFewer, Leaves, scan_left};
-ghost use Rattle.pk_posting.specs.Source.{IsRead};
+ghost use Rattle.pk_posting.specs.Frames.{IsRead};
 
 use crate::compare::shared_with;
 use crate::entry::{DictPlace, Entry};
@@ -49,8 +49,7 @@ pub(crate) fn head<S: ByteSource>(
     requires { LiesIn place (length (S.content source.old)) }
     ensures value { S.honest → Gives result (head_at (bytes_at (S.content source.old) place) at) }
     ensures inside { IfOk result (λ h. (h.rest + h.size ≤ place.bytes) × (h.next ≤ place.bytes)) }
-    ensures left { IsRead S.honest S.content S.asked S.failures S.keeps
-        4 result source.old source.new }
+    ensures left { IsRead S.ByteSource 4 result source.old source.new }
 {
     let (size, rest) = number(source, place, at)?;
     head_after(source, place, size, rest)
@@ -69,8 +68,7 @@ fn head_after<S: ByteSource>(
         → number_at (bytes_at (S.content source.old) place) at ≡ Ok (size, rest)
         → Gives result (head_at (bytes_at (S.content source.old) place) at) }
     ensures inside { IfOk result (λ h. (h.rest + h.size ≤ place.bytes) × (h.next ≤ place.bytes)) }
-    ensures left { IsRead S.honest S.content S.asked S.failures S.keeps
-        3 result source.old source.new }
+    ensures left { IsRead S.ByteSource 3 result source.old source.new }
 {
     let end = match rest.checked_add(size) {
         Some(end) => end,
@@ -99,8 +97,8 @@ fn compared<S: ByteSource>(
     ensures value { S.honest → Gives result
         (compared_at (bytes_at (S.content source.old) place) head term.now matched) }
     ensures matched { IfOk result (IsWithin (length term.now)) }
-    ensures left { IsRead S.honest S.content S.asked S.failures S.keeps
-        (1 + asks_for (length term.now)) result source.old source.new }
+    ensures left { IsRead S.ByteSource (1 + asks_for (length term.now)) result
+        source.old source.new }
 {
     let more = shared_with(source, place, head.rest, head.size, &term[matched..])?;
     let matched = matched + more;
@@ -134,8 +132,7 @@ fn apart<S: ByteSource>(
     ensures value { S.honest → Gives result
         (apart_at (bytes_at (S.content source.old) place) at kept term.now) }
     ensures matched { IfOk result (IsWithin (length term.now)) }
-    ensures left { IsRead S.honest S.content S.asked S.failures S.keeps
-        1 result source.old source.new }
+    ensures left { IsRead S.ByteSource 1 result source.old source.new }
 {
     let found = byte(source, place, at)?;
     if term[kept] < found {
@@ -157,8 +154,8 @@ fn far_step<S: ByteSource>(
     ensures value { S.honest → Gives result (step_at (bytes_at (S.content source.old) place)
         term.now coming.kept coming.matched coming.at) }
     ensures matched { IfOk result (IsWithin (length term.now)) }
-    ensures left { IsRead S.honest S.content S.asked S.failures S.keeps
-        (5 + asks_for (length term.now)) result source.old source.new }
+    ensures left { IsRead S.ByteSource (5 + asks_for (length term.now)) result
+        source.old source.new }
 {
     let head = head(source, place, coming.at)?;
     if coming.matched < coming.kept {
@@ -185,8 +182,8 @@ fn far_first<S: ByteSource>(
         → number_at (bytes_at (S.content source.old) place) at ≡ Ok (size, rest)
         → Gives result (step_at (bytes_at (S.content source.old) place) term.now 0 0 at) }
     ensures matched { IfOk result (IsWithin (length term.now)) }
-    ensures left { IsRead S.honest S.content S.asked S.failures S.keeps
-        (4 + asks_for (length term.now)) result source.old source.new }
+    ensures left { IsRead S.ByteSource (4 + asks_for (length term.now)) result
+        source.old source.new }
 {
     let head = head_after(source, place, size, rest)?;
     compared(source, place, head, term, 0)
@@ -208,8 +205,8 @@ fn first_step<S: ByteSource>(
     ensures value { S.honest → Gives result
         (step_at (bytes_at (S.content source.old) place) term.now 0 0 at) }
     ensures matched { IfOk result (IsWithin (length term.now)) }
-    ensures left { IsRead S.honest S.content S.asked S.failures S.keeps
-        (5 + asks_for (length term.now)) result source.old source.new }
+    ensures left { IsRead S.ByteSource (5 + asks_for (length term.now)) result
+        source.old source.new }
 {
     if place.bytes < at {
         return Err(SourceFault::Damaged);
@@ -265,8 +262,8 @@ fn scan_on<S: ByteSource>(
         (scan_left (bytes_at (S.content source.old) place) term.now left))
         (λ e. Fails e (scan_left (bytes_at (S.content source.old) place) term.now left)) }
     ensures fewer { IfOk result (IsFewer left.count (length term.now)) }
-    ensures left { IsRead S.honest S.content S.asked S.failures S.keeps
-        (6 + asks_for (length term.now)) result source.old source.new }
+    ensures left { IsRead S.ByteSource (6 + asks_for (length term.now)) result
+        source.old source.new }
 {
     let at = left.at;
     if place.bytes < at {
@@ -300,8 +297,8 @@ pub(crate) fn scan<S: ByteSource>(
     requires within { left.matched ≤ length term.now }
     ensures value { S.honest → Gives result
         (scan_left (bytes_at (S.content source.old) place) term.now left) }
-    ensures left { IsRead S.honest S.content S.asked S.failures S.keeps
-        (left.count * (6 + asks_for (length term.now))) result source.old source.new }
+    ensures left { IsRead S.ByteSource (left.count * (6 + asks_for (length term.now))) result
+        source.old source.new }
 {
     let mut left = left;
     while left.count > 0 {
@@ -328,8 +325,8 @@ pub(crate) fn group_step<S: ByteSource>(
     ensures value { S.honest → Gives result (group_at (bytes_at (S.content source.old) place)
         (4 * group_count place.terms) group term.now) }
     ensures matched { IfOk result (IsWithin (length term.now)) }
-    ensures left { IsRead S.honest S.content S.asked S.failures S.keeps
-        (6 + asks_for (length term.now)) result source.old source.new }
+    ensures left { IsRead S.ByteSource (6 + asks_for (length term.now)) result
+        source.old source.new }
 {
     let base = 4 * groups_of(place.terms);
     let offset = offset(source, place, 4 * group)?;

@@ -9,20 +9,18 @@ ghost use Rattle.std.specs.Prelude.{
   ◌-◌,
   ◌*◌,
   ◌^◌,
-  ◌↔◌,
   length,
   take,
   drop,
   min,
   IfOk,
   IfErr,
-  IsOk,
-  IsErrOf,
   OnOk,
 };
 ghost use Rattle.std.proofs.Common.{◌∙◌, refl};
 ghost use Rattle.pk_posting.specs.Limits.{most_lent};
-ghost use Rattle.pk_posting.specs.Source.{CountsFaults, full_count};
+ghost use Rattle.pk_posting.specs.Frames.{AsksOnce, ReadsSource};
+ghost use Rattle.pk_posting.specs.Source.{AnswersWithin, CountsFaults, full_count};
 ghost use Rattle.pk_dict.specs.Dictionary.{group_count};
 ghost use Rattle.pk_dict.specs.Windows.{
   AsksNoMore,
@@ -84,7 +82,6 @@ impl<'a, S: ByteSource> Windows<'a, S> {
     ghost use mir.Syntax.{named};
     ghost use Rattle.std.specs.Borrow.{sem};
     ghost use Rattle.std.specs.Io.BufRead.{Rests};
-    ghost use Rattle.pk_posting.specs.Source.{IsAskedOnce};
     ghost use Rattle.pk_dict.specs.contracts.windows.Windows.{the_row};
 
     /// Windows over the source in which a dictionary lies. They hold nothing yet, and were not
@@ -117,17 +114,10 @@ impl<'a, S: ByteSource> Windows<'a, S> {
         ensures value { S.honest → IfOk result (λ s.
             s.now ≡ take n (drop at (S.content self.old.source.now))) }
         ensures lent { IfOk result (λ s. length s.now ≡ n) }
-        ensures inside { IsOk result → at + n ≤ length (S.content self.old.source.now) }
-        ensures damaged { IsErrOf result SourceFault.Damaged
-            ↔ (length (S.content self.old.source.now) < at + n) }
+        ensures within { AnswersWithin at n (length (S.content self.old.source.now)) result }
         ensures* after { sem 𝓛 (Rests
             (the_row (record { mir = named 1; lft = [] }) S.row S.ByteSource) self.entry (λ new.
-            IsAskedOnce S.honest (λ w. S.content w.source.now) (λ w. w.asked)
-            (λ w. S.failures w.source.now)
-            (λ a b. (b.source.ghost_name ≡ a.source.ghost_name)
-            × S.keeps a.source.now b.source.now
-            × AsksNoMore a.asked b.asked (S.asked a.source.now) (S.asked b.source.now))
-            result self.old new
+            AsksOnce ⟦<Windows<'a, S> as ByteSource>⟧ result self.old new
             × IsAskedBelow at n (length (S.content self.old.source.now)) self.old.split
             (S.asked self.old.source.now) self.old.offsets self.old.groups result
             new.offsets new.groups (S.asked new.source.now))) }
@@ -149,16 +139,8 @@ impl<'a, S: ByteSource> Windows<'a, S> {
     #[tactic(auto, using(crate::proofs::Holding::still_part))]
     fn hold(&mut self, at: u32, n: u32) -> Result<usize, SourceFault>
         requires { n ≤ window_bytes }
-        ensures same_reference { self.new.source.ghost_name ≡ self.old.source.ghost_name }
         ensures split { self.new.split ≡ self.old.split }
-        ensures content { S.honest → S.content self.new.source.now ≡ S.content self.old.source.now }
-        ensures size { length (S.content self.new.source.now)
-            ≡ length (S.content self.old.source.now) }
-        ensures keeps { S.keeps self.old.source.now self.new.source.now }
-        ensures counts { CountsFaults (S.failures self.old.source.now)
-            (S.failures self.new.source.now) result }
-        ensures not_full { OnOk result (S.failures self.new.source.now < full_count) }
-        ensures asked { self.new.asked ≡ min (self.old.asked + 1) (2 ^ 64 - 1) }
+        ensures left { AsksOnce ⟦<Windows<'a, S> as ByteSource>⟧ result self.old self.new }
 
         ensures below { IsAskedBelow at n (length (S.content self.old.source.now)) self.old.split
             (S.asked self.old.source.now) self.old.offsets self.old.groups result
@@ -171,9 +153,7 @@ impl<'a, S: ByteSource> Windows<'a, S> {
         ensures group { S.honest → self.old.split ≤ at → IfOk result (λ start.
             take n (drop start self.new.groups.buffer)
             ≡ take n (drop at (S.content self.old.source.now))) }
-        ensures inside { IsOk result → at + n ≤ length (S.content self.old.source.now) }
-        ensures damaged { IsErrOf result SourceFault.Damaged
-            ↔ (length (S.content self.old.source.now) < at + n) }
+        ensures within { AnswersWithin at n (length (S.content self.old.source.now)) result }
     {
         self.asked = self.asked.saturating_add(1);
         if at < self.split {
@@ -195,15 +175,7 @@ impl<'a, S: ByteSource> Windows<'a, S> {
     #[tactic(auto, using(crate::proofs::Holding::still_part))]
     fn read_long(&mut self, at: u32, n: u32) -> Result<(), SourceFault>
         requires { n ≤ most_lent }
-        ensures same_reference { self.new.source.ghost_name ≡ self.old.source.ghost_name }
-        ensures content { S.honest → S.content self.new.source.now ≡ S.content self.old.source.now }
-        ensures size { length (S.content self.new.source.now)
-            ≡ length (S.content self.old.source.now) }
-        ensures keeps { S.keeps self.old.source.now self.new.source.now }
-        ensures counts { CountsFaults (S.failures self.old.source.now)
-            (S.failures self.new.source.now) result }
-        ensures not_full { OnOk result (S.failures self.new.source.now < full_count) }
-        ensures asked { self.new.asked ≡ min (self.old.asked + 1) (2 ^ 64 - 1) }
+        ensures left { AsksOnce ⟦<Windows<'a, S> as ByteSource>⟧ result self.old self.new }
 
         ensures below { IsPassed at n (length (S.content self.old.source.now))
             (S.asked self.old.source.now) self.old.offsets self.old.groups result
@@ -211,9 +183,7 @@ impl<'a, S: ByteSource> Windows<'a, S> {
 
         ensures value { S.honest → OnOk result
             (take n self.new.long.now ≡ take n (drop at (S.content self.old.source.now))) }
-        ensures inside { IsOk result → at + n ≤ length (S.content self.old.source.now) }
-        ensures damaged { IsErrOf result SourceFault.Damaged
-            ↔ (length (S.content self.old.source.now) < at + n) }
+        ensures within { AnswersWithin at n (length (S.content self.old.source.now)) result }
     {
         self.asked = self.asked.saturating_add(1);
         if u64::from(self.source.len()) < u64::from(at) + u64::from(n) {
@@ -275,10 +245,7 @@ fn hold_in<S: ByteSource>(
     requires part { IsPartOf S.honest (S.content source.old) window.old }
     requires not_full { 0 < window.old.held → S.failures source.old < full_count }
     ensures part { IsPartOf S.honest (S.content source.new) window.new }
-    ensures content { S.honest → S.content source.new ≡ S.content source.old }
-    ensures size { length (S.content source.new) ≡ length (S.content source.old) }
-    ensures keeps { S.keeps source.old source.new }
-    ensures counts { CountsFaults (S.failures source.old) (S.failures source.new) result }
+    ensures left { ReadsSource S.ByteSource CountsFaults result source.old source.new }
     ensures not_full { OnOk result (S.failures source.new < full_count) }
     ensures stay_not_full { 0 < window.new.held → S.failures source.new < full_count }
     ensures below { IsHeld at n (length (S.content source.old)) (S.asked source.old) window.old
@@ -286,9 +253,7 @@ fn hold_in<S: ByteSource>(
     ensures room { IfOk result (λ start. start + n ≤ window_bytes) }
     ensures value { S.honest → IfOk result (λ start. take n (drop start window.new.buffer)
         ≡ take n (drop at (S.content source.old))) }
-    ensures inside { IsOk result → at + n ≤ length (S.content source.old) }
-    ensures damaged { IsErrOf result SourceFault.Damaged
-        ↔ (length (S.content source.old) < at + n) }
+    ensures within { AnswersWithin at n (length (S.content source.old)) result }
 {
     let end = u64::from(at) + u64::from(n);
     if window.held > 0 && window.at <= at && end <= u64::from(window.at) + u64::from(window.held) {
@@ -306,12 +271,7 @@ fn hold_in<S: ByteSource>(
 fn refill<S: ByteSource>(window: &mut Window, source: &mut S, at: u32) -> Result<(), SourceFault>
     requires inside { at ≤ length (S.content source.old) }
     ensures part { IsPartOf S.honest (S.content source.new) window.new }
-    ensures content { S.honest → S.content source.new ≡ S.content source.old }
-    ensures size { length (S.content source.new) ≡ length (S.content source.old) }
-    ensures asked { S.asked source.new ≡ min (S.asked source.old + 1) full_count }
-    ensures keeps { S.keeps source.old source.new }
-    ensures counts { CountsFaults (S.failures source.old) (S.failures source.new) result }
-    ensures not_full { OnOk result (S.failures source.new < full_count) }
+    ensures left { AsksOnce S.ByteSource result source.old source.new }
     ensures held { OnOk result ((window.new.at ≡ at)
         × (window.new.held ≡ min (length (S.content source.old) - at) window_bytes)) }
     ensures none { IfErr result (λ e. (e ≡ SourceFault.Disk) × (window.new.held ≡ 0)) }
@@ -336,12 +296,7 @@ fn read_front<S: ByteSource>(
     requires inside { at + n ≤ length (S.content source.old) }
     ensures value { S.honest → OnOk result
         (take n buffer.new ≡ take n (drop at (S.content source.old))) }
-    ensures content { S.honest → S.content source.new ≡ S.content source.old }
-    ensures size { length (S.content source.new) ≡ length (S.content source.old) }
-    ensures asked { S.asked source.new ≡ min (S.asked source.old + 1) full_count }
-    ensures keeps { S.keeps source.old source.new }
-    ensures counts { CountsFaults (S.failures source.old) (S.failures source.new) result }
-    ensures not_full { OnOk result (S.failures source.new < full_count) }
+    ensures left { AsksOnce S.ByteSource result source.old source.new }
     ensures fault { IfErr result (λ e. e ≡ SourceFault.Disk) }
 {
     let piece = source.bytes(at, n)?;

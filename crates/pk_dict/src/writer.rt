@@ -10,14 +10,17 @@ ghost use Rattle.std.specs.Prelude.{
   ◌++◌,
   ◌∷◌,
   [],
+  ℕ,
   List,
   length,
+  take,
   OnErr,
   OnOk,
   IfOk,
   IsTrue,
 };
-ghost use Rattle.pk_dict.specs.Dictionary.{DictSpells, Item, item_of, numbers, rest_of, spelling};
+ghost use Rattle.pk_dict.specs.Dictionary.{DictSpells, Item, item_of, numbers};
+ghost use Rattle.pk_dict.specs.Dictionary.{rest_of, shared, spelling};
 ghost use Rattle.pk_dict.specs.Writer.{HasAdded, MayAdd, MayFollow};
 ghost use Rattle.pk_vbyte.specs.VariableByte.{vbyte};
 
@@ -76,12 +79,10 @@ impl DictWriter {
             → OnErr result (HasAdded self.new es) }
     {
         let entry = Entry { frequency, place };
-        let last = Vec::from_slice(self.alloc, term)?;
-        let mut piece = Vec::new(self.alloc);
+        self.last.reserve(term.len())?;
         if self.in_group == 0 {
-            put_rest(&mut piece, &[], term, entry)?;
             let start = self.body.len() as u32;
-            self.body.extend_from_slice(&piece)?;
+            put_first(&mut self.body, term, entry)?;
             match self.starts.push(start) {
                 Ok(()) => {}
                 Err(_) => {
@@ -90,12 +91,10 @@ impl DictWriter {
                 }
             }
         } else {
-            let kept = shared_front(&self.last, term);
-            put_number(&mut piece, kept as u32)?;
-            put_rest(&mut piece, &self.last, term, entry)?;
-            self.body.extend_from_slice(&piece)?;
+            put_other(&mut self.body, &self.last, term, entry)?;
         }
-        self.last = last;
+        self.last.clear();
+        self.last.extend_from_slice(term)?;
         self.in_group = (self.in_group + 1) % GROUP;
         Ok(())
     }
@@ -157,7 +156,9 @@ impl DictWriter {
 
 // Puts a number at the end.
 fn put_number(out: &mut Vec<u8>, n: u32) -> Result<(), AllocError>
-    ensures { OnOk result (out.new.items ≡ out.old.items ++ vbyte n) }
+    ensures items { OnOk result (out.new.items ≡ out.old.items ++ vbyte n) }
+    ensures err { OnErr result (out.new.items ≡ out.old.items) }
+    ensures front { take (length out.old.items) out.new.items ≡ out.old.items }
 {
     let mut field = [0u8; 5];
     let size = put(n, &mut field);
@@ -169,24 +170,78 @@ fn put_number(out: &mut Vec<u8>, n: u32) -> Result<(), AllocError>
 fn put_entry(out: &mut Vec<u8>, entry: Entry) -> Result<(), AllocError>
     ensures items { OnOk result (out.new.items ≡ out.old.items ++ numbers entry) }
     ensures fits { OnOk result ((entry.place.at < 2 ^ 32) × (entry.place.bytes < 2 ^ 32)) }
+    ensures front { take (length out.old.items) out.new.items ≡ out.old.items }
 {
     put_number(out, entry.frequency)?;
     put_number(out, entry.place.at)?;
     put_number(out, entry.place.bytes)
 }
 
-// Puts a term after what it shares with the one before.
+// Puts the rest of a term, of which so many bytes were told.
 #[tactic(auto, unfolding(crate::specs::Dictionary::rest_of))]
-fn put_rest(out: &mut Vec<u8>, before: &[u8], term: &[u8], entry: Entry) -> Result<(), AllocError>
-    requires { length term.now < 2 ^ 32 }
-    ensures items { OnOk result (out.new.items
-        ≡ out.old.items ++ rest_of before.now (record { term = term.now; entry = entry })) }
+fn put_parts(out: &mut Vec<u8>, kept: usize, term: &[u8], entry: Entry) -> Result<(), AllocError>
+    requires long { length term.now < 2 ^ 32 }
+    requires kept { kept ≤ length term.now }
+    ensures items { (before : List ℕ) → kept ≡ shared before term.now → OnOk result (out.new.items
+        ≡ out.old.items ++ rest_of before (record { term = term.now; entry = entry })) }
     ensures fits { OnOk result ((entry.place.at < 2 ^ 32) × (entry.place.bytes < 2 ^ 32)) }
+    ensures front { take (length out.old.items) out.new.items ≡ out.old.items }
 {
-    let kept = shared_front(before, term);
     put_number(out, (term.len() - kept) as u32)?;
     out.extend_from_slice(&term[kept..])?;
     put_entry(out, entry)
+}
+
+// The same; where memory is refused, what stands from a place on is taken away.
+fn put_rest(
+    out: &mut Vec<u8>,
+    start: usize,
+    kept: usize,
+    term: &[u8],
+    entry: Entry,
+) -> Result<(), AllocError>
+    requires start { start ≤ length out.old.items }
+    requires long { length term.now < 2 ^ 32 }
+    requires kept { kept ≤ length term.now }
+    ensures items { (before : List ℕ) → kept ≡ shared before term.now → OnOk result (out.new.items
+        ≡ out.old.items ++ rest_of before (record { term = term.now; entry = entry })) }
+    ensures fits { OnOk result ((entry.place.at < 2 ^ 32) × (entry.place.bytes < 2 ^ 32)) }
+    ensures err { OnErr result (out.new.items ≡ take start out.old.items) }
+{
+    match put_parts(out, kept, term, entry) {
+        Ok(()) => Ok(()),
+        Err(error) => {
+            out.truncate(start);
+            Err(error)
+        }
+    }
+}
+
+// Puts a term that begins a group, or nothing.
+fn put_first(out: &mut Vec<u8>, term: &[u8], entry: Entry) -> Result<(), AllocError>
+    requires { length term.now < 2 ^ 32 }
+    ensures items { OnOk result (out.new.items
+        ≡ out.old.items ++ rest_of [] (record { term = term.now; entry = entry })) }
+    ensures fits { OnOk result ((entry.place.at < 2 ^ 32) × (entry.place.bytes < 2 ^ 32)) }
+    ensures err { OnErr result (out.new.items ≡ out.old.items) }
+{
+    let start = out.len();
+    put_rest(out, start, 0, term, entry)
+}
+
+// Puts a term behind how much it shares with the one before, or nothing.
+fn put_other(out: &mut Vec<u8>, before: &[u8], term: &[u8], entry: Entry) -> Result<(), AllocError>
+    requires { length term.now < 2 ^ 32 }
+    ensures items { OnOk result (out.new.items ≡ out.old.items
+        ++ (vbyte (shared before.now term.now)
+        ++ rest_of before.now (record { term = term.now; entry = entry }))) }
+    ensures fits { OnOk result ((entry.place.at < 2 ^ 32) × (entry.place.bytes < 2 ^ 32)) }
+    ensures err { OnErr result (out.new.items ≡ out.old.items) }
+{
+    let start = out.len();
+    let kept = shared_front(before, term);
+    put_number(out, kept as u32)?;
+    put_rest(out, start, kept, term, entry)
 }
 
 // How many bytes a number takes.

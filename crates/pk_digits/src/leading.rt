@@ -3,7 +3,8 @@
 ghost use Rattle.std.specs.Prelude.{◌≡◌, ◌+◌, ◌/◌, ◌<◌, ◌≤◌, ◌++◌, length, take, codes, decimal};
 ghost use Rattle.pk_digits.specs.declared.leading.TheConstants.{SPACED_BYTES};
 
-use crate::digits::{write_four, write_short, write_six};
+use crate::digits::{write_short, write_six};
+use crate::fours::FourDigits;
 use std::marker::Model;
 use std::simd::prelude::*;
 
@@ -16,6 +17,8 @@ pub const SPACED_BYTES: usize = 11;
 pub struct LeadingDigits {
     // The number that they are of.
     number: u32,
+    // The least number that has them.
+    least: u32,
     // A space and its digits, and spaces.
     text: u8x8,
     // Where its digits end.
@@ -23,13 +26,14 @@ pub struct LeadingDigits {
 }
 
 impl Model for LeadingDigits {
-    ghost use Rattle.std.specs.Prelude.{◌≡◌, ℕ, ◌+◌, ◌<◌, ◌++◌, length, take, codes, decimal};
+    ghost use Rattle.std.specs.Prelude.{◌≡◌, ℕ, ◌+◌, ◌*◌, ◌≤◌, ◌++◌, length, take, codes, decimal};
 
     ghost Value = { ℕ };
 
     ghost view = { λ l. l.number };
 
-    ghost invariant = { λ l. (l.number < 1000000) × (l.end ≡ 1 + length (decimal l.number))
+    ghost invariant = { λ l. (l.number ≤ 429496) × (l.least ≡ 10000 * l.number)
+        × (l.end ≡ 1 + length (decimal l.number))
         × (take l.end l.text ≡ codes " " ++ decimal l.number) };
 }
 
@@ -43,30 +47,35 @@ impl LeadingDigits {
 
     // Those of a number that is `number` without its last four digits.
     fn of(number: u32) -> LeadingDigits
-        requires { number < 1000000 }
+        requires { number ≤ 429496 }
         ensures { result ≡ number }
     {
         let mut text = [b' '; 8];
         let end = write_six(number, &mut text, 1);
-        let text = u8x8::from_array(text);
-        LeadingDigits { number, text, end }
+        LeadingDigits {
+            number,
+            least: number * 10_000,
+            text: u8x8::from_array(text),
+            end,
+        }
     }
 
-    // Keeps those of a number that is `number` without its last four digits.
+    // Keeps those of a number from 10,000 on. Whether it has those that are kept is told by how far
+    // it is from the least that does: a number below that one is far from it too.
     #[inline(always)]
     fn keep(&mut self, number: u32)
-        requires { number < 1000000 }
-        ensures { self.new ≡ number }
+        requires { 10000 ≤ number }
+        ensures { self.new ≡ number / 10000 }
     {
-        if number != self.number {
-            *self = LeadingDigits::of(number);
+        if number.wrapping_sub(self.least) >= 10_000 {
+            *self = LeadingDigits::of(number / 10_000);
         }
     }
 
     /// Writes a space and a number in decimal at the beginning of the bytes, and returns where they
     /// end. What lies behind, up to `SPACED_BYTES`, may be other bytes than before.
     #[inline(always)]
-    pub fn write_spaced(&mut self, number: u32, out: &mut [u8]) -> usize
+    pub fn write_spaced(&mut self, fours: &FourDigits, number: u32, out: &mut [u8]) -> usize
         requires { SPACED_BYTES ≤ length out.old }
         ensures end { result ≡ 1 + length (decimal number) }
         ensures within { result ≤ SPACED_BYTES }
@@ -79,8 +88,8 @@ impl LeadingDigits {
             out[0] = b' ';
             return write_short(number, out, 1);
         }
-        self.keep(number / 10_000);
+        self.keep(number);
         self.text.copy_to_slice(out);
-        write_four(number % 10_000, out, self.end)
+        fours.write(number - self.least, out, self.end)
     }
 }

@@ -3,8 +3,9 @@
 ghost use Rattle.std.specs.Prelude.{◌≡◌, ◌*◌, ◌+◌, ◌/◌, ◌<◌, ◌↔◌, List};
 ghost use Rattle.std.specs.Prelude.{IfOk, IsTrue, MatchResult, length, vec_len};
 ghost use Rattle.pk_dict.specs.Dictionary.{DictSpells, Item};
-ghost use Rattle.pk_dict.specs.Entries.{IsListed};
+ghost use Rattle.pk_dict.specs.Entries.{CountsEntriesFaults};
 ghost use Rattle.pk_dict.specs.Place.{LiesIn, bytes_at};
+ghost use Rattle.pk_posting.specs.Frames.{ReadsSource};
 
 use crate::bits::{has_bits, set_bits};
 use crate::hash::WordHash;
@@ -49,7 +50,7 @@ impl WordFilter {
             → DictSpells (bytes_at (S.content source.old) place) es → length es ≡ place.terms
             → MatchResult result (HasAll es) (λ e. e ≡ EntriesFault.Damaged → ⊥) }
         ensures size { IfOk result (λ f. 4 * vec_len f.lanes ≡ bytes_for place.terms) }
-        ensures left { IsListed S.honest S.content S.failures S.keeps result source.old source.new }
+        ensures left { ReadsSource S.ByteSource CountsEntriesFaults result source.old source.new }
     {
         let mut filter = WordFilter::for_words(alloc, place.terms)?;
         let mut words = TermCursor::open(alloc, place, MOST_LENT as u32);

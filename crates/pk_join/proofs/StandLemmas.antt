@@ -6,7 +6,7 @@ use Rattle.std.specs.Ordering.{match_ordering}
 use Rattle.std.proofs.Math.ListN.{get_or-map, length-set}
 use Rattle.std.proofs.Math.Seq.{map-set_same}
 use Rattle.std.proofs.lemmas.Bool.{cases_lt}
-use Rattle.std.proofs.lemmas.List.{length-map, map-set}
+use Rattle.std.proofs.lemmas.List.{get_or_default, length-map, map-set}
 use Rattle.pk_disk.specs.declared.units.Extent.{Extent}
 use Rattle.pk_join.specs.declared.joined.Joined.{Joined}
 use Rattle.pk_join.specs.declared.lists.InputLists.{InputLists}
@@ -21,7 +21,7 @@ use Rattle.pk_join.specs.Keys.{HasKey}
 use Rattle.pk_join.specs.Noted.{AreNoted, IsPassed, head_at, is_word, least_of, lesser_of, next_noted, next_passed, noted_of, order_of}
 use Rattle.pk_join.specs.declared.keys.Sought.{Sought}
 use Rattle.pk_join.proofs.KeyLemmas.{greater_key}
-use Rattle.pk_join.specs.WalkInput.{GoNowhere, HaveExtentsOf, Holds, StandAs, StandsAs, extents_of, heads_of, keys_of, lists_of, passed_in, passed_of, words_of}
+use Rattle.pk_join.specs.WalkInput.{GoNowhere, HaveExtentsOf, Holds, IsRead, StandAs, StandsAs, extents_of, heads_of, keys_of, lists_of, passed_in, passed_of, words_of}
 use Rattle.pk_join.specs.Joining.{MayJoin, joined_in}
 use Rattle.pk_join.specs.Walking.{AreListed, CanHold, IsAtHeads, stored_at, total_at}
 use Rattle.pk_segment.specs.Indexed.{list_with}
@@ -73,6 +73,14 @@ key_at_head : (is : List Input) (i : ℕ) → i < length is
 key_at_head [] i lt = absurd (omega arith)
 key_at_head (y ∷ is) zero lt = y.has
 key_at_head (y ∷ is) (suc i) lt = key_at_head is i (omega arith)
+
+-- and where that is not the key of one whose word is to be read, it stands at a word, or has passed all
+pub is_read : (is : List Input) (keys : List ℕ) (i : ℕ) (d : Input) → keys ≡ keys_of is → i < length is
+    → 0 < slice_index keys i → IsRead (get_or is i d)
+is_read is keys i d same lt some = λ off.
+    let x = get_or is i d in
+    let key = ap (λ (ks : List ℕ). slice_index ks i) same ∙ key_here is i x lt (get_or_default is i d x lt) in
+    omega (arith, x.counted.all off (omega (arith, some, key)), ap (λ (b : Bool). passed_by b (read_of x.lists)) off)
 
 -- the word of one that is noted is the one that it came to
 pub word_here : (is : List Input) (i : ℕ) (w : List ℕ) → i < length is → head_at (heads_of is) i ≡ Some w

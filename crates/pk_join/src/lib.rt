@@ -5,10 +5,11 @@
 //! segments are then merged without a sort: the least word at their heads comes next, and the lists
 //! of those that have it there are put one behind another, since the numbers rise from segment to
 //! segment (Manning, Raghavan, Schütze, Introduction to Information Retrieval, 2008, section 4.2).
-//! Words are compared by their keys first, the first eight bytes of each as a number; the keys of
-//! the words at the heads lie side by side, so that a scan of them is short. Deleted numbers are
-//! marked, a byte for each number from the first to the last of a deletion list, so that each
-//! number of a list takes one look; a list whose numbers lie far apart is halved.
+//! Words are compared by their keys first, the first eight bytes of each as a number. The keys of
+//! the words at the heads lie side by side, and the least of each 64 is kept, so that a scan of them
+//! is short, and passes over most where inputs are many. Deleted numbers are marked, a byte for each
+//! number from the first to the last of a deletion list, so that each number of a list takes one
+//! look; a list whose numbers lie far apart is halved.
 //!
 //! | item | what it is |
 //! |---|---|
@@ -41,14 +42,15 @@
 //! spell, `specs/Listed` what the words and lists of an input are, `specs/Reading` what was read of
 //! them, `specs/Rooms` that there is room for each, `specs/Counted` how many were passed, `specs/Said` where any bytes say they lie,
 //! `specs/Marks` what the marks of deleted numbers say, `specs/Joining` what is joined, `specs/Keys`
-//! the keys of words, `specs/Noted` which inputs have the least of the words at their heads,
-//! `specs/Walking` the words side by side, `specs/WalkInput` the inputs of a walk, `specs/Walk`
+//! the keys of words, `specs/HeadKeys` the groups of keys, `specs/Noted` which inputs have the least
+//! of the words at their heads, `specs/Walking` the words side by side, `specs/WalkInput` the inputs of a walk, `specs/Walk`
 //! where it has come, `specs/Whole` that it passes whole lists, and `specs/WholeLists` that all of
 //! a segment are. Lemma pages: `TermWalkLemmas` on the walk, whose words are the terms of the
 //! documents that are left; `ShowLemmas` on what cursors show of them; `RoomLemmas` on their memory;
 //! `JoinLemmas` on one word's list.
 #![tactic(auto)]
 
+mod head_keys;
 mod input;
 mod joined;
 mod joining;

@@ -23,8 +23,7 @@ ghost use Rattle.std.specs.Prelude.{
 ghost use Rattle.std.specs.Option.{option_map};
 ghost use Rattle.pk_join.specs.Inputs.{SpellsInputs};
 ghost use Rattle.pk_join.specs.Joining.{joined_in, room_in};
-ghost use Rattle.pk_disk.specs.Units.{extent_bytes};
-ghost use Rattle.pk_join.specs.Listed.{AreListsOf, head_of, source_of};
+ghost use Rattle.pk_join.specs.Listed.{head_of};
 ghost use Rattle.pk_join.specs.Noted.{
   AreNoted,
   IsPassed,
@@ -47,7 +46,6 @@ ghost use Rattle.pk_join.specs.WalkInput.{
   heads_of,
   keys_of,
   lists_of,
-  passed_in,
   passed_of,
   words_of,
 };
@@ -66,9 +64,9 @@ ghost use Rattle.pk_posting.specs.Source.{CountsFaults};
 ghost use Rattle.pk_segment.specs.Indexed.{list_with};
 ghost use Rattle.pk_segment.specs.OnlyRead.{ReadsDisk};
 ghost use Rattle.pk_segment.specs.Reading.{CountsReads, IsNoDamage};
-ghost use Rattle.pk_segment.specs.Spelling.{SegmentSpells};
 ghost use Rattle.pk_state.specs.Committed.{Stored, live_in};
 
+use crate::head_keys::HeadKeys;
 use crate::joined::WordList;
 use crate::keys::Sought;
 use crate::walk_input::{Input, UNREAD};
@@ -151,26 +149,21 @@ fn note<'a>(
 
 // The first place from one on whose key is not greater than that of the least word so far, or the
 // end: what is passed has greater words. Without a least word it is that one.
-fn next_near(keys: &[u64], from: usize, least: Option<Sought>) -> usize
+fn next_near(keys: &HeadKeys, from: usize, least: Option<Sought>) -> usize
     requires { from ≤ length keys.now }
     ensures within { (from ≤ result) × (result ≤ length keys.now) }
     ensures passed { MatchOption least.entry (result ≡ from) (λ s. (k : ℕ) → from ≤ k → k < result
         → s.key < slice_index keys.now k) }
 {
-    let Some(sought) = least else {
-        return from;
-    };
-    for at in from..keys.len() {
-        if keys[at] <= sought.key {
-            return at;
-        }
+    match least {
+        Some(sought) => keys.next_within(from, sought.key),
+        None => from,
     }
-    keys.len()
 }
 
 /// Notes the places of the inputs that have the least word at their heads, in one scan of their
 /// keys, and answers how many they are; none where no input stands at a word.
-fn note_heads(inputs: &[Input], keys: &[u64], found: &mut [usize]) -> Option<usize>
+fn note_heads(inputs: &[Input], keys: &HeadKeys, found: &mut [usize]) -> Option<usize>
     requires keys { keys.now ≡ keys_of inputs.now }
     requires found { length inputs.now ≤ length found.old }
     ensures { NotesAs (heads_of inputs.now) found.new result }
@@ -181,7 +174,7 @@ fn note_heads(inputs: &[Input], keys: &[u64], found: &mut [usize]) -> Option<usi
     };
     let mut i = 0;
     while i < inputs.len() {
-        noted = note(noted, &inputs[i], keys[i], i, found);
+        noted = note(noted, &inputs[i], keys.at(i), i, found);
         i = next_near(keys, i + 1, noted.least);
     }
     match noted.least {
@@ -191,7 +184,7 @@ fn note_heads(inputs: &[Input], keys: &[u64], found: &mut [usize]) -> Option<usi
 }
 
 /// Passes a word: each input that has it at its head. Their next ones are not read yet.
-fn pass_noted(inputs: &mut [Input], keys: &mut [u64], found: &[usize])
+fn pass_noted(inputs: &mut [Input], keys: &mut HeadKeys, found: &[usize])
     requires noted { AreNoted (heads_of inputs.old) found.now }
     requires keys { keys.old ≡ keys_of inputs.old }
     ensures passed { (w : List ℕ)
@@ -211,37 +204,8 @@ fn pass_noted(inputs: &mut [Input], keys: &mut [u64], found: &[usize])
         prove!(within);
         let input = &mut inputs[i];
         input.pass();
-        keys[i] = input.key;
+        keys.set(i, input.key);
     }
-}
-
-/// Reads the next word of an input whose last one was passed, as its key says.
-fn read_head<D: Disk>(disk: &mut D, input: &mut Input, key: &mut u64) -> Result<(), ReadFault>
-    requires inside { IsWithin (length (D.content disk.old)) input.old }
-    requires key { key.old ≡ input.old.key }
-    ensures extent { input.new.extent ≡ input.old.extent }
-    ensures source { source_of input.new.lists ≡ source_of input.old.lists }
-    ensures read { OnOk result (IsRead input.new) }
-    ensures passed { OnOk result (passed_in input.new ≡ passed_in input.old) }
-    ensures holds { D.honest → Holds (D.content disk.old) input.old
-        → OnOk result (Holds (D.content disk.old) input.new) }
-    ensures undamaged { D.honest → (s : Stored) (kind : ℕ)
-        → SegmentSpells (extent_bytes (D.content disk.old) input.old.extent) s.documents kind
-        → AreListsOf (source_of input.old.lists) kind s.documents s.dead
-        → Holds (D.content disk.old) input.old → IfErr result IsNoDamage }
-    ensures roomy { D.honest → Holds (D.content disk.old) input.old
-        → IsRoomy (D.content disk.old) input.old → IfErr result IsNoRefusal }
-    ensures rooms { (bytes : List ℕ) → IsRoomy bytes input.old
-        → OnOk result (IsRoomy bytes input.new) }
-    ensures key { key.new ≡ input.new.key }
-    ensures left { ReadsDisk D.Disk CountsReads result disk.old disk.new }
-{
-    if *key != UNREAD {
-        return Ok(());
-    }
-    let read = input.read(disk);
-    *key = input.key;
-    read
 }
 
 /// Reads the next word of each input whose last one was passed, so that each stands at a word, or
@@ -249,7 +213,7 @@ fn read_head<D: Disk>(disk: &mut D, input: &mut Input, key: &mut u64) -> Result<
 fn read_heads<D: Disk>(
     disk: &mut D,
     inputs: &mut [Input],
-    keys: &mut [u64],
+    keys: &mut HeadKeys,
 ) -> Result<(), ReadFault>
     requires within { All (IsWithin (length (D.content disk.old))) inputs.old }
     requires keys { keys.old ≡ keys_of inputs.old }
@@ -270,9 +234,15 @@ fn read_heads<D: Disk>(
     ensures keys { keys.new ≡ keys_of inputs.new }
     ensures left { ReadsDisk D.Disk CountsReads result disk.old disk.new }
 {
-    for i in 0..inputs.len() {
-        read_head(disk, &mut inputs[i], &mut keys[i])?;
+    let mut i = keys.next_within(0, UNREAD);
+    while i < inputs.len() {
+        let input = &mut inputs[i];
+        let read = input.read(disk);
+        keys.set(i, input.key);
+        read?;
+        i = keys.next_within(i + 1, UNREAD);
     }
+    keys.raise_floors();
     Ok(())
 }
 
@@ -324,7 +294,7 @@ fn join_noted<D: Disk>(
 fn next_heads<D: Disk>(
     disk: &mut D,
     inputs: &mut [Input],
-    keys: &mut [u64],
+    keys: &mut HeadKeys,
     found: &mut [usize],
 ) -> Result<Option<usize>, ReadFault>
     requires within { All (IsWithin (length (D.content disk.old))) inputs.old }
@@ -357,7 +327,7 @@ fn next_heads<D: Disk>(
 pub(crate) fn next_word<D: Disk>(
     disk: &mut D,
     inputs: &mut [Input],
-    keys: &mut [u64],
+    keys: &mut HeadKeys,
     found: &mut [usize],
     list: &mut WordList,
 ) -> Result<Option<usize>, ReadFault>
@@ -407,7 +377,7 @@ pub(crate) fn next_word<D: Disk>(
 
 /// Goes back before the first word of each input, and takes room for the longest word of each that
 /// was passed.
-pub(crate) fn restart_all(inputs: &mut [Input], keys: &mut [u64]) -> Result<(), AllocError>
+pub(crate) fn restart_all(inputs: &mut [Input], keys: &mut HeadKeys) -> Result<(), AllocError>
     requires { keys.old ≡ keys_of inputs.old }
     ensures before { OnOk result (All IsBefore inputs.new) }
     ensures roomy { (bytes : List ℕ) → All (Holds bytes) inputs.old → All HasEnded inputs.old
@@ -419,7 +389,7 @@ pub(crate) fn restart_all(inputs: &mut [Input], keys: &mut [u64]) -> Result<(), 
     for i in 0..inputs.len() {
         let input = &mut inputs[i];
         let room = input.restart();
-        keys[i] = input.key;
+        keys.set(i, input.key);
         room?;
     }
     Ok(())

@@ -5,7 +5,7 @@ ghost use Rattle.std.specs.List.Sorted.{IsStrictlyIncreasing};
 
 use crate::told::{Fault, Told};
 use crate::words::Words;
-use pk_digits::{LeadingDigits, SPACED_BYTES};
+use pk_digits::{FourDigits, LeadingDigits, SPACED_BYTES};
 use pk_keys::{around, keep, key};
 use pk_lanes::{ascending, differ, pack, restore, unpack, unpack_sums, width};
 use pk_sets::{both, both_gallop, both_merge, either, is_rising, without};
@@ -34,10 +34,11 @@ pub(crate) fn tell_taken(words: &mut Words<'_>, told: &mut Told) -> Result<(), F
 
 /// Numbers in decimal, each behind a space, as they are written one after the other.
 pub(crate) fn tell_digits(words: &mut Words<'_>, told: &mut Told) -> Result<(), Fault> {
+    let fours = FourDigits::new(words.alloc())?;
     let mut leading = LeadingDigits::new();
     for number in &words.numbers()? {
         let mut out = [FILLING; SPACED_BYTES];
-        let end = leading.write_spaced(*number, &mut out);
+        let end = leading.write_spaced(&fours, *number, &mut out);
         told.bytes(&out[..end]);
     }
     Ok(())

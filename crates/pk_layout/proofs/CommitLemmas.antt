@@ -24,7 +24,7 @@ use Rattle.pk_space.specs.Places.{FullAs, PlacedAs}
 use Rattle.pk_state.specs.Committed.{Committed, Stored}
 use Rattle.pk_state.specs.Kept.{AreEntries, claims_of, table_claims}
 use Rattle.pk_state.specs.Writing.{new_entry, new_stored, next_body, replaced, segment_writes, table_writes, with_table}
-use Rattle.pk_layout.specs.declared.committing.Built.{Built}
+use Rattle.pk_segment.specs.declared.building.Built.{Built}
 use Rattle.pk_layout.specs.declared.committing.CommitPlan.{CommitPlan}
 use Rattle.pk_layout.specs.declared.fault.LayoutFault.{LayoutFault}
 use Rattle.pk_layout.specs.declared.fault.LayoutFault.TheVariants.{TooLarge, Full, Damaged, Memory}

@@ -11,8 +11,8 @@ use Rattle.pk_posting.specs.Posting.{IsPosting}
 use Rattle.pk_replace.specs.Claims.{claim_of}
 use Rattle.pk_space.specs.Places.{FullAs, PlacedAs}
 use Rattle.pk_state.specs.Writing.{new_entry, replaced}
+use Rattle.pk_segment.specs.declared.building.Built.{Built}
 use Rattle.pk_layout.specs.declared.change.Run.{Run}
-use Rattle.pk_layout.specs.declared.committing.Built.{Built}
 use Rattle.pk_layout.specs.declared.fault.LayoutFault.{LayoutFault}
 use Rattle.pk_layout.specs.declared.fault.LayoutFault.TheVariants.{Full, Damaged, Memory}
 use Rattle.pk_layout.specs.declared.merging.NewSegment.{NewSegment}

@@ -31,7 +31,7 @@ use Rattle.pk_state.specs.Committed.{Stored, Committed}
 use Rattle.pk_state.specs.Kept.{AreEntries, all_claims, table_claims}
 use Rattle.pk_state.specs.Writing.{is_too_large, new_entry, new_stored, next_body, replaced}
 use Rattle.pk_state.specs.Writing.{table_writes, with_table, written_kind}
-use Rattle.pk_layout.specs.declared.committing.Built.{Built}
+use Rattle.pk_segment.specs.declared.building.Built.{Built}
 use Rattle.pk_layout.specs.declared.committing.CommitPlan.{CommitPlan}
 use Rattle.pk_layout.specs.declared.fault.LayoutFault.{LayoutFault}
 use Rattle.pk_layout.specs.declared.fault.LayoutFault.TheVariants.{TooLarge, Full, Damaged, Memory}

@@ -1,4 +1,3 @@
 -- The definitions of the crate.
 pub mod Live
-pub mod Begun
 pub mod InRow

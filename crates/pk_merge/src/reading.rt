@@ -29,7 +29,8 @@ ghost use Rattle.pk_merge.specs.Merging.{CountsMerge};
 ghost use Rattle.pk_merge.specs.ReadAll.{ReadsAllAs};
 ghost use Rattle.pk_merge.specs.Said.{AreAllSaid};
 ghost use Rattle.pk_model.specs.Collection.{Doc, numbers_of};
-ghost use Rattle.pk_segment.specs.OnlyRead.{ReadsDisk, ReadsSource};
+ghost use Rattle.pk_posting.specs.Frames.{ReadsSource};
+ghost use Rattle.pk_segment.specs.OnlyRead.{ReadsDisk};
 ghost use Rattle.pk_segment.specs.Spelling.{SegmentSpells};
 ghost use Rattle.pk_state.specs.Committed.{Stored, all_in};
 

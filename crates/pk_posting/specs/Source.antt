@@ -1,6 +1,6 @@
 -- What a call of `bytes` leaves of a source, and how a source counts its failures.
-use Rattle.std.specs.Prelude.{◌≡◌, ◌≤◌, ◌<◌, ◌+◌, ◌-◌, ◌^◌, ◌⊎◌}
-use Rattle.std.specs.Prelude.{ℕ, List, length, min, Result, OnOk, IsErrOf}
+use Rattle.std.specs.Prelude.{◌≡◌, ◌≤◌, ◌<◌, ◌+◌, ◌-◌, ◌^◌, ◌⊎◌, ◌↔◌}
+use Rattle.std.specs.Prelude.{ℕ, List, length, min, Result, IsOk, OnOk, IsErrOf}
 use Rattle.pk_posting.specs.declared.source.SourceFault.{SourceFault}
 use Rattle.pk_posting.specs.declared.source.SourceFault.TheVariants.{Damaged, Disk}
 
@@ -30,19 +30,8 @@ pub record IsAskedOnce {S T : Type 0} (honest : Type 0) (content : S → List �
   pub faults : CountsFaults (failures old) (failures new) result
   pub not_full : OnOk result (failures new < full_count)
 
--- what a call leaves of the source that it read
-pub record IsLeft {S T : Type 0} (honest : Type 0) (content : S → List ℕ) (failures : S → ℕ)
-    (keeps : S → S → Type 0) (result : Result T SourceFault) (old new : S) : Type 0 where
-  pub same : honest → content new ≡ content old
-  pub size : length (content new) ≡ length (content old)
-  pub kept : keeps old new
-  pub faults : CountsFaults (failures old) (failures new) result
-
--- what a call leaves of the source that it asked at most `most` times
-pub record IsRead {S T : Type 0} (honest : Type 0) (content : S → List ℕ) (asked failures : S → ℕ)
-    (keeps : S → S → Type 0) (most : ℕ) (result : Result T SourceFault) (old new : S) : Type 0 where
-  pub same : honest → content new ≡ content old
-  pub size : length (content new) ≡ length (content old)
-  pub asks : asked new ≤ asked old + most
-  pub kept : keeps old new
-  pub faults : CountsFaults (failures old) (failures new) result
+-- what a call answers that wants the `n` bytes at a place of so many bytes: they are there, or it is
+-- Damaged
+pub record AnswersWithin {T : Type 0} (at n size : ℕ) (result : Result T SourceFault) : Type 0 where
+  pub inside : IsOk result → at + n ≤ size
+  pub damaged : IsErrOf result Damaged ↔ (size < at + n)

@@ -6,7 +6,7 @@ ghost use Rattle.std.specs.Prelude.{IfOk, IfErr, IsErr, IsErrOf, IsOk, MatchResu
 ghost use Rattle.pk_posting.specs.Posting.{IsRightBlock, Rises, Spells, base};
 ghost use Rattle.pk_posting.specs.Parts.{IsWithin, LiesIn, bytes_at};
 ghost use Rattle.pk_posting.specs.Reading.{Breaks};
-ghost use Rattle.pk_posting.specs.Source.{IsRead};
+ghost use Rattle.pk_posting.specs.Frames.{IsRead};
 ghost use Rattle.pk_posting.specs.Limits.{longest_list};
 
 use crate::decoding::{ends_with, is_padded, is_right_block, least_length};
@@ -67,8 +67,7 @@ impl ListDecoder {
         ensures place { IfOk result (λ d. place_of d ≡ place) }
         ensures none { IfOk result (λ d. blocks_given d ≡ 0) }
         ensures last { IfOk result (λ d. last_given d ≡ 0) }
-        ensures left { IsRead S.honest S.content S.asked S.failures S.keeps
-            1 result source.old source.new }
+        ensures left { IsRead S.ByteSource 1 result source.old source.new }
     {
         if u64::from(source.len()) < u64::from(place.at) + u64::from(place.bytes) {
             return Err(SourceFault::Damaged);
@@ -126,8 +125,7 @@ impl ListDecoder {
         ensures tail { tail_count self.new ≡ tail_count self.old }
         ensures place { place_of self.new ≡ place_of self.old }
         ensures stays { IsErr result → self.new ≡ self.old }
-        ensures left { IsRead S.honest S.content S.asked S.failures S.keeps
-            3 result source.old source.new }
+        ensures left { IsRead S.ByteSource 3 result source.old source.new }
     {
         if self.given >= self.blocks() {
             return Err(SourceFault::Damaged);
@@ -174,8 +172,7 @@ impl ListDecoder {
             → slice_index (last_given self.now ∷ xs.new) i < slice_index xs.new i) }
         ensures count { IfOk result (λ n. n ≡ tail_count self.now) }
         ensures there { IsOk result → blocks_given self.now ≡ blocks_of self.now }
-        ensures left { IsRead S.honest S.content S.asked S.failures S.keeps
-            1 result source.old source.new }
+        ensures left { IsRead S.ByteSource 1 result source.old source.new }
     {
         if self.given < self.blocks() {
             return Err(SourceFault::Damaged);
@@ -200,8 +197,7 @@ impl ListDecoder {
             → Breaks (bytes_at (S.content source.old) (place_of self.now)) (blocks_of self.now)
             (blocks_given self.now) self.now.at }
         ensures inside { IfOk result (λ r. r.at ≤ self.now.place.bytes) }
-        ensures left { IsRead S.honest S.content S.asked S.failures S.keeps
-            1 result source.old source.new }
+        ensures left { IsRead S.ByteSource 1 result source.old source.new }
     {
         if self.given % 16 != 0 {
             return Ok(BlockStart {
@@ -228,8 +224,7 @@ impl ListDecoder {
             → Breaks (bytes_at (S.content source.old) (place_of self.now)) (blocks_of self.now)
             (blocks_given self.now) self.now.at }
         ensures inside { IsOk result → self.now.at + 16 ≤ self.now.place.bytes }
-        ensures left { IsRead S.honest S.content S.asked S.failures S.keeps
-            1 result source.old source.new }
+        ensures left { IsRead S.ByteSource 1 result source.old source.new }
     {
         if self.place.bytes - self.at < 16 {
             return Err(SourceFault::Damaged);
@@ -260,8 +255,7 @@ impl ListDecoder {
             → IsEntry (bytes_at (S.content source.old) (place_of self.now)) (blocks_of self.now)
             (blocks_given self.now) at xs.now
             → IfErr result (λ e. e ≡ SourceFault.Disk) }
-        ensures left { IsRead S.honest S.content S.asked S.failures S.keeps
-            1 result source.old source.new }
+        ensures left { IsRead S.ByteSource 1 result source.old source.new }
     {
         let base = 4 + 20 * self.blocks() as usize;
         let entry = source.bytes(self.place.at + (4 + 20 * self.given), 20)?;
@@ -292,8 +286,7 @@ fn right_in<S: ByteSource>(
         → IsRightBlock (bytes_at (S.content source.old) place) packed.at packed.width packed.seed ys
         → MatchResult result (λ _. xs.new ≡ ys) (λ e. e ≡ SourceFault.Disk) }
     ensures rises { IsOk result → Rises packed.seed xs.new }
-    ensures left { IsRead S.honest S.content S.asked S.failures S.keeps
-        1 result source.old source.new }
+    ensures left { IsRead S.ByteSource 1 result source.old source.new }
 {
     let stretch = source.bytes(place.at + packed.at, 16 * packed.width)?;
     unpack_sums(stretch, packed.width, &packed.seed, xs);

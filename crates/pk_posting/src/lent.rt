@@ -4,7 +4,7 @@ ghost use Rattle.std.specs.Prelude.{◌/◌, ◌≡◌, ◌+◌, ◌*◌, ◌-�
 ghost use Rattle.std.specs.Prelude.{ℕ, length, slice_index, IfOk, IfErr, IsOk};
 ghost use Rattle.pk_posting.specs.Posting.{word};
 ghost use Rattle.pk_posting.specs.Parts.{EntryWords, LiesIn, bytes_at};
-ghost use Rattle.pk_posting.specs.Source.{IsRead};
+ghost use Rattle.pk_posting.specs.Frames.{IsRead};
 ghost use Rattle.pk_posting.specs.Limits.{longest_list};
 
 use crate::fields::{ListPlace, word_at};
@@ -21,8 +21,7 @@ pub(crate) fn word_in<S: ByteSource>(
         (λ n. n ≡ word (bytes_at (S.content source.old) place) at) }
     ensures fault { at + 4 ≤ place.bytes → IfErr result (λ e. e ≡ SourceFault.Disk) }
     ensures inside { IsOk result → at + 4 ≤ place.bytes }
-    ensures left { IsRead S.honest S.content S.asked S.failures S.keeps
-        1 result source.old source.new }
+    ensures left { IsRead S.ByteSource 1 result source.old source.new }
 {
     if u64::from(place.bytes) < u64::from(at) + 4 {
         return Err(SourceFault::Damaged);
@@ -42,8 +41,7 @@ pub(crate) fn byte_in<S: ByteSource>(
     ensures value { S.honest → IfOk result
         (λ n. n ≡ slice_index (bytes_at (S.content source.old) place) at) }
     ensures fault { IfErr result (λ e. e ≡ SourceFault.Disk) }
-    ensures left { IsRead S.honest S.content S.asked S.failures S.keeps
-        1 result source.old source.new }
+    ensures left { IsRead S.ByteSource 1 result source.old source.new }
 {
     let stretch = source.bytes(place.at + at, 1)?;
     Ok(stretch[0])
@@ -65,8 +63,7 @@ pub(crate) fn words_in<S: ByteSource>(
     ensures value { S.honest → IfOk result
         (EntryWords (bytes_at (S.content source.old) place) k from to) }
     ensures fault { IfErr result (λ e. e ≡ SourceFault.Disk) }
-    ensures left { IsRead S.honest S.content S.asked S.failures S.keeps
-        1 result source.old source.new }
+    ensures left { IsRead S.ByteSource 1 result source.old source.new }
 {
     let at = 20 * k + 4 * from - 12;
     let stretch = source.bytes(place.at + at, 4 * (to - from))?;

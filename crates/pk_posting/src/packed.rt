@@ -4,7 +4,7 @@ ghost use Rattle.std.specs.Prelude.{◌≡◌, ◌+◌, ◌*◌, ◌-◌, ◌%�
 ghost use Rattle.std.specs.Prelude.{ℕ, List, length, IfOk, IfErr, OnOk, MatchResult};
 ghost use Rattle.pk_posting.specs.Reading.{IsRestored};
 ghost use Rattle.pk_posting.specs.Parts.{Fits, HasShape, IsPackedAt, IsWithin, LiesIn, bytes_at};
-ghost use Rattle.pk_posting.specs.Source.{IsRead};
+ghost use Rattle.pk_posting.specs.Frames.{IsRead};
 
 use crate::fields::{ListPlace, Shape};
 use crate::lent::words_in;
@@ -38,8 +38,7 @@ pub(crate) fn packed_in<S: ByteSource>(
         (IsPackedAt (bytes_at (S.content source.old) place) shape.blocks k ys)
         (λ e. e ≡ SourceFault.Disk) }
     ensures inside { IfOk result (IsWithin place.bytes) }
-    ensures left { IsRead S.honest S.content S.asked S.failures S.keeps
-        1 result source.old source.new }
+    ensures left { IsRead S.ByteSource 1 result source.old source.new }
 {
     let from = 4u32.saturating_sub(4 * k);
     let to = last_word(k, shape.blocks);
@@ -100,8 +99,7 @@ pub(crate) fn unpack_in<S: ByteSource>(
     ensures value { S.honest → OnOk result (IsRestored (bytes_at (S.content source.old) place)
         packed.at packed.width packed.seed xs.new) }
     ensures fault { IfErr result (λ e. e ≡ SourceFault.Disk) }
-    ensures left { IsRead S.honest S.content S.asked S.failures S.keeps
-        1 result source.old source.new }
+    ensures left { IsRead S.ByteSource 1 result source.old source.new }
 {
     let stretch = source.bytes(place.at + packed.at, 16 * packed.width)?;
     unpack_sums(stretch, packed.width, &packed.seed, xs);

@@ -6,7 +6,7 @@ ghost use Rattle.std.specs.Prelude.{IfOk, IfErr, IsOk, IsTrue, MatchResult, OnOk
 ghost use Rattle.pk_posting.specs.Posting.{Spells, base, block, tail_place, word};
 ghost use Rattle.pk_posting.specs.Tails.{Climbs, IsTail};
 ghost use Rattle.pk_posting.specs.Parts.{Fits, HasShape, LiesIn, bytes_at};
-ghost use Rattle.pk_posting.specs.Source.{IsRead};
+ghost use Rattle.pk_posting.specs.Frames.{IsRead};
 ghost use Rattle.pk_posting.specs.Limits.{longest_list};
 
 use crate::fields::{LONGEST_LIST, ListPlace, Shape};
@@ -32,8 +32,7 @@ impl Shape {
             (λ e. e ≡ SourceFault.Disk) }
         ensures fits { IfOk result (λ shape. Fits shape place) }
         ensures lies { IsOk result → LiesIn place (length (S.content source.old)) }
-        ensures left { IsRead S.honest S.content S.asked S.failures S.keeps
-            4 result source.old source.new }
+        ensures left { IsRead S.ByteSource 4 result source.old source.new }
     {
         if u64::from(source.len()) < u64::from(place.at) + u64::from(place.bytes) {
             return Err(SourceFault::Damaged);
@@ -70,8 +69,7 @@ pub fn block_in<S: ByteSource>(
     ensures rises { IsOk result → (i : ℕ) → i < 127
         → slice_index xs.new i < slice_index xs.new (i + 1) }
     ensures there { IsOk result → k < shape.blocks }
-    ensures left { IsRead S.honest S.content S.asked S.failures S.keeps
-        2 result source.old source.new }
+    ensures left { IsRead S.ByteSource 2 result source.old source.new }
 {
     if k >= shape.blocks {
         return Err(SourceFault::Damaged);
@@ -102,8 +100,7 @@ pub fn tail_in<S: ByteSource>(
     ensures count { IfOk result (λ n. n ≡ shape.count % 128) }
     ensures rises { IfOk result (λ n. (i : ℕ) → i < n
         → slice_index (0 ∷ xs.new) i < slice_index xs.new i) }
-    ensures left { IsRead S.honest S.content S.asked S.failures S.keeps
-        2 result source.old source.new }
+    ensures left { IsRead S.ByteSource 2 result source.old source.new }
 {
     let count = (shape.count % 128) as usize;
     if count == 0 {
@@ -130,8 +127,7 @@ pub fn last_in<S: ByteSource>(
         → MatchResult result (λ n. n ≡ slice_index ys (128 * k + 127))
         (λ e. e ≡ SourceFault.Disk) }
     ensures fault { IfErr result (λ e. e ≡ SourceFault.Disk) }
-    ensures left { IsRead S.honest S.content S.asked S.failures S.keeps
-        1 result source.old source.new }
+    ensures left { IsRead S.ByteSource 1 result source.old source.new }
 {
     let last = word_in(source, place, 20 * k + 20)?;
     Ok(last)
@@ -151,8 +147,7 @@ fn tail_place_in<S: ByteSource>(
         (λ tail. tail ≡ tail_place (bytes_at (S.content source.old) place) blocks)
         (λ e. e ≡ SourceFault.Disk) }
     ensures inside { IfOk result (λ tail. (base blocks ≤ tail) × (tail ≤ place.bytes)) }
-    ensures left { IsRead S.honest S.content S.asked S.failures S.keeps
-        3 result source.old source.new }
+    ensures left { IsRead S.ByteSource 3 result source.old source.new }
 {
     let base = 4 + 20 * blocks;
     if place.bytes < base {
@@ -192,8 +187,7 @@ fn number_before<S: ByteSource>(
     ensures some { S.honest → 0 < blocks
         → IfOk result (λ n. n ≡ word (bytes_at (S.content source.old) place) (20 * blocks)) }
     ensures fault { IfErr result (λ e. e ≡ SourceFault.Disk) }
-    ensures left { IsRead S.honest S.content S.asked S.failures S.keeps
-        1 result source.old source.new }
+    ensures left { IsRead S.ByteSource 1 result source.old source.new }
 {
     if blocks == 0 {
         return Ok(0);
@@ -219,8 +213,7 @@ pub(crate) fn read_tail_in<S: ByteSource>(
         → IsTail (bytes_at (S.content source.old) place) tail before count ys
         → MatchResult result (λ _. take count xs.new ≡ ys) (λ e. e ≡ SourceFault.Disk) }
     ensures climbs { IsOk result → Climbs before (take count xs.new) }
-    ensures left { IsRead S.honest S.content S.asked S.failures S.keeps
-        1 result source.old source.new }
+    ensures left { IsRead S.ByteSource 1 result source.old source.new }
 {
     if place.bytes - tail > LONGEST_TAIL {
         return Err(SourceFault::Damaged);

@@ -3,9 +3,9 @@ ghost use Rattle.std.specs.Prelude.{◌≡◌, ◌≤◌, ◌<◌, [], List};
 ghost use Rattle.std.specs.Prelude.{IfErr, IfOk, IfSome, IsTrue, length, vec_len};
 ghost use Rattle.pk_filter.specs.Filter.{HasAll};
 ghost use Rattle.pk_model.specs.Collection.{Doc};
+ghost use Rattle.pk_posting.specs.Frames.{ReadsSource};
 ghost use Rattle.pk_segment.specs.Indexed.{items_of};
 ghost use Rattle.pk_segment.specs.Listing.{dictionary_place};
-ghost use Rattle.pk_segment.specs.OnlyRead.{ReadsSource};
 ghost use Rattle.pk_segment.specs.Reading.{CountsReads};
 ghost use Rattle.pk_segment.specs.Spelling.{IndexSpells};
 

@@ -1,11 +1,13 @@
-//! What finds keep of the dictionaries of segments.
+//! What finds keep: of the dictionaries of segments, and where they work.
 
 use crate::filters::SegmentFilters;
 use crate::pivots::PivotTables;
+use crate::planned::Room;
 use std::alloc::Global;
 
 /// Tables by which words are looked up, kept from find to find: the pivots of the dictionaries of
-/// the first large segments, and filters of the words of small ones.
+/// the first large segments, and filters of the words of small ones. With them is kept the memory
+/// that a find took for the numbers of lists, where it is not much.
 ///
 /// The filters are believed: let them agree with the open segments, then they do so after a find
 /// too; new ones do.
@@ -13,6 +15,7 @@ use std::alloc::Global;
 pub struct FindTables {
     pub(crate) pivots: PivotTables,
     pub(crate) filters: SegmentFilters,
+    pub(crate) room: Room,
 }
 
 impl FindTables {
@@ -26,6 +29,7 @@ impl FindTables {
         FindTables {
             pivots: PivotTables::new(),
             filters: SegmentFilters::new(alloc),
+            room: Room::new(alloc),
         }
     }
 }

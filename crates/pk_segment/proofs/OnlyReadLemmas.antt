@@ -5,18 +5,20 @@ use Rattle.std.proofs.lemmas.Result.{err_from_is_err_and}
 use Rattle.pk_disk.specs.declared.disk.Disk.{Ghosts as DiskGhosts}
 use Rattle.pk_disk.proofs.FrameLemmas.{keeps_disk_none, keeps_disk_then}
 use Rattle.pk_posting.specs.declared.source.ByteSource.{Ghosts as SourceGhosts}
+use Rattle.pk_posting.specs.Frames.{ReadsSource}
+use Rattle.pk_posting.proofs.SourceLemmas.{answered, answered_then, source_as}
 use Rattle.pk_segment.specs.declared.fault.ReadFault.{ReadFault}
 use Rattle.pk_segment.specs.declared.fault.ReadFault.TheVariants.{Damaged, Disk, Memory}
-use Rattle.pk_segment.specs.OnlyRead.{ReadsDisk, ReadsSource}
+use Rattle.pk_segment.specs.OnlyRead.{ReadsDisk}
 use Rattle.pk_segment.specs.Reading.{CountsReads}
 
 -- a count that did not rise, with an answer
-counts_none : {T : Type 0} {v : T} (n : ℕ) → CountsReads n n (Ok v)
-counts_none n = record {
-  later = omega arith;
-  ok = refl;
-  damaged = λ e. refl;
-  memory = λ e. refl;
+pub counts_same : {T : Type 0} {v : T} {before now : ℕ} → now ≡ before → CountsReads before now (Ok v)
+counts_same same = record {
+  later = omega (arith, same);
+  ok = same;
+  damaged = λ e. same;
+  memory = λ e. same;
   disk = λ e. absurd (cc);
 }
 
@@ -37,7 +39,7 @@ counts_still {result = result} counts other = record {
 -- a source that was not read
 pub source_none : {S T : Type 0} {s : SourceGhosts S} {v : T} {a : S}
     → s.keeps a a → ReadsSource s CountsReads (Ok v) a a
-source_none kept = record { same = λ h. refl; size = refl; kept = kept; faults = counts_none _ }
+source_none kept = record { same = λ h. refl; size = refl; kept = kept; faults = counts_same refl }
 
 -- a call after one that was answered
 pub source_then : {S T U E : Type 0} {s : SourceGhosts S} {counts : ℕ → ℕ → Result T E → Type 0}
@@ -45,23 +47,13 @@ pub source_then : {S T U E : Type 0} {s : SourceGhosts S} {counts : ℕ → ℕ 
     → ((x y z : S) → s.keeps x y → s.keeps y z → s.keeps x z)
     → ReadsSource s CountsReads (Ok v) a b → ReadsSource s counts result b c
     → ReadsSource s counts result a c
-source_then {s = s} {counts = counts} {result = result} {c = c} keeps_then one two = record {
-  same = λ h. two.same h ∙ one.same h;
-  size = two.size ∙ one.size;
-  kept = keeps_then _ _ _ one.kept two.kept;
-  faults = subst (λ (n : ℕ). counts n (s.failures c) result) one.faults.ok two.faults;
-}
+source_then keeps_then one two = answered_then keeps_then (answered one one.faults.ok) two
 
 -- an answer after a call that was answered, with nothing read since
 pub source_still : {S T U : Type 0} {s : SourceGhosts S} {v : U} {result : Result T ReadFault}
     {a b : S} → ReadsSource s CountsReads (Ok v) a b → (result ≡ Err Disk → ⊥)
     → ReadsSource s CountsReads result a b
-source_still left other = record {
-  same = left.same;
-  size = left.size;
-  kept = left.kept;
-  faults = counts_still left.faults other;
-}
+source_still left other = source_as left (counts_still left.faults other)
 
 -- a fault that is passed on
 pub source_fault : {S T U : Type 0} {s : SourceGhosts S} {fault : ReadFault}
@@ -71,23 +63,18 @@ pub source_fault : {S T U : Type 0} {s : SourceGhosts S} {fault : ReadFault}
 source_fault {fault = fault} {result = result} left is =
     let p = err_from_is_err_and result is in
     let e : result ≡ Err fault = p.1 ∙ ap Err p.2 in
-    rw e (record {
-      same = left.same;
-      size = left.size;
-      kept = left.kept;
-      faults = record {
-        later = left.faults.later;
-        ok = tt;
-        damaged = λ f. (let x : fault ≡ Damaged = cc in left.faults.damaged (ap Err x));
-        memory = λ f. (let x : fault ≡ Memory = cc in left.faults.memory (ap Err x));
-        disk = λ f. (let x : fault ≡ Disk = cc in left.faults.disk (ap Err x));
-      };
-    })
+    rw e (source_as left (record {
+      later = left.faults.later;
+      ok = tt;
+      damaged = λ f. (let x : fault ≡ Damaged = cc in left.faults.damaged (ap Err x));
+      memory = λ f. (let x : fault ≡ Memory = cc in left.faults.memory (ap Err x));
+      disk = λ f. (let x : fault ≡ Disk = cc in left.faults.disk (ap Err x));
+    }))
 
 -- a disk that was not read
 pub disk_none : {D T : Type 0} {d : DiskGhosts D} {v : T} {a : D}
     → ReadsDisk d CountsReads (Ok v) a a
-disk_none {d = d} {a = a} = record { keeps = keeps_disk_none d a; reads = counts_none _ }
+disk_none {d = d} {a = a} = record { keeps = keeps_disk_none d a; reads = counts_same refl }
 
 -- a call after one that was answered
 pub disk_then : {D T U E : Type 0} {d : DiskGhosts D} {counts : ℕ → ℕ → Result T E → Type 0}

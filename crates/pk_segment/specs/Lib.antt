@@ -1,5 +1,6 @@
 pub mod Ahead
 pub mod Building
+pub mod Built
 pub mod Directory
 pub mod Fields
 pub mod Indexed

@@ -6,6 +6,7 @@ ghost use Rattle.pk_model.specs.Collection.{numbers_of};
 ghost use Rattle.pk_model.specs.Views.{doc_of};
 ghost use Rattle.pk_index.specs.Index.{Keeps};
 ghost use Rattle.pk_segment.specs.Building.{BuiltAs, SizedAs};
+ghost use Rattle.pk_segment.specs.Built.{BuiltOpenAs};
 ghost use Rattle.pk_segment.specs.Spelling.{
   IsKind,
   directory,
@@ -22,6 +23,7 @@ use crate::front::{put_entry, put_header};
 use crate::header::Header;
 use crate::indexing::{IndexPlan, index_of};
 use crate::kind::PLAIN;
+use crate::segment::Segment;
 use pk_index::Index;
 use pk_model::Document;
 use pk_model::limits::MAX_SEGMENT_BYTES;
@@ -37,6 +39,15 @@ pub enum BuildFault {
     /// Memory was refused.
     #[error("memory")]
     Memory,
+}
+
+/// A segment that is built.
+#[derive(Drop)]
+pub struct Built {
+    /// Its bytes.
+    pub bytes: Vec<u8>,
+    /// It, open.
+    pub segment: Segment,
 }
 
 impl From<AllocError> for BuildFault {
@@ -79,25 +90,27 @@ pub fn build(alloc: Global, documents: &[Document], kind: u32) -> Result<Vec<u8>
         return build_plain(alloc, documents);
     }
     let index = index_of(alloc, documents)?;
-    build_indexed(alloc, documents, &index)
+    let built = build_indexed(alloc, documents, &index)?;
+    Ok(built.bytes)
 }
 
-/// The bytes of the segment of kind 2 of the documents, whose index is at hand. Its memory is taken
+/// The segment of kind 2 of the documents, whose index is at hand, and it open. Its memory is taken
 /// once; beside it stand the posting lists and the dictionary, until they are put into it.
 pub fn build_indexed(
     alloc: Global,
     documents: &[Document],
     index: &Index,
-) -> Result<Vec<u8>, BuildFault>
+) -> Result<Built, BuildFault>
     requires some { 0 < length documents.now }
     requires rising { IsStrictlyIncreasing (numbers_of (docs_of documents.now)) }
     requires least { All (λ d. 1 ≤ d.number.0) documents.now }
     requires index { Keeps index.now (docs_of documents.now) }
-    ensures { BuiltAs (docs_of documents.now) 2 result }
+    ensures { BuiltOpenAs (docs_of documents.now) result }
 {
     let plan = IndexPlan::of(alloc, documents, index)?;
+    let segment = plan.segment(documents);
     let bytes = plan.spell(alloc, documents)?;
-    Ok(bytes)
+    Ok(Built { bytes, segment })
 }
 
 // The bytes of the segment of kind 1.

@@ -7,21 +7,18 @@ ghost use Rattle.std.specs.Prelude.{
   ◌<◌,
   ◌+◌,
   ◌-◌,
-  ◌↔◌,
   length,
   take,
   drop,
-  min,
   IfErr,
-  IsOk,
-  IsErrOf,
   OnOk,
 };
 ghost use Rattle.pk_disk.proofs.FrameLemmas.{keeps_disk_none, keeps_disk_then};
 ghost use Rattle.pk_disk.specs.Frames.{KeepsDisk};
 ghost use Rattle.pk_disk.specs.Units.{extent_bytes, start_of};
+ghost use Rattle.pk_posting.specs.Frames.{AsksOnce};
 ghost use Rattle.pk_posting.specs.Limits.{most_lent};
-ghost use Rattle.pk_posting.specs.Source.{CountsFaults, full_count};
+ghost use Rattle.pk_posting.specs.Source.{AnswersWithin, CountsFaults, full_count};
 ghost use Rattle.pk_segment.specs.OnlyRead.{ReadsDisk};
 
 use pk_disk::{Disk, DiskFault, Extent, UNIT};
@@ -73,13 +70,9 @@ impl<'a, D: Disk> ExtentSource<'a, D> {
     #[tactic(auto, using(crate::proofs::Window::window))]
     fn fill(&mut self, at: u32, n: u32) -> Result<(), SourceFault>
         requires { n ≤ most_lent }
-        ensures same_reference { self.new.disk.ghost_name ≡ self.old.disk.ghost_name }
-        ensures left { ReadsDisk D.Disk CountsFaults result self.old.disk.now self.new.disk.now }
+        ensures left { AsksOnce ⟦<ExtentSource<'a, D> as ByteSource>⟧ result self.old self.new }
         ensures extent { self.new.extent ≡ self.old.extent }
-        ensures asked { self.new.asked ≡ min (self.old.asked + 1) full_count }
-        ensures not_full { OnOk result (D.failed_reads self.new.disk.now < full_count) }
-        ensures inside { IsOk result → at + n ≤ self.old.extent.bytes }
-        ensures damaged { IsErrOf result SourceFault.Damaged ↔ (self.old.extent.bytes < at + n) }
+        ensures within { AnswersWithin at n self.old.extent.bytes result }
         ensures value { D.honest → OnOk result (take n self.new.buffer
             ≡ take n (drop at (extent_bytes (D.content self.old.disk.now) self.old.extent))) }
     {

@@ -11,7 +11,7 @@ ghost use Rattle.std.specs.Prelude.{
   IsOk,
   IsErrOf,
 };
-ghost use Rattle.pk_posting.specs.Source.{IsRead};
+ghost use Rattle.pk_posting.specs.Frames.{IsRead};
 ghost use Rattle.pk_segment.specs.Fields.{IsHeader, header_field, is_sound, number_at};
 
 use crate::kind::PLAIN;
@@ -56,8 +56,7 @@ pub fn header_of<S: ByteSource>(source: &mut S) -> Result<Header, SourceFault>
     ensures value { S.honest → IfOk result (IsHeader (header_field (S.content source.old))) }
     ensures inside { IsOk result → 24 ≤ length (S.content source.old) }
     ensures damaged { IsErrOf result SourceFault.Damaged ↔ (length (S.content source.old) < 24) }
-    ensures left { IsRead S.honest S.content S.asked S.failures S.keeps
-        1 result source.old source.new }
+    ensures left { IsRead S.ByteSource 1 result source.old source.new }
 {
     let field = source.bytes(0, 24)?;
     Ok(Header {

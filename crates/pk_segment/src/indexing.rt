@@ -6,12 +6,14 @@ ghost use Rattle.pk_model.specs.Limits.{max_segment_bytes};
 ghost use Rattle.pk_index.specs.Index.{Keeps};
 ghost use Rattle.pk_index.specs.Terms.{AreRows};
 ghost use Rattle.pk_model.specs.Collection.{Doc, numbers_of};
+ghost use Rattle.pk_segment.specs.Placed.{IsIndexedOf};
 ghost use Rattle.pk_segment.specs.Planning.{IndexesAs, IsIndexPlan, PlansIndexAs, size_in};
 ghost use Rattle.pk_segment.specs.Spelling.{AreDocuments, SegmentSpells, docs_of, segment_length};
 
 use crate::building::{BuildFault, number_of, plain_size, put_front};
 use crate::header::Header;
 use crate::index_writer::IndexWriter;
+use crate::segment::Segment;
 use pk_index::{Index, Row, both_into};
 use pk_model::Document;
 use pk_model::limits::MAX_SEGMENT_BYTES;
@@ -102,6 +104,16 @@ impl IndexPlan {
             → (result ≡ segment_length docs 2) × (segment_length docs 2 ≤ max_segment_bytes) }
     {
         self.header.size()
+    }
+
+    /// The segment, open.
+    pub(crate) fn segment(&self, documents: &[Document]) -> Segment
+        requires { IsIndexPlan (docs_of documents.now) self.now }
+        ensures { IsIndexedOf result (docs_of documents.now) }
+    {
+        let first = number_of(&documents[0]);
+        let last = number_of(&documents[documents.len() - 1]);
+        Segment::of_header(self.header, first, last)
     }
 
     /// The bytes of the segment, in memory that is taken once.

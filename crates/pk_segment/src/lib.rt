@@ -52,7 +52,8 @@
 //! # What is written
 //!
 //! `build` cuts texts into words only where no index of them is at hand; `build_indexed` takes one
-//! (pk_index). The lengths of all lists are known before the segment's memory is taken, once.
+//! (pk_index), and answers the segment open too, by its header. The lengths of all lists are known
+//! before the segment's memory is taken, once.
 //!
 //! `IndexWriter` makes the index word by word, and then the header; `put_header` and `put_entry`
 //! write the bytes before the texts. A merge, which has no documents in memory, writes by them what
@@ -61,7 +62,7 @@
 //! Where the words are: `specs/Spelling` has the spelling, `specs/Indexed` the index behind the
 //! texts, `specs/Listing` what is answered of words, `specs/Planning` what is known before writing,
 //! `specs/Opened` and `specs/Reading` what the readers answer, `specs/Said` what any bytes say of
-//! words, `specs/OnlyRead` what readers leave of a source or a disk, `specs/Ahead` what is held of
+//! words, `specs/OnlyRead` what readers leave of a disk, `specs/Ahead` what is held of
 //! an extent that is read ahead, `specs/Directory` what a directory in memory says. Lemma pages:
 //! `SegmentLemmas` reads a spelling again, field by field, `DirectoryLemmas` a directory,
 //! `IndexLemmas` and `ListingLemmas` the index, `PlanLemmas` serves its writing, `ReadLemmas` and
@@ -86,7 +87,7 @@ mod stretch;
 
 pub use ahead::Ahead;
 pub use ahead_source::AheadSource;
-pub use building::{BuildFault, build, build_indexed, size_of};
+pub use building::{BuildFault, Built, build, build_indexed, size_of};
 pub use directory::{Directory, Entry};
 pub use extent::{ExtentSource, read_front};
 pub use fault::ReadFault;

@@ -3,10 +3,9 @@
 ghost use Rattle.std.specs.Prelude.{◌≡◌, ◌≤◌, ◌+◌, ◌*◌, [], List, length, Ok, IfOk};
 ghost use Rattle.pk_dict.specs.Entries.{items_from};
 ghost use Rattle.pk_model.specs.Collection.{Doc};
-ghost use Rattle.pk_posting.specs.Source.{IsRead};
+ghost use Rattle.pk_posting.specs.Frames.{IsRead, ReadsSource};
 ghost use Rattle.pk_posting.specs.Limits.{asks_for};
 ghost use Rattle.pk_segment.specs.Listing.{BegunAs, ListedAs, PlacedAs, TermsAs};
-ghost use Rattle.pk_segment.specs.OnlyRead.{ReadsSource};
 ghost use Rattle.pk_segment.specs.Opened.{IsSegmentOf};
 ghost use Rattle.pk_segment.specs.Reading.{CountsReads};
 ghost use Rattle.pk_segment.specs.Said.{dictionary_said, entries_said, lists_from};
@@ -26,8 +25,7 @@ impl Segment {
             → IsSegmentOf self.now docs → PlacedAs docs result }
         ensures said { S.honest → IfOk result
             (λ place. place ≡ dictionary_said (lists_from self.now) (S.content source.old)) }
-        ensures left { IsRead S.honest S.content S.asked S.failures S.keeps
-            1 result source.old source.new }
+        ensures left { IsRead S.ByteSource 1 result source.old source.new }
     {
         let header = header_of(source)?;
         let Some(at) = self.postings().checked_add(header.postings) else {

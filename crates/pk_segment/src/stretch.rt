@@ -13,7 +13,7 @@ ghost use Rattle.std.specs.Prelude.{
   IsErrOf,
 };
 ghost use Rattle.pk_posting.specs.Limits.{asks_for};
-ghost use Rattle.pk_segment.specs.OnlyRead.{ReadsSource};
+ghost use Rattle.pk_posting.specs.Frames.{ReadsSource};
 ghost use Rattle.pk_segment.specs.Reading.{CountsReads};
 
 use crate::fault::ReadFault;

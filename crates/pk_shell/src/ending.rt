@@ -22,7 +22,7 @@ pub enum ShellFault {
     Output,
     /// There were 2^40 reads, each of a byte at least. All whole lines that were read are answered.
     TooManyReads,
-    /// There was no memory for the two buffers. Nothing was read or written.
+    /// There was no memory for the buffers. Nothing was read or written.
     Memory,
 }
 

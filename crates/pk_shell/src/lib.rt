@@ -42,7 +42,7 @@
 //! | `ShellFault::Input` | a read failed | the replies to the whole lines read |
 //! | `ShellFault::Output` | a write failed or took no byte | a beginning of the replies |
 //! | `ShellFault::TooManyReads` | 2^40 bytes or more were read | those to the whole lines read |
-//! | `ShellFault::Memory` | its two buffers were not to be had | nothing, and nothing was read |
+//! | `ShellFault::Memory` | its buffers were not to be had | nothing, and nothing was read |
 //!
 //! [`serve_engine`] serves any [`Engine`], which says itself which replies are right: to what a line
 //! asks, and what of it is then (`replies`). Of one that only reads, a line that asks to change

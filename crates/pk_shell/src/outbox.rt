@@ -6,7 +6,7 @@ ghost use Rattle.std.specs.List.{flat_map};
 ghost use Rattle.pk_model.specs.Views.{numbers_in};
 ghost use Rattle.pk_shell.specs.ReplyText.{spaced};
 
-use pk_digits::{LeadingDigits, SPACED_BYTES};
+use pk_digits::{FourDigits, LeadingDigits, SPACED_BYTES};
 use pk_model::DocNo;
 use std::alloc::{AllocError, Global};
 use std::marker::Model;
@@ -21,6 +21,8 @@ pub struct Outbox {
     bytes: Vec<u8>,
     // How many of them wait.
     waiting: usize,
+    // By which numbers are written.
+    fours: FourDigits,
 }
 
 impl Model for Outbox {
@@ -43,6 +45,7 @@ impl Outbox {
         Ok(Outbox {
             bytes: vec![in alloc; 0; OUTBOX_BYTES]?,
             waiting: 0,
+            fours: FourDigits::new(alloc)?,
         })
     }
 
@@ -65,7 +68,7 @@ impl Outbox {
         ensures within { result ≤ length numbers.now }
         ensures filled { self.new ≡ self.old ++ flat_map spaced (numbers_in (take result numbers.now)) }
     {
-        let (filled, end) = write_numbers(numbers, &mut self.bytes, self.waiting);
+        let (filled, end) = write_numbers(&self.fours, numbers, &mut self.bytes, self.waiting);
         self.waiting = end;
         filled
     }
@@ -87,7 +90,12 @@ impl Outbox {
 
 /// Writes numbers, each in decimal behind a space, from `start` on, while there is room for the
 /// longest one; how many, and where they end.
-fn write_numbers(numbers: &[DocNo], out: &mut [u8], start: usize) -> (usize, usize)
+fn write_numbers(
+    fours: &FourDigits,
+    numbers: &[DocNo],
+    out: &mut [u8],
+    start: usize,
+) -> (usize, usize)
     requires { start ≤ length out.old }
     ensures within { result.0 ≤ length numbers.now }
     ensures room { result.1 ≤ length out.new }
@@ -99,7 +107,7 @@ fn write_numbers(numbers: &[DocNo], out: &mut [u8], start: usize) -> (usize, usi
     let mut written = 0;
     let mut end = start;
     while written < numbers.len() && out.len() - end >= SPACED_BYTES {
-        end += leading.write_spaced(numbers[written].0, &mut out[end..]);
+        end += leading.write_spaced(fours, numbers[written].0, &mut out[end..]);
         written += 1;
     }
     (written, end)

@@ -24,7 +24,7 @@ use Rattle.pk_state.specs.Committed.{Committed, Stored, collection_of, lists, li
 use Rattle.pk_state.specs.Writing.{after_merge, replaced, segment_writes, table_writes, with_table}
 use Rattle.pk_state.proofs.MergeLemmas.{collection_tabled, front_placed, live_merged, whole_tabled}
 use Rattle.pk_state.proofs.StateLemmas.{whole_merged}
-use Rattle.pk_store.specs.declared.volume.RunPlan.{RunPlan}
+use Rattle.pk_store.specs.declared.writing.RunPlan.{RunPlan}
 use Rattle.pk_store.specs.Carrying.{EndsAs}
 use Rattle.pk_store.specs.Losing.{LosesNone, committed_left, merged_left}
 use Rattle.pk_store.specs.Merging.{PlansRun}

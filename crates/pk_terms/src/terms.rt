@@ -3,7 +3,6 @@
 ghost use Rattle.std.specs.Prelude.{
   ◌≡◌,
   ◌<◌,
-  ◌≤◌,
   ◌^◌,
   ◌+◌,
   ◌++◌,
@@ -16,34 +15,36 @@ ghost use Rattle.std.specs.Prelude.{
   ◌↔◌,
   Contains,
   length,
-  map,
   slice_get,
   slice_index,
   replicate,
   MatchOption,
-  IfOk,
   OnErr,
   OnOk,
   Some,
   string_bytes,
 };
-ghost use Rattle.pk_terms.specs.Chains.{AreChained, hash_of};
+ghost use Rattle.pk_terms.specs.Fingerprints.{fingerprint_of};
+ghost use Rattle.pk_terms.specs.Slots.{HaveSlots};
 ghost use Rattle.pk_terms.specs.Table.{AreApart, IsPart, IsTable, hashes_of, words_in};
 
-use crate::chain::{chain_of, link};
-use crate::hash::hash_of;
+use crate::fingerprints::{SHORT_BYTES, fingerprint, hash_of};
+use crate::slots::{fill_slot, free_all, slot_of};
 use std::alloc::{AllocError, Global};
 use std::marker::Model;
 
-/// How many chains a table has at least, and so the least memory that it takes.
-const FEWEST_CHAINS: usize = 1024;
+/// How many slots a table has at least, and so the least memory that it takes: a power of two.
+const FEWEST_SLOTS: usize = 2048;
 
-/// A word's hash, and where it lies.
+/// How many words a table has at most, and how many bytes these have.
+const MOST: usize = u32::MAX as usize;
+
+/// A word's fingerprint, and where it lies.
 #[derive(Clone, Copy)]
 pub struct Entry {
-    hash: u32,
-    start: usize,
-    end: usize,
+    fingerprint: u64,
+    start: u32,
+    end: u32,
 }
 
 /// Words, each once.
@@ -53,10 +54,8 @@ pub struct Terms {
     text: String,
     /// The words in their order.
     entries: Vec<Entry>,
-    /// Of each word one more than the place of the one before it in its chain, and 0 for none.
-    nexts: Vec<u32>,
-    /// Of each chain the same of its last word. It is as long as `nexts`, so no place is too many.
-    heads: Vec<u32>,
+    /// By the words' hashes one more than their places; 0 in a free slot.
+    slots: Vec<u32>,
 }
 
 impl Model for Terms {
@@ -64,8 +63,7 @@ impl Model for Terms {
 
     ghost view = { λ t. words_in t.entries.items (string_bytes t.text) };
 
-    ghost invariant = { λ t.
-        IsTable t.entries.items (string_bytes t.text) t.nexts.items t.heads.items };
+    ghost invariant = { λ t. IsTable t.entries.items (string_bytes t.text) t.slots.items };
 }
 
 impl Terms {
@@ -76,8 +74,7 @@ impl Terms {
         Terms {
             text: String::new(alloc),
             entries: Vec::new(alloc),
-            nexts: Vec::new(alloc),
-            heads: Vec::new(alloc),
+            slots: Vec::new(alloc),
         }
     }
 
@@ -103,16 +100,10 @@ impl Terms {
             (Contains self.now word.now → ⊥)
             (λ place. slice_get self.now place ≡ Some word.now) }
     {
-        if self.heads.is_empty() {
+        if self.slots.is_empty() {
             return None;
         }
-        find_in(
-            &self.entries,
-            self.text.as_str(),
-            &self.nexts,
-            &self.heads,
-            word,
-        )
+        find_in(&self.entries, self.text.as_str(), &self.slots, word)
     }
 
     /// Puts a word behind the others.
@@ -122,16 +113,21 @@ impl Terms {
         ensures err { OnErr result (self.new ≡ self.old) }
     {
         let place = self.entries.len();
-        if place >= u32::MAX as usize {
+        let start = self.text.len();
+        let end = start.saturating_add(word.len());
+        if place >= MOST || end > MOST {
             return Err(AllocError);
         }
-        make_room(alloc, &self.entries, &mut self.nexts, &mut self.heads)?;
-        let start = self.text.len();
+        make_room(alloc, &self.entries, &mut self.slots)?;
+        self.entries.reserve(1)?;
         self.text.push_str(word)?;
-        let end = self.text.len();
-        let hash = hash_of(word);
-        self.entries.push(Entry { hash, start, end })?;
-        link(&mut self.nexts, &mut self.heads, hash, place);
+        let fingerprint = fingerprint(word);
+        fill_slot(&mut self.slots, hash_of(fingerprint), place)?;
+        self.entries.push_reserved(Entry {
+            fingerprint,
+            start: start as u32,
+            end: end as u32,
+        });
         Ok(())
     }
 
@@ -141,40 +137,54 @@ impl Terms {
     {
         self.text.clear();
         self.entries.clear();
-        zero(&mut self.heads);
+        free_all(&mut self.slots);
     }
 }
 
 /// The place of the word, if it is there.
 #[inline(always)]
-fn find_in(entries: &[Entry], text: &str, nexts: &[u32], heads: &[u32], word: &str) -> Option<usize>
-    requires table { IsTable entries.now text.now nexts.now heads.now }
-    requires some { 0 < length heads.now }
+fn find_in(entries: &[Entry], text: &str, slots: &[u32], word: &str) -> Option<usize>
+    requires table { IsTable entries.now text.now slots.now }
+    requires some { 0 < length slots.now }
     ensures { MatchOption result
         (Contains (words_in entries.now text.now) word.now → ⊥)
         (λ place. slice_get (words_in entries.now text.now) place ≡ Some word.now) }
 {
-    let hash = hash_of(word);
-    let mut next = heads[chain_of(heads.len(), hash)];
-    'chain: while next != 0 {
-        let place = next as usize - 1;
-        if is_at(entries, text, place, hash, word) {
-            return Some(place);
+    let fingerprint = fingerprint(word);
+    let mut at = slot_of(slots.len(), hash_of(fingerprint) as usize);
+    'slots: for _step in 0..slots.len() {
+        let next = slots[at] as usize;
+        if next == 0 {
+            return None;
         }
-        next = nexts[place];
+        if is_at(entries, text, next - 1, fingerprint, word) {
+            return Some(next - 1);
+        }
+        at = slot_of(slots.len(), at + 1);
     }
     None
 }
 
-/// Whether it is the word at the place.
+/// Whether it is the word at the place. A short word is known by its fingerprint and its length.
 #[inline(always)]
-fn is_at(entries: &[Entry], text: &str, place: usize, hash: u32, word: &str) -> bool
+fn is_at(entries: &[Entry], text: &str, place: usize, fingerprint: u64, word: &str) -> bool
     requires parts { All (IsPart text.now) entries.now }
     requires within { place < length entries.now }
-    requires hash { hash ≡ hash_of word.now }
+    requires fingerprint { fingerprint ≡ fingerprint_of word.now }
+    requires bytes { (k : ℕ) → slice_index word.now k < 256 }
     ensures { IsTrue result ↔ (slice_get (words_in entries.now text.now) place ≡ Some word.now) }
 {
-    entries[place].hash == hash && word_of(entries, text, place) == word
+    let entry = entries[place];
+    if entry.fingerprint != fingerprint {
+        return false;
+    }
+    if (entry.end - entry.start) as usize != word.len() {
+        return false;
+    }
+    if word.len() <= SHORT_BYTES {
+        return true;
+    }
+    word_of(entries, text, place) == word
 }
 
 /// The word of the entry at the place.
@@ -185,58 +195,36 @@ fn word_of<'a>(entries: &[Entry], text: &'a str, place: usize) -> &'a str
     ensures { slice_get (words_in entries.now text.now) place ≡ Some result.now }
 {
     let entry = entries[place];
-    &text[entry.start..entry.end]
+    &text[entry.start as usize..entry.end as usize]
 }
 
-/// Makes room for one more entry, where there is none, by twice as many chains.
-fn make_room(
-    alloc: Global,
-    entries: &[Entry],
-    nexts: &mut Vec<u32>,
-    heads: &mut Vec<u32>,
-) -> Result<(), AllocError>
+/// Makes room for one more entry, where half the slots are taken, by twice as many slots.
+fn make_room(alloc: Global, entries: &[Entry], slots: &mut Vec<u32>) -> Result<(), AllocError>
     requires few { length entries.now < 2 ^ 32 }
-    requires chained { AreChained (hashes_of entries.now) nexts.old.items heads.old.items }
-    requires room { length nexts.old.items ≡ length heads.old.items }
-    requires load { length entries.now ≤ length heads.old.items }
-    ensures chained { AreChained (hashes_of entries.now) nexts.new.items heads.new.items }
-    ensures room { length nexts.new.items ≡ length heads.new.items }
-    ensures load { length entries.now ≤ length heads.new.items }
-    ensures more { OnOk result (length entries.now < length heads.new.items) }
+    requires slots { HaveSlots (hashes_of entries.now) slots.old.items }
+    ensures slots { HaveSlots (hashes_of entries.now) slots.new.items }
+    ensures some { OnOk result (0 < length slots.new.items) }
 {
-    if entries.len() < heads.len() {
+    if entries.len() < slots.len() / 2 {
         return Ok(());
     }
-    let count = (entries.len() * 2).max(FEWEST_CHAINS);
-    let mut new_heads = vec![in alloc; 0u32; count]?;
-    let mut new_nexts = vec![in alloc; 0u32; count]?;
-    link_all(entries, &mut new_nexts, &mut new_heads);
-    *heads = new_heads;
-    *nexts = new_nexts;
+    let count = slots.len().saturating_mul(2).max(FEWEST_SLOTS);
+    let mut new_slots = vec![in alloc; 0u32; count]?;
+    fill_all(entries, &mut new_slots)?;
+    *slots = new_slots;
     Ok(())
 }
 
-/// Chains all entries anew.
-fn link_all(entries: &[Entry], nexts: &mut [u32], heads: &mut [u32])
-    requires room { length entries.now ≤ length nexts.old }
-    requires some { 0 < length heads.old }
+/// Puts the places of all entries into free slots.
+fn fill_all(entries: &[Entry], slots: &mut [u32]) -> Result<(), AllocError>
+    requires some { 0 < length slots.old }
     requires few { length entries.now < 2 ^ 32 }
-    requires empty { heads.old ≡ replicate (length heads.old) 0 }
-    ensures nexts { length nexts.new ≡ length nexts.old }
-    ensures heads { length heads.new ≡ length heads.old }
-    ensures chained { AreChained (hashes_of entries.now) nexts.new heads.new }
+    requires free { slots.old ≡ replicate (length slots.old) 0 }
+    ensures len { length slots.new ≡ length slots.old }
+    ensures ok { OnOk result (HaveSlots (hashes_of entries.now) slots.new) }
 {
     'places: for place in 0..entries.len() {
-        link(nexts, heads, entries[place].hash, place);
+        fill_slot(slots, hash_of(entries[place].fingerprint), place)?;
     }
-}
-
-/// Sets all numbers to 0.
-fn zero(heads: &mut [u32])
-    ensures len { length heads.new ≡ length heads.old }
-    ensures zeros { (k : ℕ) → k < length heads.old → slice_index heads.new k ≡ 0 }
-{
-    'heads: for k in 0..heads.len() {
-        heads[k] = 0;
-    }
+    Ok(())
 }

@@ -1,6 +1,6 @@
 use Rattle.std.proofs.Common.{arith, refl, suc}
+use Rattle.pk_posting.proofs.SourceLemmas.{answered_more, answered_none}
 use Rattle.pk_cursor.proofs.DoublingLemmas.{doubled, few_doubled}
-use Rattle.pk_cursor.proofs.SourceLemmas.{answered_more, answered_none}
 use Rattle.pk_cursor.proofs.skips.gallop.Goals as goal
 
 pub loop-step-init : goal.loop-step-init
@@ -19,7 +19,7 @@ loop-step-preserved g c =
     let read = c.in_ok-last.ensures in
     let a = before.asks in
     record {
-      left = answered_more g.met.S.ByteSource.keeps_then before.left read.left;
+      left = answered_more g.met.S.ByteSource.keeps_then before.left read.left.read read.left.faults.ok;
       low = omega arith;
       high = omega arith;
       some = omega arith;

@@ -1,7 +1,7 @@
 use Rattle.std.proofs.Common.{◌≡◌, ◌≤◌, ◌<◌, ◌+◌, ◌-◌, ◌^◌, ℕ, List}
 use Rattle.pk_posting.specs.Parts.{HasShape, bytes_at}
+use Rattle.pk_posting.proofs.SourceLemmas.{IsAnswered}
 use Rattle.pk_cursor.specs.Seeking.{block_end}
-use Rattle.pk_cursor.proofs.SourceLemmas.{IsAnswered}
 use Rattle.pk_cursor.proofs.skips.gallop.Given as goal
 
 abbrev pub invariant-loop-step : goal.invariant-loop-step

@@ -1,6 +1,6 @@
 use Rattle.std.proofs.Common.{arith, ◌≡◌, ◌-◌}
+use Rattle.pk_posting.proofs.SourceLemmas.{answered_more, answered_none}
 use Rattle.pk_cursor.proofs.DoublingLemmas.{halves}
-use Rattle.pk_cursor.proofs.SourceLemmas.{answered_more, answered_none}
 use Rattle.pk_cursor.proofs.skips.narrow.Goals as goal
 
 pub loop-high-init : goal.loop-high-init
@@ -16,7 +16,7 @@ loop-high-preserved-then-target-last g c =
     let before = c.loop-high.invariant in
     let read = c.in_ok-last.ensures in
     record {
-      left = answered_more g.met.S.ByteSource.keeps_then before.left read.left;
+      left = answered_more g.met.S.ByteSource.keeps_then before.left read.left.read read.left.faults.ok;
       order = (omega arith, omega arith, omega arith);
       found = λ h xs l b. record { below = (before.found h xs l b).below; reaches = λ z. omega (arith, read.spelled h xs (rw (before.left.same h) l)) };
       asks = λ t s. (let a = before.asks t s in halves a.0 _ _ _ _ _ (omega arith) a.1 (omega arith) a.2 read.left.asks);
@@ -27,7 +27,7 @@ loop-high-preserved g c =
     let before = c.loop-high.invariant in
     let read = c.in_ok-last.ensures in
     record {
-      left = answered_more g.met.S.ByteSource.keeps_then before.left read.left;
+      left = answered_more g.met.S.ByteSource.keeps_then before.left read.left.read read.left.faults.ok;
       order = (omega arith, omega arith, omega arith);
       found = λ h xs l b. record { below = omega (arith, read.spelled h xs (rw (before.left.same h) l)); reaches = (before.found h xs l b).reaches };
       asks = λ t s. (let a = before.asks t s in halves a.0 _ _ _ _ _ (omega arith) a.1 (omega arith) a.2 read.left.asks);

@@ -1,7 +1,7 @@
 use Rattle.std.proofs.Common.{◌≤◌, ◌<◌, ◌+◌, ◌-◌, ◌^◌, ℕ, List}
 use Rattle.pk_posting.specs.Parts.{HasShape, bytes_at}
+use Rattle.pk_posting.proofs.SourceLemmas.{IsAnswered}
 use Rattle.pk_cursor.specs.Seeking.{Between}
-use Rattle.pk_cursor.proofs.SourceLemmas.{IsAnswered}
 use Rattle.pk_cursor.proofs.skips.narrow.Given as goal
 
 abbrev pub invariant-loop-high : goal.invariant-loop-high

@@ -1,6 +1,7 @@
 -- A piece that agrees as a whole goes on, one that does not ends the count.
 use Rattle.std.proofs.Common.{arith, refl, ◌∙◌, ap, List, ℕ, length, drop, take, ◌+◌, ◌-◌, ◌≡◌}
 use Rattle.std.proofs.lemmas.List.{take_rest}
+use Rattle.pk_posting.proofs.SourceLemmas.{answered_more}
 use Rattle.pk_dict.specs.Dictionary.{shared}
 use Rattle.pk_dict.specs.Place.{bytes_at}
 use Rattle.pk_dict.proofs.Parts.{length_bytes_at}
@@ -19,7 +20,7 @@ returns-then-more-size-clause-value g c h =
       inside = omega (arith, len);
       within = omega arith;
       is = refl;
-      found = c.in_ok-more.ensures.value h ∙ ap (λ (l : List ℕ). shared (take c.min-size.result (drop (c.args.at + c.loop-done.done) (bytes_at l c.args.place))) (take (length c.args.term.now - c.loop-done.done) (drop c.loop-done.done c.args.term.now))) (c.loop-done.invariant.same h)
+      found = c.in_ok-more.ensures.value h ∙ ap (λ (l : List ℕ). shared (take c.min-size.result (drop (c.args.at + c.loop-done.done) (bytes_at l c.args.place))) (take (length c.args.term.now - c.loop-done.done) (drop c.loop-done.done c.args.term.now))) (c.loop-done.invariant.left.same h)
           ∙ ap (shared (take c.min-size.result (drop (c.args.at + c.loop-done.done) B))) (take_rest c.args.term.now c.loop-done.done);
     } in
     let e = piece_part _ _ _ _ _ _ _ _ p c.if-more-size.true in
@@ -33,18 +34,15 @@ loop-done-preserved g c =
     let whole : c.in_ok-more.more ≡ c.min-size.result = omega (arith, most.0) in
     let left = c.in_ok-more.ensures.left in
     record {
-      same = λ h. left.same h ∙ c.loop-done.invariant.same h;
-      size = left.size ∙ c.loop-done.invariant.size;
+      left = answered_more g.met.S.ByteSource.keeps_then c.loop-done.invariant.left left.read left.faults.ok;
       asks = omega (arith, left.asks, c.loop-done.invariant.asks);
-      kept = g.met.S.ByteSource.keeps_then _ _ _ c.loop-done.invariant.kept left.kept;
-      failures = left.faults.ok ∙ c.loop-done.invariant.failures;
       below = omega (arith, most.0);
       value = λ h.
           let p : Piece B c.args.at c.args.n c.loop-done.done c.min-size.result c.in_ok-more.more c.args.term.now (take c.min-size.result (drop (c.args.at + c.loop-done.done) B)) = record {
             inside = omega (arith, len);
             within = omega arith;
             is = refl;
-            found = c.in_ok-more.ensures.value h ∙ ap (λ (l : List ℕ). shared (take c.min-size.result (drop (c.args.at + c.loop-done.done) (bytes_at l c.args.place))) (take (length c.args.term.now - c.loop-done.done) (drop c.loop-done.done c.args.term.now))) (c.loop-done.invariant.same h)
+            found = c.in_ok-more.ensures.value h ∙ ap (λ (l : List ℕ). shared (take c.min-size.result (drop (c.args.at + c.loop-done.done) (bytes_at l c.args.place))) (take (length c.args.term.now - c.loop-done.done) (drop c.loop-done.done c.args.term.now))) (c.loop-done.invariant.left.same h)
                 ∙ ap (shared (take c.min-size.result (drop (c.args.at + c.loop-done.done) B))) (take_rest c.args.term.now c.loop-done.done);
           } in
           let e = piece_whole _ _ _ _ _ _ _ _ p whole in

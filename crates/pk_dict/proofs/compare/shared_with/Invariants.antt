@@ -1,17 +1,15 @@
 -- The first bytes agree, and what is shared after them is all that is left; a piece asks once.
-use Rattle.std.proofs.Common.{◌-◌, ◌≡◌, ◌≤◌, ◌+◌, length, take, drop}
+use Rattle.std.proofs.Common.{◌-◌, ◌≡◌, ◌≤◌, ◌+◌, take, drop}
 use Rattle.pk_posting.specs.Limits.{asks_for}
+use Rattle.pk_posting.proofs.SourceLemmas.{IsAnswered}
 use Rattle.pk_dict.specs.Dictionary.{shared}
 use Rattle.pk_dict.specs.Place.{bytes_at}
 use Rattle.pk_dict.proofs.compare.shared_with.Given as goal
 
 abbrev pub invariant-loop-done : goal.invariant-loop-done
 invariant-loop-done g l = record {
-  same : g.S.ByteSource.honest → g.S.ByteSource.content l.source ≡ g.S.ByteSource.content l.fn.source;
-  size : length (g.S.ByteSource.content l.source) ≡ length (g.S.ByteSource.content l.fn.source);
+  left : IsAnswered g.S.ByteSource l.fn.source l.source;
   asks : g.S.ByteSource.asked l.source + asks_for (l.most - l.done) ≤ g.S.ByteSource.asked l.fn.source + asks_for l.most;
-  kept : g.S.ByteSource.keeps l.fn.source l.source;
-  failures : g.S.ByteSource.failures l.source ≡ g.S.ByteSource.failures l.fn.source;
   below : l.done ≤ l.most;
   value : g.S.ByteSource.honest → l.done + shared (drop l.done (take l.n (drop l.at (bytes_at (g.S.ByteSource.content l.fn.source) l.place)))) (drop l.done l.term) ≡ shared (take l.n (drop l.at (bytes_at (g.S.ByteSource.content l.fn.source) l.place))) l.term;
 }

@@ -2,6 +2,7 @@
 use Rattle.std.proofs.Common.{arith, ◌∙◌, ◌++◌, ◌+◌, ◌≡◌, sym, ap, List, ℕ, take, drop, append_assoc}
 use Rattle.std.proofs.Math.Seq.{take-add}
 use Rattle.std.proofs.lemmas.List.{drop-drop}
+use Rattle.pk_posting.proofs.SourceLemmas.{answered_more}
 use Rattle.pk_dict.specs.Place.{bytes_at}
 use Rattle.pk_dict.proofs.entries.append.Goals as goal
 
@@ -16,14 +17,11 @@ pub loop-done-preserved : goal.loop-done-preserved
 loop-done-preserved g c =
     let left = c.in_ok-append_stretch.ensures.left in
     record {
-      same = λ h. left.same h ∙ c.loop-done.invariant.same h;
-      size = left.size ∙ c.loop-done.invariant.size;
+      left = answered_more g.met.S.ByteSource.keeps_then c.loop-done.invariant.left left left.faults.ok;
       asks = omega (arith, c.loop-done.invariant.asks, c.in_ok-append_stretch.ensures.asks);
-      kept = g.met.S.ByteSource.keeps_then _ _ _ c.loop-done.invariant.kept left.kept;
-      failures = left.faults.ok ∙ c.loop-done.invariant.failures;
       below = omega arith;
       long = omega (arith, c.in_ok-append_stretch.ensures.long, c.loop-done.invariant.long);
       room = omega (arith, c.in_ok-append_stretch.ensures.room, c.loop-done.invariant.room);
       value = λ h. joined c.loop-done.out.items _ c.args.out.now.items _ c.args.at c.loop-done.done c.min-size.result (c.loop-done.invariant.value h)
-          (c.in_ok-append_stretch.ensures.value h ∙ ap (λ (l : List ℕ). c.loop-done.out.items ++ take c.min-size.result (drop (c.args.at + c.loop-done.done) (bytes_at l c.args.place))) (c.loop-done.invariant.same h));
+          (c.in_ok-append_stretch.ensures.value h ∙ ap (λ (l : List ℕ). c.loop-done.out.items ++ take c.min-size.result (drop (c.args.at + c.loop-done.done) (bytes_at l c.args.place))) (c.loop-done.invariant.left.same h));
     }

@@ -2,16 +2,14 @@
 use Rattle.std.proofs.Common.{◌-◌, ◌+◌, ◌≡◌, ◌≤◌, ◌++◌, length, take, drop}
 use Rattle.std.specs.Prelude.{vec_capacity}
 use Rattle.pk_posting.specs.Limits.{asks_for}
+use Rattle.pk_posting.proofs.SourceLemmas.{IsAnswered}
 use Rattle.pk_dict.specs.Place.{bytes_at}
 use Rattle.pk_dict.proofs.entries.append.Given as goal
 
 abbrev pub invariant-loop-done : goal.invariant-loop-done
 invariant-loop-done g l = record {
-  same : g.S.ByteSource.honest → g.S.ByteSource.content l.source ≡ g.S.ByteSource.content l.fn.source;
-  size : length (g.S.ByteSource.content l.source) ≡ length (g.S.ByteSource.content l.fn.source);
+  left : IsAnswered g.S.ByteSource l.fn.source l.source;
   asks : g.S.ByteSource.asked l.source + asks_for (l.n - l.done) ≤ g.S.ByteSource.asked l.fn.source + asks_for l.n;
-  kept : g.S.ByteSource.keeps l.fn.source l.source;
-  failures : g.S.ByteSource.failures l.source ≡ g.S.ByteSource.failures l.fn.source;
   below : l.done ≤ l.n;
   long : length l.out.items ≡ length l.fn.out.items + l.done;
   room : vec_capacity l.fn.out ≤ vec_capacity l.out;

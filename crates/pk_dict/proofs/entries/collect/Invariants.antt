@@ -1,15 +1,13 @@
 -- What is left of the collection gives what all of it gives, and asks for no more.
-use Rattle.std.proofs.Common.{◌≡◌, ◌≤◌, ◌+◌, ◌-◌, ◌*◌, [], length}
+use Rattle.std.proofs.Common.{◌≡◌, ◌≤◌, ◌+◌, ◌-◌, ◌*◌, []}
+use Rattle.pk_posting.proofs.SourceLemmas.{IsAnswered}
 use Rattle.pk_dict.specs.Entries.{asks_at, collect_at, items_from, items_from_group}
 use Rattle.pk_dict.specs.Place.{bytes_at}
 use Rattle.pk_dict.proofs.entries.collect.Given as goal
 
 abbrev pub invariant-loop-i : goal.invariant-loop-i
 invariant-loop-i g l = record {
-  same : g.S.ByteSource.honest → g.S.ByteSource.content l.source ≡ g.S.ByteSource.content l.fn.source;
-  size : length (g.S.ByteSource.content l.source) ≡ length (g.S.ByteSource.content l.fn.source);
-  kept : g.S.ByteSource.keeps l.fn.source l.source;
-  failures : g.S.ByteSource.failures l.source ≡ g.S.ByteSource.failures l.fn.source;
+  left : IsAnswered g.S.ByteSource l.fn.source l.source;
   value : g.S.ByteSource.honest → collect_at (l.place.terms - l.i) (bytes_at (g.S.ByteSource.content l.fn.source) l.place) l.prefix l.i l.term.items l.at (items_from l.found.items)
       ≡ items_from_group (bytes_at (g.S.ByteSource.content l.fn.source) l.place) l.place.terms l.prefix l.fn.start.group l.fn.start.at;
   asks : g.S.ByteSource.honest → g.S.ByteSource.asked l.source + asks_at (l.place.terms - l.i) (bytes_at (g.S.ByteSource.content l.fn.source) l.place) l.prefix l.i l.term.items l.at

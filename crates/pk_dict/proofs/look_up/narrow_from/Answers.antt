@@ -1,6 +1,7 @@
 -- Each step is one of the search, and takes one of the asks that are left.
-use Rattle.std.proofs.Common.{arith, refl, ap, subst, ◌∙◌, ◌≡◌, ◌+◌, ◌-◌, ◌*◌, ◌/◌, ℕ, List, length, Ok}
+use Rattle.std.proofs.Common.{arith, ap, subst, ◌∙◌, ◌≡◌, ◌+◌, ◌-◌, ◌*◌, ◌/◌, ℕ, List, length, Ok}
 use Rattle.std.proofs.lemmas.Result.{err_from_is_err_and}
+use Rattle.pk_posting.proofs.SourceLemmas.{answered_more, answered_none}
 use Rattle.pk_dict.specs.declared.head.Step.TheVariants.{Less, Found, Past}
 use Rattle.pk_dict.specs.Dictionary.{group_count}
 use Rattle.pk_dict.specs.Place.{bytes_at}
@@ -11,11 +12,8 @@ use Rattle.pk_dict.proofs.look_up.narrow_from.Goals as goal
 
 pub loop-low-init : goal.loop-low-init
 loop-low-init g c = record {
-  same = λ h. refl;
-  size = refl;
+  left = answered_none (g.met.S.ByteSource.keeps_self _);
   asks = λ k h. first_left k _ (c.args.between.high - c.args.between.low) _ (omega (arith, h));
-  kept = g.met.S.ByteSource.keeps_self _;
-  failures = refl;
   order = c.requires.amid.order;
   most = c.requires.amid.most;
   within = c.requires.amid.within;
@@ -26,7 +24,7 @@ pub returns-in_err-step-clause-value : goal.returns-in_err-step-clause-value
 returns-in_err-step-clause-value g c h =
     let p = err_from_is_err_and c.from_residual.result c.from_residual.ensures.1 in
     rw (p.1, p.2) (narrowing_fails _ _ _ c.loop-low.low c.loop-low.high _ _ c.in_err-step.field-0.0 _ (c.loop-low.invariant.narrowing h) (omega arith)
-    (subst (λ (l : List ℕ). Fails c.in_err-step.field-0.0 (group_at (bytes_at l c.args.place) (4 * group_count c.args.place.terms) (c.loop-low.low + (c.loop-low.high - c.loop-low.low) / 2) c.args.term.now)) (c.loop-low.invariant.same h) (c.in_err-step.ensures.value h)))
+    (subst (λ (l : List ℕ). Fails c.in_err-step.field-0.0 (group_at (bytes_at l c.args.place) (4 * group_count c.args.place.terms) (c.loop-low.low + (c.loop-low.high - c.loop-low.low) / 2) c.args.term.now)) (c.loop-low.invariant.left.same h) (c.in_err-step.ensures.value h)))
 
 pub returns-in_err-step-clause-asks : goal.returns-in_err-step-clause-asks
 returns-in_err-step-clause-asks g c k h =
@@ -35,7 +33,7 @@ returns-in_err-step-clause-asks g c k h =
 pub returns-in-Found-clause-value : goal.returns-in-Found-clause-value
 returns-in-Found-clause-value g c h =
     narrowing_found _ _ _ c.loop-low.low c.loop-low.high _ _ _ _ (c.loop-low.invariant.narrowing h) (omega arith)
-    (subst (λ (l : List ℕ). group_at (bytes_at l c.args.place) (4 * group_count c.args.place.terms) (c.loop-low.low + (c.loop-low.high - c.loop-low.low) / 2) c.args.term.now ≡ Ok (Found c.in-Found.entry)) (c.loop-low.invariant.same h)
+    (subst (λ (l : List ℕ). group_at (bytes_at l c.args.place) (4 * group_count c.args.place.terms) (c.loop-low.low + (c.loop-low.high - c.loop-low.low) / 2) c.args.term.now ≡ Ok (Found c.in-Found.entry)) (c.loop-low.invariant.left.same h)
     (c.in_ok-step.ensures.value h ∙ ap Ok c.in-Found.is))
 
 pub returns-in-Found-clause-asks : goal.returns-in-Found-clause-asks
@@ -46,16 +44,13 @@ pub loop-low-preserved-in-Past : goal.loop-low-preserved-in-Past
 loop-low-preserved-in-Past g c =
     let left = c.in_ok-step.ensures.left in
     record {
-      same = λ h. left.same h ∙ c.loop-low.invariant.same h;
-      size = left.size ∙ c.loop-low.invariant.size;
+      left = answered_more g.met.S.ByteSource.keeps_then c.loop-low.invariant.left left.read left.faults.ok;
       asks = λ k h. step_left k _ _ _ _ _ _ (c.loop-low.invariant.asks k h) (omega arith) (omega arith) left.asks;
-      kept = g.met.S.ByteSource.keeps_then _ _ _ c.loop-low.invariant.kept left.kept;
-      failures = left.faults.ok ∙ c.loop-low.invariant.failures;
       order = omega arith;
       most = omega arith;
       within = c.loop-low.invariant.within;
       narrowing = λ h. narrowing_past _ _ _ c.loop-low.low c.loop-low.high _ _ _ (c.loop-low.invariant.narrowing h) (omega arith)
-          (subst (λ (l : List ℕ). group_at (bytes_at l c.args.place) (4 * group_count c.args.place.terms) (c.loop-low.low + (c.loop-low.high - c.loop-low.low) / 2) c.args.term.now ≡ Ok Past) (c.loop-low.invariant.same h)
+          (subst (λ (l : List ℕ). group_at (bytes_at l c.args.place) (4 * group_count c.args.place.terms) (c.loop-low.low + (c.loop-low.high - c.loop-low.low) / 2) c.args.term.now ≡ Ok Past) (c.loop-low.invariant.left.same h)
           (c.in_ok-step.ensures.value h ∙ ap Ok c.in-Past.is));
     }
 
@@ -63,16 +58,13 @@ pub loop-low-preserved : goal.loop-low-preserved
 loop-low-preserved g c =
     let left = c.in_ok-step.ensures.left in
     record {
-      same = λ h. left.same h ∙ c.loop-low.invariant.same h;
-      size = left.size ∙ c.loop-low.invariant.size;
+      left = answered_more g.met.S.ByteSource.keeps_then c.loop-low.invariant.left left.read left.faults.ok;
       asks = λ k h. step_left k _ _ _ _ _ _ (c.loop-low.invariant.asks k h) (omega arith) (omega arith) left.asks;
-      kept = g.met.S.ByteSource.keeps_then _ _ _ c.loop-low.invariant.kept left.kept;
-      failures = left.faults.ok ∙ c.loop-low.invariant.failures;
       order = omega arith;
       most = omega arith;
       within = subst (IsWithin (length c.args.term.now)) c.in-Less.is c.in_ok-step.ensures.matched;
       narrowing = λ h. narrowing_less _ _ _ c.loop-low.low c.loop-low.high _ _ _ _ _ (c.loop-low.invariant.narrowing h) (omega arith)
-          (subst (λ (l : List ℕ). group_at (bytes_at l c.args.place) (4 * group_count c.args.place.terms) (c.loop-low.low + (c.loop-low.high - c.loop-low.low) / 2) c.args.term.now ≡ Ok (Less c.in-Less.now c.in-Less.after)) (c.loop-low.invariant.same h)
+          (subst (λ (l : List ℕ). group_at (bytes_at l c.args.place) (4 * group_count c.args.place.terms) (c.loop-low.low + (c.loop-low.high - c.loop-low.low) / 2) c.args.term.now ≡ Ok (Less c.in-Less.now c.in-Less.after)) (c.loop-low.invariant.left.same h)
           (c.in_ok-step.ensures.value h ∙ ap Ok c.in-Less.is));
     }
 

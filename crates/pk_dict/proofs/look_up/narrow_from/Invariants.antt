@@ -1,6 +1,7 @@
 -- What is left of the search gives what all of it gives, and how many asks are left.
-use Rattle.std.proofs.Common.{◌-◌, ◌≡◌, ◌≤◌, ◌+◌, ◌*◌, ◌^◌, ℕ, length}
+use Rattle.std.proofs.Common.{◌-◌, ◌≤◌, ◌+◌, ◌*◌, ◌^◌, ℕ, length}
 use Rattle.pk_posting.specs.Limits.{asks_for}
+use Rattle.pk_posting.proofs.SourceLemmas.{IsAnswered}
 use Rattle.pk_dict.specs.Dictionary.{group_count}
 use Rattle.pk_dict.specs.LookUp.{narrow_at}
 use Rattle.pk_dict.specs.Place.{bytes_at}
@@ -10,11 +11,8 @@ use Rattle.pk_dict.proofs.look_up.narrow_from.Given as goal
 
 abbrev pub invariant-loop-low : goal.invariant-loop-low
 invariant-loop-low g l = record {
-  same : g.S.ByteSource.honest → g.S.ByteSource.content l.source ≡ g.S.ByteSource.content l.fn.source;
-  size : length (g.S.ByteSource.content l.source) ≡ length (g.S.ByteSource.content l.fn.source);
+  left : IsAnswered g.S.ByteSource l.fn.source l.source;
   asks : (k : ℕ) → l.fn.between.high - l.fn.between.low ≤ 2 ^ k → AsksLeft k (6 + asks_for (length l.term)) (l.high - l.low) (g.S.ByteSource.asked l.fn.source) (g.S.ByteSource.asked l.source);
-  kept : g.S.ByteSource.keeps l.fn.source l.source;
-  failures : g.S.ByteSource.failures l.source ≡ g.S.ByteSource.failures l.fn.source;
   order : l.low ≤ l.high;
   most : l.high ≤ group_count l.place.terms;
   within : l.matched ≤ length l.term;

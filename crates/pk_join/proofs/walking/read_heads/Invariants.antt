@@ -1,5 +1,5 @@
 -- The words of the inputs so far are read, and as many of each were passed.
-use Rattle.std.proofs.Common.{◌≡◌, ℕ, List, Ok}
+use Rattle.std.proofs.Common.{◌≡◌, ◌≤◌, ◌-◌, ℕ, List, Ok, length}
 use Rattle.std.specs.Prelude.{All}
 use Rattle.std.specs.List.{AllWithin}
 use Rattle.pk_join.specs.Rooms.{IsRoomy}
@@ -12,6 +12,7 @@ abbrev pub invariant-loop-i : goal.invariant-loop-i
 invariant-loop-i g l =
     let disk = g.D.Disk in
     record {
+      within : l.i ≤ length l.inputs;
       left : ReadsDisk disk CountsReads (Ok (tt {0})) l.fn.disk l.disk;
       read : AllWithin IsRead l.inputs 0 l.i;
       still : GoNowhere l.fn.inputs l.inputs;
@@ -20,3 +21,6 @@ invariant-loop-i g l =
           → All (Holds (disk.content l.disk)) l.inputs;
       rooms : (bytes : List ℕ) → All (IsRoomy bytes) l.fn.inputs → All (IsRoomy bytes) l.inputs;
     }
+
+abbrev pub decreases-loop-i : goal.decreases-loop-i
+decreases-loop-i g l = length l.inputs - l.i

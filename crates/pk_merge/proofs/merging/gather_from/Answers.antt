@@ -3,6 +3,7 @@ use Rattle.std.proofs.Common.{◌∙◌, ◌<◌, ◌≤◌, ◌++◌, ◌∷◌
 use Rattle.std.proofs.lemmas.List.{drop_all, take_all}
 use Rattle.pk_join.proofs.DocLemmas.{take_doc}
 use Rattle.pk_model.specs.Collection.{Doc}
+use Rattle.pk_posting.proofs.SourceLemmas.{answered, answered_then, source_as}
 use Rattle.pk_segment.specs.Spelling.{DirectorySpells, SegmentSpells}
 use Rattle.pk_segment.specs.Directory.{doc_in}
 use Rattle.pk_segment.specs.Reading.{read_of}
@@ -57,12 +58,8 @@ loop-i-preserved g c =
     let inv = c.loop-i.invariant in
     let one = c.in_ok-gather_one.ensures.left in
     record {
-      left = record {
-        same = λ h. one.same h ∙ inv.left.same h;
-        size = one.size ∙ inv.left.size;
-        kept = g.met.S.ByteSource.keeps_then _ _ _ inv.left.kept one.kept;
-        faults = counts_ok (one.faults.ok ∙ inv.left.faults.ok);
-      };
+      left = source_as (answered_then g.met.S.ByteSource.keeps_then (answered inv.left inv.left.faults.ok) one)
+          (counts_ok (one.faults.ok ∙ inv.left.faults.ok));
       ready = inv.ready;
       gathered = λ honest docs more is rise.
           let i = c.loop-i.i in

@@ -1,8 +1,8 @@
 -- What the documents so far leave was gathered, and the others rise.
 use Rattle.std.proofs.Common.{◌++◌, List, Ok, take, drop}
 use Rattle.pk_model.specs.Collection.{Doc}
+use Rattle.pk_posting.specs.Frames.{ReadsSource}
 use Rattle.pk_segment.specs.Directory.{IsDirectoryOf}
-use Rattle.pk_segment.specs.OnlyRead.{ReadsSource}
 use Rattle.pk_segment.specs.Opened.{IsSegmentOf}
 use Rattle.pk_segment.specs.Spelling.{SegmentSpells}
 use Rattle.pk_merge.specs.Gathering.{GathersAs, RiseFrom, left_by}

@@ -1,7 +1,7 @@
 -- Of the numbers that were gone through those are kept in whose texts the words stand.
 use Rattle.std.proofs.Common.{◌-◌, List, length, Ok}
 use Rattle.pk_model.specs.Collection.{Doc}
-use Rattle.pk_segment.specs.OnlyRead.{ReadsSource}
+use Rattle.pk_posting.specs.Frames.{ReadsSource}
 use Rattle.pk_segment.specs.Reading.{CountsReads}
 use Rattle.pk_search.specs.Hits.{IsSearchIn, KeepsHits}
 use Rattle.pk_search.proofs.in_row.found_in_row.Given as goal

@@ -1,7 +1,7 @@
 -- The bytes so far, and the asks that they took.
 use Rattle.std.proofs.Common.{◌≡◌, ◌≤◌, ◌+◌, ◌-◌, length, take, drop, Ok}
 use Rattle.pk_posting.specs.Limits.{asks_for}
-use Rattle.pk_segment.specs.OnlyRead.{ReadsSource}
+use Rattle.pk_posting.specs.Frames.{ReadsSource}
 use Rattle.pk_segment.specs.Reading.{CountsReads}
 use Rattle.pk_segment.proofs.stretch.stretch.Given as goal
 

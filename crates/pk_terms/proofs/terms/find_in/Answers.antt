@@ -1,40 +1,36 @@
--- The chain is followed until the word is found, or its end.
-use Rattle.std.proofs.Common.{◌≡◌, ◌≢◌, ◌+◌, ◌-◌, ◌<◌, ◌∙◌, ℕ, List, Bool, IsTrue, false, ap, subst, refl, length, slice_index, slice_get, Some, arith}
-use Rattle.pk_terms.specs.declared.terms.Entry.{Entry}
-use Rattle.pk_terms.specs.Chains.{chain_of}
-use Rattle.pk_terms.specs.Table.{word_at, words_in, IsTable}
-use Rattle.pk_terms.proofs.TableLemmas.{IsRest, word_of, rest_first, rest_next, rest_none, slice_get-map}
+-- The slots of the word's hash are passed, until the word is found or a slot is free.
+use Rattle.std.proofs.Common.{◌∙◌, ◌+◌, ap, sym, arith, length}
+use Rattle.pk_terms.specs.Fingerprints.{fingerprint_of, hash_of}
+use Rattle.pk_terms.specs.Slots.{slot_of, step_of}
+use Rattle.pk_terms.specs.Table.{words_in}
+use Rattle.pk_terms.proofs.SlotLemmas.{step_more}
+use Rattle.pk_terms.proofs.TableLemmas.{absent, absent_all, others_more, others_none}
 use Rattle.pk_terms.proofs.terms.find_in.Goals as goal
 
-abbrev none : Entry
-none = record { hash = 0; start = 0; end = 0 }
+pub slots-init : goal.slots-init
+unfolding step_of
+slots-init c = record {
+  within = c.slot_of-at.ensures.within;
+  is = c.slot_of-at.ensures.value ∙ ap (slot_of (length c.args.slots.now)) (c.hash_of.ensures ∙ ap hash_of c.fingerprint-fingerprint.ensures.value);
+  others = others_none (words_in c.args.entries.now c.args.text.now) c.args.slots.now c.args.word.now;
+}
 
-pub chain-init : goal.chain-init
-chain-init c =
-    rest_first c.args.entries.now c.args.text.now c.args.word.now (length c.args.heads.now) c.args.nexts.now c.args.heads.now refl c.requires.table
-    c.chain_of.result (c.chain_of.ensures.value ∙ ap (chain_of (length c.args.heads.now)) c.hash_of-hash.ensures) c.chain_of.ensures.within
+pub slots-preserved : goal.slots-preserved
+slots-preserved c =
+    let slots = c.args.slots.now in
+    let i = c.slots.invariant in
+    record {
+      within = c.slot_of-at-in-slots.ensures.within;
+      is = c.slot_of-at-in-slots.ensures.value ∙ ap (λ a. slot_of (length slots) (a + 1)) i.is ∙ sym (step_more (length slots) (hash_of (fingerprint_of c.args.word.now)) c.slots._step);
+      others = others_more (words_in c.args.entries.now c.args.text.now) slots c.args.word.now c.slots._step c.slots.at i.is (omega arith)
+          (λ there. let yes = c.is_at.ensures.1 there in let no = c.if-is_at.false in cc) i.others;
+    }
 
-step : (entries : List Entry) (bytes word nexts heads : List ℕ) (next : ℕ) (b : Bool) → IsTable entries bytes nexts heads → (next ≡ 0 → ⊥) → IsRest entries bytes word (length heads) next
-    → b ≡ false → (slice_get (words_in entries bytes) (next - 1) ≡ Some word → IsTrue b)
-    → (slice_index nexts (next - 1) < next) × IsRest entries bytes word (length heads) (slice_index nexts (next - 1))
-step entries bytes word nexts heads next b table some rest not_here here =
-    let place = next - 1 in
-    let same : next ≡ place + 1 = omega arith in
-    let within = rest.within in
-    let other : word_of entries bytes word (length heads) place none ≢ word =
-    λ e. let t = here (slice_get-map (word_at bytes) entries place none (omega arith) ∙ ap Some e) in let f = not_here in cc in
-    let next' = rest_next entries bytes word (length heads) nexts heads refl table place none (subst (IsRest entries bytes word (length heads)) same rest) other in
-    (omega (arith, next'.0), next'.1)
-
-pub chain-smaller : goal.chain-smaller
-chain-smaller c =
-    (step c.args.entries.now c.args.text.now c.args.word.now c.args.nexts.now c.args.heads.now c.chain.next c.is_at.result c.requires.table c.chain-test.true c.chain.invariant c.if-is_at.false c.is_at.ensures.1).0
-
-pub chain-preserved : goal.chain-preserved
-chain-preserved c =
-    (step c.args.entries.now c.args.text.now c.args.word.now c.args.nexts.now c.args.heads.now c.chain.next c.is_at.result c.requires.table c.chain-test.true c.chain.invariant c.if-is_at.false c.is_at.ensures.1).1
+pub returns-then-next-eq0 : goal.returns-then-next-eq0
+returns-then-next-eq0 c =
+    absent c.args.entries.now c.args.text.now c.args.slots.now c.args.word.now c.requires.table
+    c.slots._step c.slots.at c.slots.invariant.is c.if-next-eq0.true c.slots.invariant.others
 
 pub returns : goal.returns
 returns c =
-    rest_none c.args.entries.now c.args.text.now c.args.word.now (length c.args.heads.now) c.args.nexts.now c.args.heads.now refl c.requires.table
-    c.chain.next c.chain-test.false c.chain.invariant
+    absent_all c.args.entries.now c.args.text.now c.args.slots.now c.args.word.now c.requires.table c.slots._step (omega arith) c.slots.invariant.others

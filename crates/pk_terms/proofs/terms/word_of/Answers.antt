@@ -2,12 +2,11 @@
 use Rattle.std.proofs.Common.{◌∙◌, sym, ap, arith, Some, slice_index_or}
 use Rattle.std.proofs.lemmas.Str.{IsCharBoundary-from_take}
 use Rattle.pk_terms.specs.declared.terms.Entry.{Entry}
-use Rattle.pk_terms.specs.Table.{word_at}
-use Rattle.pk_terms.proofs.TableLemmas.{slice_get-map}
+use Rattle.pk_terms.proofs.TableLemmas.{word_there}
 use Rattle.pk_terms.proofs.terms.word_of.Goals as goal
 
 abbrev none : Entry
-none = record { hash = 0; start = 0; end = 0 }
+none = record { fingerprint = 0; start = 0; end = 0 }
 
 pub range-requires-clause-start_boundary : goal.range-requires-clause-start_boundary
 range-requires-clause-start_boundary c = λ _.
@@ -23,4 +22,4 @@ range-requires-clause-end_boundary c =
 
 pub returns : goal.returns
 returns c =
-    slice_get-map (word_at c.args.text.now) c.args.entries.now c.args.place none c.requires.within ∙ ap Some (sym c.range.ensures.value)
+    word_there c.args.entries.now c.args.text.now c.args.place none c.requires.within ∙ ap Some (sym c.range.ensures.value)

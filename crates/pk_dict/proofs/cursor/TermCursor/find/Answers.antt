@@ -1,5 +1,6 @@
 -- The group that was chosen, and then word by word.
 use Rattle.std.proofs.Common.{sym, ap, subst, ◌∙◌, ◌≡◌, ◌+◌, ℕ, List}
+use Rattle.pk_posting.proofs.SourceLemmas.{answered, answered_more}
 use Rattle.pk_dict.specs.Cursor.{Comes, HoldsOf, ReadsAhead, StandsAt}
 use Rattle.pk_dict.specs.Order.{less}
 use Rattle.pk_dict.specs.Place.{bytes_at}
@@ -11,10 +12,7 @@ pub loop-self-init : goal.loop-self-init
 loop-self-init g c =
     let left = c.in_ok-start.ensures.left in
     record {
-      same = left.same;
-      size = left.size;
-      kept = left.kept;
-      failures = left.faults.ok;
+      left = answered left left.faults.ok;
       place = c.begin.ensures.place;
       ahead = c.begin.ensures.ahead;
       fault = c.begin.ensures.fault;
@@ -34,24 +32,21 @@ loop-self-preserved g c =
     let after = c.advance.new.self in
     let i = c.loop-self.invariant in
     record {
-      same = λ h. left.same h ∙ i.same h;
-      size = left.size ∙ i.size;
-      kept = g.met.S.ByteSource.keeps_then _ _ _ i.kept left.kept;
-      failures = left.faults.ok ∙ i.failures;
+      left = answered_more g.met.S.ByteSource.keeps_then i.left left left.faults.ok;
       place = c.in_ok-advance.ensures.place ∙ i.place;
       ahead = subst (λ (m : ℕ). ReadsAhead m after) i.ahead.0 c.in_ok-advance.ensures.ahead;
       fault = c.in_ok-advance.ensures.fault ∙ i.fault;
       holds = λ h held.
-          let bytes : bytes_at (g.S.ByteSource.content c.loop-self.source) before.place ≡ bytes_at (g.S.ByteSource.content c.args.source.now) c.args.self.now.place = ap (bytes_at (g.S.ByteSource.content c.loop-self.source)) i.place ∙ ap (λ (l : List ℕ). bytes_at l c.args.self.now.place) (i.same h) in
+          let bytes : bytes_at (g.S.ByteSource.content c.loop-self.source) before.place ≡ bytes_at (g.S.ByteSource.content c.args.source.now) c.args.self.now.place = ap (bytes_at (g.S.ByteSource.content c.loop-self.source)) i.place ∙ ap (λ (l : List ℕ). bytes_at l c.args.self.now.place) (i.left.same h) in
           subst (λ (b : List ℕ). HoldsOf b after) bytes (c.in_ok-advance.ensures.holds h (subst (λ (b : List ℕ). HoldsOf b before) (sym bytes) (i.holds h held)));
       at = λ h es n k.
           let p = i.at h es n k in
-          let bytes : bytes_at (g.S.ByteSource.content c.loop-self.source) before.place ≡ bytes_at (g.S.ByteSource.content c.args.source.now) c.args.self.now.place = ap (bytes_at (g.S.ByteSource.content c.loop-self.source)) i.place ∙ ap (λ (l : List ℕ). bytes_at l c.args.self.now.place) (i.same h) in
+          let bytes : bytes_at (g.S.ByteSource.content c.loop-self.source) before.place ≡ bytes_at (g.S.ByteSource.content c.args.source.now) c.args.self.now.place = ap (bytes_at (g.S.ByteSource.content c.loop-self.source)) i.place ∙ ap (λ (l : List ℕ). bytes_at l c.args.self.now.place) (i.left.same h) in
           let s = subst (λ (b : List ℕ). StandsAt b after es (before.read + 1)) bytes (c.in_ok-advance.ensures.at h es before.read (subst (λ (b : List ℕ). Comes b before es before.read) (sym bytes) p.comes)) in
           passing_more _ before after es c.args.word.now p s c.in_ok-advance.ensures.read (ap (λ (l : List ℕ). less l c.args.word.now) (sym c.deref.ensures.value) ∙ sym c.is_less.ensures ∙ c.if-not-is_less.false);
       asks = λ h es n k j m few short.
           let p = i.at h es n k in
-          let bytes : bytes_at (g.S.ByteSource.content c.loop-self.source) before.place ≡ bytes_at (g.S.ByteSource.content c.args.source.now) c.args.self.now.place = ap (bytes_at (g.S.ByteSource.content c.loop-self.source)) i.place ∙ ap (λ (l : List ℕ). bytes_at l c.args.self.now.place) (i.same h) in
+          let bytes : bytes_at (g.S.ByteSource.content c.loop-self.source) before.place ≡ bytes_at (g.S.ByteSource.content c.args.source.now) c.args.self.now.place = ap (bytes_at (g.S.ByteSource.content c.loop-self.source)) i.place ∙ ap (λ (l : List ℕ). bytes_at l c.args.self.now.place) (i.left.same h) in
           let s = subst (λ (b : List ℕ). StandsAt b after es (before.read + 1)) bytes (c.in_ok-advance.ensures.at h es before.read (subst (λ (b : List ℕ). Comes b before es before.read) (sym bytes) p.comes)) in
           spent_more _ es c.args.word.now before after _ _ _ m (i.asks h es n k j m few short) s c.in_ok-advance.ensures.read (ap (λ (l : List ℕ). less l c.args.word.now) (sym c.deref.ensures.value) ∙ sym c.is_less.ensures ∙ c.if-not-is_less.false) short (c.in_ok-advance.ensures.asks h);
     }
@@ -62,7 +57,7 @@ returns-then-not-is_less-clause-asks g c h es n k j m few short =
     let after = c.advance.new.self in
     let i = c.loop-self.invariant in
     let p = i.at h es n k in
-    let bytes : bytes_at (g.S.ByteSource.content c.loop-self.source) before.place ≡ bytes_at (g.S.ByteSource.content c.args.source.now) c.args.self.now.place = ap (bytes_at (g.S.ByteSource.content c.loop-self.source)) i.place ∙ ap (λ (l : List ℕ). bytes_at l c.args.self.now.place) (i.same h) in
+    let bytes : bytes_at (g.S.ByteSource.content c.loop-self.source) before.place ≡ bytes_at (g.S.ByteSource.content c.args.source.now) c.args.self.now.place = ap (bytes_at (g.S.ByteSource.content c.loop-self.source)) i.place ∙ ap (λ (l : List ℕ). bytes_at l c.args.self.now.place) (i.left.same h) in
     let s = subst (λ (b : List ℕ). StandsAt b after es (before.read + 1)) bytes (c.in_ok-advance.ensures.at h es before.read (subst (λ (b : List ℕ). Comes b before es before.read) (sym bytes) p.comes)) in
     spent_found _ es c.args.word.now before after _ _ _ m (i.asks h es n k j m few short) s short (c.in_ok-advance.ensures.asks h)
 

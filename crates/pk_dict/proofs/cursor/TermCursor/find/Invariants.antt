@@ -6,14 +6,12 @@ use Rattle.pk_dict.specs.Place.{bytes_at}
 use Rattle.pk_dict.proofs.Sought.{Passing, Spent}
 use Rattle.pk_dict.proofs.Asks.{Short}
 use Rattle.pk_posting.specs.Limits.{asks_for}
+use Rattle.pk_posting.proofs.SourceLemmas.{IsAnswered}
 use Rattle.pk_dict.proofs.cursor.TermCursor.find.Given as goal
 
 abbrev pub invariant-loop-self : goal.invariant-loop-self
 invariant-loop-self g l = record {
-  same : g.S.ByteSource.honest → g.S.ByteSource.content l.source ≡ g.S.ByteSource.content l.fn.source;
-  size : length (g.S.ByteSource.content l.source) ≡ length (g.S.ByteSource.content l.fn.source);
-  kept : g.S.ByteSource.keeps l.fn.source l.source;
-  failures : g.S.ByteSource.failures l.source ≡ g.S.ByteSource.failures l.fn.source;
+  left : IsAnswered g.S.ByteSource l.fn.source l.source;
   place : l.self.place ≡ l.fn.self.place;
   ahead : ReadsAhead l.fn.self.held.most l.self;
   fault : l.self.fault ≡ l.fn.self.fault;

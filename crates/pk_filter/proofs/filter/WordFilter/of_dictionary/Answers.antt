@@ -1,6 +1,7 @@
 -- One word more passes; at the end all do.
 use Rattle.std.proofs.Common.{◌≡◌, ◌∙◌, List, ℕ, ap, arith, length, refl, subst, sym, take}
 use Rattle.std.proofs.lemmas.List.{take_all}
+use Rattle.pk_posting.proofs.SourceLemmas.{answered_more}
 use Rattle.pk_dict.specs.Cursor.{IsNext, StandsAt}
 use Rattle.pk_dict.specs.Dictionary.{DictSpells, Item}
 use Rattle.pk_dict.specs.Place.{bytes_at}
@@ -17,7 +18,7 @@ module _ (g : given.Over) (c : goal.After-next g) (h : g.S.ByteSource.honest) (e
   bytes = bytes_at (g.S.ByteSource.content c.args.source.now) c.args.place
 
   same : bytes_at (g.S.ByteSource.content c.words.source) c.words.words.place ≡ bytes
-  same = ap (λ (x : List ℕ). bytes_at x c.words.words.place) (c.words.invariant.same h) ∙ ap (bytes_at (g.S.ByteSource.content c.args.source.now)) c.words.invariant.place
+  same = ap (λ (x : List ℕ). bytes_at x c.words.words.place) (c.words.invariant.left.same h) ∙ ap (bytes_at (g.S.ByteSource.content c.args.source.now)) c.words.invariant.place
 
   stands : DictSpells bytes es → length es ≡ c.args.place.terms → StandsAt (bytes_at (g.S.ByteSource.content c.words.source) c.words.words.place) c.words.words es c.words.words.read
   stands spells count = subst (λ (b : List ℕ). StandsAt b c.words.words es c.words.words.read) (sym same) (c.words.invariant.at h es spells count)
@@ -31,10 +32,7 @@ words-preserved g c =
     let now = c.next.new.self in
     let filter = c.add.new.self in
     record {
-      same = λ h. left.same h ∙ before.same h;
-      size = left.size ∙ before.size;
-      kept = g.met.S.ByteSource.keeps_then _ _ _ before.kept left.kept;
-      failures = left.faults.ok ∙ before.failures;
+      left = answered_more g.met.S.ByteSource.keeps_then before.left left left.faults.ok;
       place = c.in_ok-next.ensures.place ∙ before.place;
       sound = c.in_ok-next.ensures.sound refl;
       long = omega (arith, c.add.ensures.blocks, before.long, filter.full, c.words.filter.full);

@@ -1,5 +1,6 @@
 -- The words so far pass, and the source was only read.
 use Rattle.std.proofs.Common.{◌≡◌, ◌*◌, List, None, length, take, vec_len}
+use Rattle.pk_posting.proofs.SourceLemmas.{IsAnswered}
 use Rattle.pk_dict.specs.Cursor.{StandsAt, words_left}
 use Rattle.pk_dict.specs.Dictionary.{DictSpells, Item}
 use Rattle.pk_dict.specs.Place.{bytes_at}
@@ -10,10 +11,7 @@ abbrev pub invariant-words : goal.invariant-words
 invariant-words g l =
     let content = g.S.ByteSource.content in
     record {
-      same : g.S.ByteSource.honest → content l.source ≡ content l.fn.source;
-      size : length (content l.source) ≡ length (content l.fn.source);
-      kept : g.S.ByteSource.keeps l.fn.source l.source;
-      failures : g.S.ByteSource.failures l.source ≡ g.S.ByteSource.failures l.fn.source;
+      left : IsAnswered g.S.ByteSource l.fn.source l.source;
       place : l.words.place ≡ l.fn.place;
       sound : l.words.fault ≡ None;
       long : 4 * vec_len l.filter.lanes ≡ bytes_for l.fn.place.terms;

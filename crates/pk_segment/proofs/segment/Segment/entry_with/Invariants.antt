@@ -1,7 +1,7 @@
 -- What is below the range has smaller numbers, what is above it greater ones.
-use Rattle.std.proofs.Common.{◌≤◌, ◌<◌, ◌+◌, ◌-◌, ◌^◌, List, ℕ, Ok, length}
+use Rattle.std.proofs.Common.{◌≤◌, ◌<◌, ◌+◌, ◌-◌, ◌^◌, List, ℕ, length}
 use Rattle.pk_model.specs.Collection.{Doc}
-use Rattle.pk_posting.specs.Source.{IsLeft}
+use Rattle.pk_posting.proofs.SourceLemmas.{IsAnswered}
 use Rattle.pk_segment.specs.Spelling.{DirectorySpells}
 use Rattle.pk_segment.specs.Directory.{doc_in}
 use Rattle.pk_segment.specs.Opened.{IsSegmentOf}
@@ -11,7 +11,7 @@ abbrev pub invariant-loop-low : goal.invariant-loop-low
 invariant-loop-low g l =
     let content = g.S.ByteSource.content in
     record {
-      left : IsLeft g.S.ByteSource.honest content g.S.ByteSource.failures g.S.ByteSource.keeps (Ok (tt {0})) l.fn.source l.source;
+      left : IsAnswered g.S.ByteSource l.fn.source l.source;
       within : l.high ≤ l.self.count;
       asked : (k : ℕ) → l.self.count < 2 ^ k → (t : ℕ) × (l.high - l.low < 2 ^ t) × (g.S.ByteSource.asked l.source + t ≤ g.S.ByteSource.asked l.fn.source + k);
       below : g.S.ByteSource.honest → (docs : List Doc) (kind : ℕ) → DirectorySpells (content l.fn.source) docs kind → IsSegmentOf l.self docs

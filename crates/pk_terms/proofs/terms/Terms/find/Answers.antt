@@ -1,4 +1,4 @@
--- By the table, which has no word where it has no chain.
+-- By the table, which has no word where it has no slot.
 use Rattle.std.proofs.Common.{◌≡◌, ◌∙◌, ℕ, List, Contains, ap₂, subst, slice_get, Some}
 use Rattle.std.specs.Option.{MatchOption}
 use Rattle.pk_terms.specs.Table.{words_in}

@@ -1,1 +1,0 @@
--- An input whose key says that no word is to be read stands at one, or has passed all.
