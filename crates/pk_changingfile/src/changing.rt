@@ -3,7 +3,8 @@
 ghost use Rattle.std.specs.Prelude.{◌≡◌, ◌≤◌, true, false, length, take, drop, if◌then◌else◌};
 ghost use Rattle.pk_changingfile.specs.Going.{MayGo};
 
-use pk_snapshot::{HeldFile, ReadFault, SharedFile};
+use pk_filedisk::CallFault;
+use pk_snapshot::{HeldFile, SharedFile};
 
 /// A file in memory that has other bytes once some calls are made: in the course of the next one.
 #[derive(Drop)]
@@ -94,23 +95,23 @@ impl SharedFile for ChangingFile {
         self.marked_after = self.has_changed;
     }
 
-    fn len(&self) -> Result<u64, ReadFault> {
+    fn len(&self) -> Result<u64, CallFault> {
         Ok(self.bytes().len() as u64)
     }
 
-    fn read_at(&mut self, at: u64, out: &mut [u8]) -> Result<usize, ReadFault> {
+    fn read_at(&mut self, at: u64, out: &mut [u8]) -> Result<usize, CallFault> {
         let n = self.copy(at, out);
         self.pass();
         Ok(n)
     }
 
-    fn read_at_once(&mut self, at: u64, out: &mut [u8]) -> Result<(), ReadFault> {
+    fn read_at_once(&mut self, at: u64, out: &mut [u8]) -> Result<(), CallFault> {
         let n = self.copy(at, out);
         self.pass();
         if n == out.len() {
             Ok(())
         } else {
-            Err(ReadFault::Failed)
+            Err(CallFault::Failed)
         }
     }
 

@@ -2,7 +2,8 @@
 
 ghost use Rattle.std.specs.Prelude.{◌≡◌, []};
 
-use pk_snapshot::{HeldFile, ReadFault, SharedFile};
+use pk_filedisk::CallFault;
+use pk_snapshot::{HeldFile, SharedFile};
 
 /// How a file goes on from the content that it begins with.
 #[derive(Clone, Copy, Debug, PartialEq, Eq, Drop)]
@@ -100,11 +101,11 @@ impl<'a> SharedFile for RecordedFile<'a> {
 
     fn mark(&mut self) {}
 
-    fn len(&self) -> Result<u64, ReadFault> {
+    fn len(&self) -> Result<u64, CallFault> {
         Ok(self.bytes().len() as u64)
     }
 
-    fn read_at(&mut self, at: u64, out: &mut [u8]) -> Result<usize, ReadFault> {
+    fn read_at(&mut self, at: u64, out: &mut [u8]) -> Result<usize, CallFault> {
         let rest = self.rest(at);
         let n = out.len().min(rest.len());
         out[..n].copy_from_slice(&rest[..n]);
@@ -112,11 +113,11 @@ impl<'a> SharedFile for RecordedFile<'a> {
         Ok(n)
     }
 
-    fn read_at_once(&mut self, at: u64, out: &mut [u8]) -> Result<(), ReadFault> {
+    fn read_at_once(&mut self, at: u64, out: &mut [u8]) -> Result<(), CallFault> {
         if self.read_at(at, out)? == out.len() {
             Ok(())
         } else {
-            Err(ReadFault::Failed)
+            Err(CallFault::Failed)
         }
     }
 

@@ -3,16 +3,17 @@
 ghost use Rattle.std.specs.Prelude.{[], false};
 
 use crate::held::HeldFile;
-use crate::shared::{ReadFault, SharedFile};
+use crate::shared::SharedFile;
+use pk_filedisk::CallFault;
 use std::fs::File;
 use std::io;
 use std::os::unix::fs::FileExt;
 
 // Why a call did not do what was asked.
-fn fault_of(error: &io::Error) -> ReadFault {
+fn fault_of(error: &io::Error) -> CallFault {
     match error.kind() {
-        io::ErrorKind::Interrupted => ReadFault::Interrupted,
-        _ => ReadFault::Failed,
+        io::ErrorKind::Interrupted => CallFault::Interrupted,
+        _ => CallFault::Failed,
     }
 }
 
@@ -26,24 +27,24 @@ impl SharedFile for File {
 
     fn mark(&mut self) {}
 
-    fn len(&self) -> Result<u64, ReadFault> {
+    fn len(&self) -> Result<u64, CallFault> {
         match File::metadata(self) {
             Ok(metadata) => Ok(metadata.len()),
             Err(error) => Err(fault_of(&error)),
         }
     }
 
-    fn read_at(&mut self, at: u64, out: &mut [u8]) -> Result<usize, ReadFault> {
+    fn read_at(&mut self, at: u64, out: &mut [u8]) -> Result<usize, CallFault> {
         match FileExt::read_at(self, out, at) {
             Ok(n) => Ok(n),
             Err(error) => Err(fault_of(&error)),
         }
     }
 
-    fn read_at_once(&mut self, at: u64, out: &mut [u8]) -> Result<(), ReadFault> {
+    fn read_at_once(&mut self, at: u64, out: &mut [u8]) -> Result<(), CallFault> {
         match FileExt::read_at(self, out, at) {
             Ok(n) if n == out.len() => Ok(()),
-            Ok(_) => Err(ReadFault::Failed),
+            Ok(_) => Err(CallFault::Failed),
             Err(error) => Err(fault_of(&error)),
         }
     }

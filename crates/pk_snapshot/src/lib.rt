@@ -83,4 +83,4 @@ mod shown;
 pub use disk::SnapshotDisk;
 pub use fault::{Refused, SnapshotFault};
 pub use held::HeldFile;
-pub use shared::{ReadFault, SharedFile};
+pub use shared::SharedFile;

@@ -5,8 +5,9 @@ ghost use Rattle.pk_manifest.specs.Evolves.{Evolves};
 ghost use Rattle.pk_snapshot.specs.Seen.{SawStamp};
 ghost use Rattle.pk_snapshot.specs.Shared.{AreSeen, Confirms, SawShut, SeenAtOnce};
 
-use crate::shared::{ReadFault, SharedFile};
+use crate::shared::SharedFile;
 use pk_disk::DiskFault;
+use pk_filedisk::CallFault;
 use pk_manifest::{Half, OPEN, u64_at};
 
 // How often a call is made again before it counts as failed.
@@ -28,8 +29,8 @@ pub fn read_whole<F: SharedFile>(file: &mut F, at: u64, out: &mut [u8]) -> Resul
         match file.read_at(at + done as u64, &mut out[done..]) {
             Ok(0) => return Err(DiskFault),
             Ok(got) => done += got,
-            Err(ReadFault::Interrupted) => {}
-            Err(ReadFault::Failed) => return Err(DiskFault),
+            Err(CallFault::Interrupted) => {}
+            Err(CallFault::Failed) => return Err(DiskFault),
         }
     }
     Err(DiskFault)
@@ -46,8 +47,8 @@ fn read_once<F: SharedFile>(file: &mut F, at: u64, out: &mut [u8]) -> Result<(),
     'tries: for _ in 0..TRIES {
         match file.read_at_once(at, out) {
             Ok(()) => return Ok(()),
-            Err(ReadFault::Interrupted) => {}
-            Err(ReadFault::Failed) => return Err(DiskFault),
+            Err(CallFault::Interrupted) => {}
+            Err(CallFault::Failed) => return Err(DiskFault),
         }
     }
     Err(DiskFault)

@@ -4,14 +4,7 @@ ghost use Rattle.std.specs.Prelude.{◌≡◌, ◌≤◌, ◌+◌, ◌%◌, List
 ghost use Rattle.pk_manifest.specs.Evolves.{Evolves};
 ghost use Rattle.pk_snapshot.specs.Shared.{AreSeen, SeenAtOnce};
 
-/// A call of the file that did not do what was asked.
-#[derive(Clone, Copy, Debug, PartialEq, Eq, Drop)]
-pub enum ReadFault {
-    /// A signal came. It may be made again.
-    Interrupted,
-    /// The system refused it, or the file ends before.
-    Failed,
-}
+use pk_filedisk::CallFault;
 
 /// An open file that is only read, and that another program may write at any time by the rule of
 /// gates and bodies, also during a call.
@@ -31,12 +24,12 @@ pub trait SharedFile {
         ensures evolves { honest → Evolves (content self.old) (content self.new) };
 
     /// The number of its bytes.
-    fn len(&self) -> Result<u64, ReadFault>
+    fn len(&self) -> Result<u64, CallFault>
         ensures { honest → IfOk result (λ n. n ≡ length (content self.now)) };
 
     /// Fills the start of `out` with bytes from a position on, and tells how many. Each stood at its
     /// position at some moment of the call, and no two of them need have done so at the same one.
-    fn read_at(&mut self, at: u64, out: &mut [u8]) -> Result<usize, ReadFault>
+    fn read_at(&mut self, at: u64, out: &mut [u8]) -> Result<usize, CallFault>
         ensures count { IfOk result (λ n. n ≤ length out.old) }
         ensures given { honest → IfOk result
             (λ n. AreSeen (content self.old) (content self.new) at n out.new) }
@@ -44,8 +37,8 @@ pub trait SharedFile {
         ensures marked { honest → marked self.new ≡ marked self.old };
 
     /// Fills `out` with bytes that stood there at one moment of the call: at most eight, within
-    /// eight that begin at a multiple of eight.
-    fn read_at_once(&mut self, at: u64, out: &mut [u8]) -> Result<(), ReadFault>
+    /// eight that begin at a multiple of eight. It fails where the file ends before, too.
+    fn read_at_once(&mut self, at: u64, out: &mut [u8]) -> Result<(), CallFault>
         requires { at % 8 + length out.old ≤ 8 }
         ensures given { honest → OnOk result
             (SeenAtOnce (content self.old) (content self.new) at out.new) }
