@@ -5,8 +5,8 @@ use Rattle.pk_manifest.specs.Spelling.{Body}
 use Rattle.pk_manifest.specs.declared.half.Half.{Half}
 use Rattle.pk_manifest.proofs.Fields.{one_body_in_force}
 use Rattle.pk_model.specs.Collection.{IsCollection}
-use Rattle.pk_segment.specs.declared.fault.ReadFault.{ReadFault}
-use Rattle.pk_segment.specs.declared.fault.ReadFault.TheVariants.{Damaged, Disk, Memory}
+use Rattle.pk_posting.specs.declared.fault.ReadFault.{ReadFault}
+use Rattle.pk_posting.specs.declared.fault.ReadFault.TheVariants.{Damaged, Disk, Memory}
 use Rattle.pk_state.specs.Committed.{Committed, Stored, collection_of, whole_of}
 use Rattle.pk_state.specs.Holds.{SpellsEntries}
 use Rattle.pk_check.specs.declared.body.Checked.{Checked}

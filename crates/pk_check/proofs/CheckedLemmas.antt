@@ -4,8 +4,8 @@ use Rattle.std.proofs.lemmas.List.{get_or_default, length-map}
 use Rattle.pk_disk.specs.Units.{extent_bytes}
 use Rattle.pk_manifest.specs.declared.manifest.Part.{Part as Entry}
 use Rattle.pk_model.specs.Collection.{Doc, numbers_of}
-use Rattle.pk_segment.specs.declared.fault.ReadFault.{ReadFault}
-use Rattle.pk_segment.specs.declared.fault.ReadFault.TheVariants.{Damaged, Disk, Memory}
+use Rattle.pk_posting.specs.declared.fault.ReadFault.{ReadFault}
+use Rattle.pk_posting.specs.declared.fault.ReadFault.TheVariants.{Damaged, Disk, Memory}
 use Rattle.pk_segment.proofs.SegmentLemmas.{one_list}
 use Rattle.pk_state.specs.Committed.{Stored}
 use Rattle.pk_state.specs.Holds.{ListSpells, SpellsEntry}

@@ -10,8 +10,8 @@ use Rattle.pk_posting.specs.Spelling.{AreBytes}
 use Rattle.pk_posting.proofs.ByteLemmas.{spelling_is}
 use Rattle.pk_posting.proofs.OneListLemmas.{one_list}
 use Rattle.pk_posting.proofs.SpellingLemmas.{spelling_spells}
-use Rattle.pk_segment.specs.declared.fault.ReadFault.{ReadFault}
-use Rattle.pk_segment.specs.declared.fault.ReadFault.TheVariants.{Damaged, Disk, Memory}
+use Rattle.pk_posting.specs.declared.fault.ReadFault.{ReadFault}
+use Rattle.pk_posting.specs.declared.fault.ReadFault.TheVariants.{Damaged, Disk, Memory}
 use Rattle.pk_state.specs.Committed.{Names, live_of}
 use Rattle.pk_check.specs.Deleted.{DeletionFailsAs, IsListIn, LeavesMany, ListFailsAs, stored_of}
 use Rattle.pk_check.proofs.NumberLemmas.{all_met, met, met_all, met_and_left, names_from, names_say}

@@ -5,8 +5,8 @@ use Rattle.pk_disk.specs.declared.units.Extent.{Extent}
 use Rattle.pk_model.specs.Collection.{Doc}
 use Rattle.pk_posting.specs.Posting.{IsPosting}
 use Rattle.pk_posting.specs.Spelling.{spelling}
-use Rattle.pk_segment.specs.declared.fault.ReadFault.{ReadFault}
-use Rattle.pk_segment.specs.declared.fault.ReadFault.TheVariants.{Damaged, Disk, Memory}
+use Rattle.pk_posting.specs.declared.fault.ReadFault.{ReadFault}
+use Rattle.pk_posting.specs.declared.fault.ReadFault.TheVariants.{Damaged, Disk, Memory}
 use Rattle.pk_state.specs.Committed.{Stored, live_of}
 use Rattle.pk_state.specs.Holds.{ListSpells}
 

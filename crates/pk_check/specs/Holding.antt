@@ -3,8 +3,8 @@ use Rattle.std.specs.Prelude.{◌≡◌, ℕ, List, length, Result, Ok, Err}
 use Rattle.pk_check.specs.declared.body.Checked.{Checked}
 use Rattle.pk_manifest.specs.Spelling.{Body}
 use Rattle.pk_model.specs.Collection.{Collection}
-use Rattle.pk_segment.specs.declared.fault.ReadFault.{ReadFault}
-use Rattle.pk_segment.specs.declared.fault.ReadFault.TheVariants.{Damaged, Disk, Memory}
+use Rattle.pk_posting.specs.declared.fault.ReadFault.{ReadFault}
+use Rattle.pk_posting.specs.declared.fault.ReadFault.TheVariants.{Damaged, Disk, Memory}
 use Rattle.pk_state.specs.Holds.{Holds}
 
 -- The bytes hold a collection: it has so many documents, this next number, and so many segments.

@@ -5,7 +5,7 @@ use Rattle.pk_check.specs.declared.index.Counts.{Counts}
 use Rattle.pk_check.specs.declared.taken.Taken.{Taken}
 use Rattle.pk_check.specs.Taking.{IsTaken}
 use Rattle.pk_model.specs.Collection.{Doc}
-use Rattle.pk_segment.specs.declared.fault.ReadFault.{ReadFault}
+use Rattle.pk_posting.specs.declared.fault.ReadFault.{ReadFault}
 use Rattle.pk_segment.specs.Spelling.{dictionary_in, header_in, postings_in}
 use Rattle.pk_segment.specs.Spelling.{segment_length, terms_in, texts}
 

@@ -5,7 +5,7 @@ use Rattle.std.specs.List.Sorted.{IsStrictlyIncreasing}
 use Rattle.pk_check.specs.declared.taken.Taken.{Taken}
 use Rattle.pk_index.specs.Index.{Keeps}
 use Rattle.pk_model.specs.Collection.{Doc, numbers_of}
-use Rattle.pk_segment.specs.declared.fault.ReadFault.{ReadFault}
+use Rattle.pk_posting.specs.declared.fault.ReadFault.{ReadFault}
 use Rattle.pk_segment.specs.declared.directory.Directory.{Directory}
 use Rattle.pk_segment.specs.Directory.{field_in}
 use Rattle.pk_segment.specs.Fields.{entry_field}

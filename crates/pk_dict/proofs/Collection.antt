@@ -4,8 +4,8 @@ use Rattle.pk_posting.specs.declared.source.SourceFault.{SourceFault}
 use Rattle.pk_posting.specs.Limits.{asks_for}
 use Rattle.pk_posting.specs.declared.source.SourceFault.TheVariants as faults
 use Rattle.pk_dict.specs.declared.entry.Entry.{Entry}
-use Rattle.pk_dict.specs.declared.entry.EntriesFault.{EntriesFault}
-use Rattle.pk_dict.specs.declared.entry.EntriesFault.TheVariants.{Damaged, Disk, Memory}
+use Rattle.pk_posting.specs.declared.fault.ReadFault.{ReadFault}
+use Rattle.pk_posting.specs.declared.fault.ReadFault.TheVariants.{Damaged, Disk, Memory}
 use Rattle.pk_dict.specs.Dictionary.{Item}
 use Rattle.pk_dict.specs.Entries.{ListGives, TermGives, asks_at, asked_for, collect_at, collected, goes_on, item_kept, term_at}
 use Rattle.pk_dict.specs.Reading.{◌>>=◌}
@@ -43,7 +43,7 @@ collect_last n i bytes prefix before at found all t entry next later same r more
     sym (collect_step n i bytes prefix before at found (Ok (t, entry, next)) all r.inside same r.term) ∙ on ∙ ap Ok (sym add)
 
 -- a fault of a term is the fault of the collection
-pub collect_fails : (n i : ℕ) (bytes prefix before : List ℕ) (at : ℕ) (found : List Item) (all : Result (List Item) SourceFault) (t : List ℕ) (e : EntriesFault) → i < n → collect_at (n - i) bytes prefix i before at found ≡ all
+pub collect_fails : (n i : ℕ) (bytes prefix before : List ℕ) (at : ℕ) (found : List Item) (all : Result (List Item) SourceFault) (t : List ℕ) (e : ReadFault) → i < n → collect_at (n - i) bytes prefix i before at found ≡ all
     → TermGives (Err e) t (term_at bytes (eqb (i % 16) 0) before at) → ListGives (Err e) all
 collect_fails n i bytes prefix before at found all t Damaged lt same g = sym (collect_step n i bytes prefix before at found (Err faults.Damaged) all lt same g)
 collect_fails n i bytes prefix before at found all t Disk lt same g = tt

@@ -7,8 +7,8 @@ use Rattle.std.proofs.lemmas.List.{length-map}
 use Rattle.pk_posting.specs.declared.source.SourceFault.{SourceFault}
 use Rattle.pk_dict.specs.declared.entry.DictPlace.{DictPlace}
 use Rattle.pk_dict.specs.declared.entry.Entry.{Entry}
-use Rattle.pk_dict.specs.declared.entry.EntriesFault.{EntriesFault}
-use Rattle.pk_dict.specs.declared.entry.EntriesFault.TheVariants.{Damaged, Disk, Memory}
+use Rattle.pk_posting.specs.declared.fault.ReadFault.{ReadFault}
+use Rattle.pk_posting.specs.declared.fault.ReadFault.TheVariants.{Damaged, Disk, Memory}
 use Rattle.pk_dict.specs.declared.head.Standing.{Standing}
 use Rattle.pk_dict.specs.declared.head.Standing.TheVariants.{First, After}
 use Rattle.pk_dict.specs.Dictionary.{Item, DictSpells, spelled_item, group_count, items_with_prefix}
@@ -90,21 +90,21 @@ entries_same bytes (e ∷ es) prefix d = entries_some bytes (e ∷ es) prefix d 
 pub entries_law : (bytes : List ℕ) (es : List Item) (terms : ℕ) (prefix : List ℕ) → DictSpells bytes es → length es ≡ terms → entries_at bytes terms prefix ≡ Ok (items_with_prefix prefix es)
 entries_law bytes es terms prefix d len = ap (λ (n : ℕ). entries_at bytes n prefix) (sym len) ∙ entries_same bytes es prefix d
 
-list_gives : (r : Result (Vec (Vec ℕ × Entry)) EntriesFault) (read : Result (List Item) SourceFault) (xs : List Item) → read ≡ Ok xs → ListGives r read → MatchResult r (λ v. items_from v.items ≡ xs) (λ e. e ≡ Damaged → ⊥)
+list_gives : (r : Result (Vec (Vec ℕ × Entry)) ReadFault) (read : Result (List Item) SourceFault) (xs : List Item) → read ≡ Ok xs → ListGives r read → MatchResult r (λ v. items_from v.items ≡ xs) (λ e. e ≡ Damaged → ⊥)
 list_gives (Ok v) read xs e h = (let k : Ok (items_from v.items) ≡ Ok xs = sym h ∙ e in cc)
 list_gives (Err Damaged) read xs e h = absurd (let k = sym h ∙ e in cc)
 list_gives (Err Disk) read xs e h = λ q. absurd cc
 list_gives (Err Memory) read xs e h = λ q. absurd cc
 
 -- where it lies in a source that does not fail
-pub entries_give : (content : List ℕ) (es : List Item) (place : DictPlace) (prefix : List ℕ) (r : Result (Vec (Vec ℕ × Entry)) EntriesFault) → ListGives r (entries_of content place prefix)
+pub entries_give : (content : List ℕ) (es : List Item) (place : DictPlace) (prefix : List ℕ) (r : Result (Vec (Vec ℕ × Entry)) ReadFault) → ListGives r (entries_of content place prefix)
     → place.at + place.bytes ≤ length content → DictSpells (bytes_at content place) es → length es ≡ place.terms → MatchResult r (λ v. items_from v.items ≡ items_with_prefix prefix es) (λ e. e ≡ Damaged → ⊥)
 unfolding entries_of
 entries_give content es place prefix r gives lies d len =
     list_gives r _ (items_with_prefix prefix es) (rw (le-ltb (length content) (place.at + place.bytes) lies) (entries_law (bytes_at content place) es place.terms prefix d len)) gives
 
 -- what is known by the number of the items that a dictionary has is known by the length of the list
-pub entries_asked : (content : List ℕ) (es : List Item) (place : DictPlace) (prefix : List ℕ) (r : Result (Vec (Vec ℕ × Entry)) EntriesFault) (P : ℕ → Type 0) → ListGives r (entries_of content place prefix) → (IsOk r → place.at + place.bytes ≤ length content)
+pub entries_asked : (content : List ℕ) (es : List Item) (place : DictPlace) (prefix : List ℕ) (r : Result (Vec (Vec ℕ × Entry)) ReadFault) (P : ℕ → Type 0) → ListGives r (entries_of content place prefix) → (IsOk r → place.at + place.bytes ≤ length content)
     → OnOk r (P (length (items_with_prefix prefix es))) → DictSpells (bytes_at content place) es → length es ≡ place.terms → IfOk r (λ v. P (length v.items))
 entries_asked content es place prefix (Ok v) P gives inside p d len =
     let same = ap (λ (l : List Item). length l) (entries_give content es place prefix (Ok v) gives (inside refl) d len) in

@@ -6,12 +6,13 @@ use Rattle.pk_posting.specs.declared.source.SourceFault.TheVariants.{Disk}
 use Rattle.pk_posting.specs.declared.source.SourceFault.TheVariants as faults
 use Rattle.pk_posting.specs.Source.{CountsFaults, Rose}
 use Rattle.pk_dict.specs.declared.entry.DictPlace.{DictPlace}
-use Rattle.pk_dict.specs.declared.entry.EntriesFault.{EntriesFault}
-use Rattle.pk_dict.specs.declared.entry.EntriesFault.TheVariants as entries
+use Rattle.pk_posting.specs.declared.fault.ReadFault.{ReadFault}
+use Rattle.pk_posting.specs.declared.fault.ReadFault.TheVariants as entries
 use Rattle.pk_dict.specs.Dictionary.{DictSpells, Item}
 use Rattle.pk_dict.specs.Place.{bytes_at}
 use Rattle.pk_dict.specs.Dict.{term_says, prefix_says}
-use Rattle.pk_dict.specs.Entries.{CountsEntriesFaults, ListGives, entries_at, entries_of}
+use Rattle.pk_posting.specs.ReadFaults.{CountsReads}
+use Rattle.pk_dict.specs.Entries.{ListGives, entries_at, entries_of}
 use Rattle.pk_dict.specs.LookUp.{look_up_at, look_up_of}
 use Rattle.pk_dict.specs.Reading.{Gives}
 use Rattle.pk_dict.proofs.Parts.{whole_at}
@@ -23,8 +24,8 @@ not_risen (inr h) = omega arith
 pub never_disk : {T : Type 0} (e : SourceFault) → CountsFaults {T = T} 0 0 (Err e) → e ≡ Disk → ⊥
 never_disk {T} e f h = not_risen (f.disk (ap (λ (x : SourceFault). let r : Result T SourceFault = Err x in r) h))
 
-pub never_disk_listed : {T : Type 0} (e : EntriesFault) → CountsEntriesFaults {T = T} 0 0 (Err e) → e ≡ entries.Disk → ⊥
-never_disk_listed {T} e f h = not_risen (f.disk (ap (λ (x : EntriesFault). let r : Result T EntriesFault = Err x in r) h))
+pub never_disk_listed : {T : Type 0} (e : ReadFault) → CountsReads {T = T} 0 0 (Err e) → e ≡ entries.Disk → ⊥
+never_disk_listed {T} e f h = not_risen (f.disk (ap (λ (x : ReadFault). let r : Result T ReadFault = Err x in r) h))
 
 -- what the slice shows as a whole
 abbrev pub place_of : ℕ → ℕ → DictPlace
@@ -62,7 +63,7 @@ pub is_damaged : {A : Type 0} (e : SourceFault) (read : Result A SourceFault) �
 is_damaged faults.Damaged read g n = g
 is_damaged faults.Disk read g n = absurd (n refl)
 
-pub lists_damaged : (e : EntriesFault) (read : Result (List Item) SourceFault) → ListGives (Err e) read → e ≡ entries.Damaged → read ≡ Err faults.Damaged
+pub lists_damaged : (e : ReadFault) (read : Result (List Item) SourceFault) → ListGives (Err e) read → e ≡ entries.Damaged → read ≡ Err faults.Damaged
 lists_damaged entries.Damaged read g h = g
 lists_damaged entries.Disk read g h = absurd cc
 lists_damaged entries.Memory read g h = absurd cc

@@ -2,13 +2,13 @@
 use Rattle.std.specs.Prelude.{◌≡◌, ◌≤◌, ◌<◌, ◌+◌, ◌-◌, ◌*◌, ◌%◌, ℕ, zero, suc, List, [], ◌∷◌, ◌++◌, length, take, drop, map, Bool, not, ◌||◌, Result, Ok, Err, OnOk, IsErrOf, nat_lt, nat_eq, if◌then◌else◌}
 use Rattle.std.specs.List.{starts_with}
 use Rattle.std.specs.Global.{Vec}
+use Rattle.pk_posting.specs.declared.fault.ReadFault.{ReadFault}
+use Rattle.pk_posting.specs.declared.fault.ReadFault.TheVariants.{Damaged, Disk, Memory}
 use Rattle.pk_posting.specs.declared.source.SourceFault.{SourceFault}
 use Rattle.pk_posting.specs.Limits.{asks_for}
 use Rattle.pk_posting.specs.declared.source.SourceFault.TheVariants as faults
-use Rattle.pk_posting.specs.Source.{Rose}
+use Rattle.pk_posting.specs.ReadFaults.{CountsReads}
 use Rattle.pk_dict.specs.declared.entry.Entry.{Entry}
-use Rattle.pk_dict.specs.declared.entry.EntriesFault.{EntriesFault}
-use Rattle.pk_dict.specs.declared.entry.EntriesFault.TheVariants.{Damaged, Disk, Memory}
 use Rattle.pk_dict.specs.declared.entry.DictPlace.{DictPlace}
 use Rattle.pk_dict.specs.declared.head.Standing.{Standing}
 use Rattle.pk_dict.specs.declared.head.Standing.TheVariants.{First, After}
@@ -27,20 +27,6 @@ item_from p = record { term = p.0.items; entry = p.1 }
 abbrev pub items_from : List (Vec ℕ × Entry) → List Item
 items_from ps = map item_from ps
 
--- a source's fault as one of a list of entries
-abbrev pub entries_fault : SourceFault → EntriesFault
-entries_fault faults.Damaged = Damaged
-entries_fault faults.Disk = Disk
-
--- Disk is answered exactly where the count of failures rose; with any other answer it is as before
-pub record CountsEntriesFaults {T : Type 0} (before now : ℕ) (result : Result T EntriesFault)
-    : Type 0 where
-  pub later : before ≤ now
-  pub ok : OnOk result (now ≡ before)
-  pub damaged : IsErrOf result Damaged → now ≡ before
-  pub memory : IsErrOf result Memory → now ≡ before
-  pub disk : IsErrOf result Disk → Rose before now
-
 -- the term at a place, whole: the bytes that it keeps of the one before, then its rest; what is
 -- said of it; the place after it
 unfoldable pub term_at : List ℕ → Bool → List ℕ → ℕ → Result (List ℕ × Entry × ℕ) SourceFault
@@ -52,7 +38,7 @@ term_at bytes first before at = do
 
 -- what a call returned and left as the term is what the bytes give, unless memory or what lies
 -- below failed
-abbrev pub TermGives : Result (Entry × ℕ) EntriesFault → List ℕ
+abbrev pub TermGives : Result (Entry × ℕ) ReadFault → List ℕ
     → Result (List ℕ × Entry × ℕ) SourceFault → Type 0
 TermGives (Ok r) term read = read ≡ Ok (term, r.0, r.1)
 TermGives (Err Damaged) term read = read ≡ Err faults.Damaged
@@ -117,7 +103,7 @@ entries_of content place prefix =
     else entries_at (bytes_at content place) place.terms prefix
 
 -- a list that was made is what the bytes give, unless memory or what lies below failed
-abbrev pub ListGives : Result (Vec (Vec ℕ × Entry)) EntriesFault → Result (List Item) SourceFault
+abbrev pub ListGives : Result (Vec (Vec ℕ × Entry)) ReadFault → Result (List Item) SourceFault
     → Type 0
 ListGives (Ok v) read = read ≡ Ok (items_from v.items)
 ListGives (Err Damaged) read = read ≡ Err faults.Damaged

@@ -2,7 +2,8 @@
 
 ghost use Rattle.std.specs.Prelude.{◌≡◌, ◌≤◌, ◌<◌, ◌+◌, ◌^◌, ℕ, List, length, Ok, None};
 ghost use Rattle.std.specs.Prelude.{IfOk, IfErr, IfSome, IsErrOf, OnOk, vec_capacity};
-ghost use Rattle.pk_dict.specs.Entries.{CountsEntriesFaults, TermGives};
+ghost use Rattle.pk_posting.specs.ReadFaults.{CountsReads};
+ghost use Rattle.pk_dict.specs.Entries.{TermGives};
 ghost use Rattle.pk_dict.specs.Place.{LiesIn, bytes_at};
 ghost use Rattle.pk_dict.specs.Reading.{IsPieceAt};
 ghost use Rattle.pk_dict.specs.Words.{word_at};
@@ -11,9 +12,9 @@ ghost use Rattle.pk_posting.specs.Frames.{ReadsSource};
 
 use crate::compare::is_less;
 use crate::entries::next_term;
-use crate::entry::{DictPlace, EntriesFault, Entry};
+use crate::entry::{DictPlace, Entry};
 use crate::near::{head_in, number_in};
-use pk_posting::ByteSource;
+use pk_posting::{ByteSource, ReadFault};
 use std::alloc::{AllocError, Global};
 use std::vec::Vec;
 
@@ -90,18 +91,18 @@ impl Held {
         source: &mut S,
         place: DictPlace,
         at: u32,
-    ) -> Result<(), EntriesFault>
+    ) -> Result<(), ReadFault>
         requires lies { LiesIn place (length (S.content source.old)) }
         requires inside { at ≤ place.bytes }
         ensures value { S.honest → OnOk result
             (IsPieceAt (bytes_at (S.content source.old) place) self.new.from self.new.bytes.items) }
         ensures most { self.new.most ≡ self.old.most }
         // Memory is refused only where there is no room for what is read at once.
-        ensures full { IsErrOf result EntriesFault.Memory → vec_capacity self.old.bytes < self.old.most }
+        ensures full { IsErrOf result ReadFault.Memory → vec_capacity self.old.bytes < self.old.most }
         ensures room { vec_capacity self.old.bytes ≤ vec_capacity self.new.bytes }
         ensures before { self.new.before ≡ self.old.before }
-        ensures fault { IfErr result (λ e. e ≡ EntriesFault.Damaged → ⊥) }
-        ensures left { ReadsSource S.ByteSource CountsEntriesFaults result source.old source.new }
+        ensures fault { IfErr result (λ e. e ≡ ReadFault.Damaged → ⊥) }
+        ensures left { ReadsSource S.ByteSource CountsReads result source.old source.new }
         ensures asks { S.asked source.new ≤ S.asked source.old + 1 }
     {
         self.bytes.clear();
@@ -166,17 +167,17 @@ fn far_word<S: ByteSource>(
     spot: Spot,
     before: &mut Vec<u8>,
     word: &mut Vec<u8>,
-) -> Result<(Entry, u32), EntriesFault>
+) -> Result<(Entry, u32), ReadFault>
     requires { LiesIn place (length (S.content source.old)) }
     ensures value { S.honest → TermGives result word.new.items
         (word_at (bytes_at (S.content source.old) place) spot.index word.old.items spot.at) }
     // Memory is refused only where there is no room for the word, or for the one before.
-    ensures full { S.honest → IsErrOf result EntriesFault.Memory → (t : List ℕ × Entry × ℕ)
+    ensures full { S.honest → IsErrOf result ReadFault.Memory → (t : List ℕ × Entry × ℕ)
         → word_at (bytes_at (S.content source.old) place) spot.index word.old.items spot.at ≡ Ok t
         → length word.old.items ≤ vec_capacity before.old → vec_capacity word.old < length t.0 }
     ensures room { vec_capacity word.old ≤ vec_capacity word.new }
     ensures before { vec_capacity before.old ≤ vec_capacity before.new }
-    ensures left { ReadsSource S.ByteSource CountsEntriesFaults result source.old source.new }
+    ensures left { ReadsSource S.ByteSource CountsReads result source.old source.new }
     ensures asks { S.honest → OnOk result (S.asked source.new
         ≤ S.asked source.old + 5 + asks_for (length word.new.items)) }
 {
@@ -185,7 +186,7 @@ fn far_word<S: ByteSource>(
     before.extend_from_slice(word)?;
     let (entry, next) = next_term(source, place, index % 16 == 0, at, word)?;
     if index > 0 && !is_less(before, word) {
-        return Err(EntriesFault::Damaged);
+        return Err(ReadFault::Damaged);
     }
     Ok((entry, next))
 }
@@ -197,7 +198,7 @@ pub(crate) fn next_word<S: ByteSource>(
     spot: Spot,
     held: &mut Held,
     word: &mut Vec<u8>,
-) -> Result<(Entry, u32), EntriesFault>
+) -> Result<(Entry, u32), ReadFault>
     requires lies { LiesIn place (length (S.content source.old)) }
     ensures value { S.honest
         → IsPieceAt (bytes_at (S.content source.old) place) held.old.from held.old.bytes.items
@@ -212,14 +213,14 @@ pub(crate) fn next_word<S: ByteSource>(
     // read at once.
     ensures full { S.honest
         → IsPieceAt (bytes_at (S.content source.old) place) held.old.from held.old.bytes.items
-        → IsErrOf result EntriesFault.Memory → (t : List ℕ × Entry × ℕ)
+        → IsErrOf result ReadFault.Memory → (t : List ℕ × Entry × ℕ)
         → word_at (bytes_at (S.content source.old) place) spot.index word.old.items spot.at ≡ Ok t
         → held.old.most ≤ vec_capacity held.old.bytes
         → length word.old.items ≤ vec_capacity held.old.before → vec_capacity word.old < length t.0 }
     ensures room { vec_capacity word.old ≤ vec_capacity word.new }
     ensures rooms { (vec_capacity held.old.bytes ≤ vec_capacity held.new.bytes)
         × (vec_capacity held.old.before ≤ vec_capacity held.new.before) }
-    ensures left { ReadsSource S.ByteSource CountsEntriesFaults result source.old source.new }
+    ensures left { ReadsSource S.ByteSource CountsReads result source.old source.new }
     ensures asks { S.honest → OnOk result (S.asked source.new
         ≤ S.asked source.old + 6 + asks_for (length word.new.items)) }
 {

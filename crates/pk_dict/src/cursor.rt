@@ -6,7 +6,7 @@ ghost use Rattle.std.specs.Prelude.{IfErr, IfOk, IfSome, IsErrOf, IsOk, IsTrue, 
 ghost use Rattle.std.specs.Prelude.{vec_capacity};
 ghost use Rattle.std.specs.List.{AllByRecursion};
 ghost use Rattle.pk_dict.specs.Dictionary.{DictSpells, Item, group_count};
-ghost use Rattle.pk_dict.specs.Entries.{CountsEntriesFaults};
+ghost use Rattle.pk_posting.specs.ReadFaults.{CountsReads};
 ghost use Rattle.pk_dict.specs.Order.{less};
 ghost use Rattle.pk_dict.specs.Place.{LiesIn, bytes_at};
 ghost use Rattle.pk_posting.specs.Limits.{asks_for, most_lent};
@@ -14,11 +14,11 @@ ghost use Rattle.pk_posting.specs.Frames.{ReadsSource};
 
 use crate::ahead::{Held, Spot, next_word};
 use crate::compare::is_less;
-use crate::entry::{DictPlace, EntriesFault, Entry};
+use crate::entry::{DictPlace, Entry};
 use crate::head::GroupStart;
 use crate::look_up::groups_of;
 use crate::seeking::first_start;
-use pk_posting::{ByteSource, ListPlace};
+use pk_posting::{ByteSource, ListPlace, ReadFault};
 use std::alloc::{AllocError, Global};
 use std::vec::Vec;
 
@@ -43,7 +43,7 @@ pub struct TermCursor {
     pub(crate) entry: Entry,
     pub(crate) held: Held,
     // What is answered from now on.
-    pub(crate) fault: Option<EntriesFault>,
+    pub(crate) fault: Option<ReadFault>,
     ghost order: { read ≤ place.terms },
 }
 
@@ -121,13 +121,13 @@ impl TermCursor {
     }
 
     /// Passes the next word, and says whether there was one. After a fault it answers that fault.
-    pub fn next<S: ByteSource>(&mut self, source: &mut S) -> Result<bool, EntriesFault>
+    pub fn next<S: ByteSource>(&mut self, source: &mut S) -> Result<bool, ReadFault>
         requires lies { LiesIn self.old.place (length (S.content source.old)) }
         ensures at { S.honest → (es : List Item) (n : ℕ)
             → StandsAt (bytes_at (S.content source.old) self.old.place) self.old es n
             → MatchResult result
             (IsNext (bytes_at (S.content source.old) self.old.place) self.new es n)
-            (λ e. e ≡ EntriesFault.Damaged → ⊥) }
+            (λ e. e ≡ ReadFault.Damaged → ⊥) }
 
         // Of any bytes.
         ensures holds { S.honest
@@ -144,7 +144,7 @@ impl TermCursor {
             → HasRead (bytes_at (S.content source.old) self.old.place) self.old self.new }
         ensures damaged { S.honest
             → HoldsOf (bytes_at (S.content source.old) self.old.place) self.old
-            → self.old.fault ≡ None → IsErrOf result EntriesFault.Damaged
+            → self.old.fault ≡ None → IsErrOf result ReadFault.Damaged
             → IsBroken (bytes_at (S.content source.old) self.old.place) self.old }
         ensures end { IfOk result (λ more. IsTrue more ↔ (0 < words_left self.old)) }
         ensures goes { IfOk result (GoesOn self.old self.new) }
@@ -152,7 +152,7 @@ impl TermCursor {
         // Memory is refused only where there is no room for the word.
         ensures full { S.honest
             → HoldsOf (bytes_at (S.content source.old) self.old.place) self.old
-            → self.old.fault ≡ None → IsErrOf result EntriesFault.Memory → (n : ℕ)
+            → self.old.fault ≡ None → IsErrOf result ReadFault.Memory → (n : ℕ)
             → HasRoom n self.old → length self.old.word.items ≤ n → (t : List ℕ × Entry × ℕ)
             → word_after (bytes_at (S.content source.old) self.old.place) self.old ≡ Ok t
             → n < length t.0 }
@@ -169,7 +169,7 @@ impl TermCursor {
         ensures repeats { IfSome self.old.fault
             (λ e. (result ≡ Err e) × (source.new ≡ source.old)) }
         ensures left { self.old.fault ≡ None
-            → ReadsSource S.ByteSource CountsEntriesFaults result source.old source.new }
+            → ReadsSource S.ByteSource CountsReads result source.old source.new }
         ensures asks { S.honest → OnOk result (S.asked source.new
             ≤ S.asked source.old + 6 + asks_for (length self.new.word.items)) }
     {
@@ -190,13 +190,13 @@ impl TermCursor {
 
     /// Goes to the first word that is not less than another, forward or back, and says whether
     /// there is one; if not, all words are passed. After a fault it answers that fault.
-    pub fn seek<S: ByteSource>(&mut self, source: &mut S, word: &[u8]) -> Result<bool, EntriesFault>
+    pub fn seek<S: ByteSource>(&mut self, source: &mut S, word: &[u8]) -> Result<bool, ReadFault>
         requires lies { LiesIn self.old.place (length (S.content source.old)) }
         ensures at { S.honest → (es : List Item) (n : ℕ)
             → StandsAt (bytes_at (S.content source.old) self.old.place) self.old es n
             → MatchResult result
             (IsSought (bytes_at (S.content source.old) self.old.place) self.new es word.now)
-            (λ e. e ≡ EntriesFault.Damaged → ⊥) }
+            (λ e. e ≡ ReadFault.Damaged → ⊥) }
 
         // Of any bytes.
         ensures holds { S.honest
@@ -211,7 +211,7 @@ impl TermCursor {
         ensures repeats { IfSome self.old.fault
             (λ e. (result ≡ Err e) × (source.new ≡ source.old)) }
         ensures left { self.old.fault ≡ None
-            → ReadsSource S.ByteSource CountsEntriesFaults result source.old source.new }
+            → ReadsSource S.ByteSource CountsReads result source.old source.new }
         ensures asks { S.honest → (es : List Item) (n : ℕ)
             → StandsAt (bytes_at (S.content source.old) self.old.place) self.old es n
             → OnOk result ((k m : ℕ) → group_count self.old.place.terms ≤ 2 ^ k
@@ -232,20 +232,20 @@ impl TermCursor {
     }
 
     // Goes to the first word that is not less than another.
-    fn find<S: ByteSource>(&mut self, source: &mut S, word: &[u8]) -> Result<bool, EntriesFault>
+    fn find<S: ByteSource>(&mut self, source: &mut S, word: &[u8]) -> Result<bool, ReadFault>
         requires lies { LiesIn self.old.place (length (S.content source.old)) }
         ensures at { S.honest → (es : List Item) (n : ℕ)
             → Comes (bytes_at (S.content source.old) self.old.place) self.old es n
             → MatchResult result
             (IsSought (bytes_at (S.content source.old) self.old.place) self.new es word.now)
-            (λ e. e ≡ EntriesFault.Damaged → ⊥) }
+            (λ e. e ≡ ReadFault.Damaged → ⊥) }
         ensures holds { S.honest
             → HoldsOf (bytes_at (S.content source.old) self.old.place) self.old
             → OnOk result (HoldsOf (bytes_at (S.content source.old) self.old.place) self.new) }
         ensures place { self.new.place ≡ self.old.place }
         ensures ahead { ReadsAhead self.old.held.most self.new }
         ensures fault { self.new.fault ≡ self.old.fault }
-        ensures left { ReadsSource S.ByteSource CountsEntriesFaults result source.old source.new }
+        ensures left { ReadsSource S.ByteSource CountsReads result source.old source.new }
         ensures asks { S.honest → (es : List Item) (n : ℕ)
             → Comes (bytes_at (S.content source.old) self.old.place) self.old es n
             → OnOk result ((k m : ℕ) → group_count self.old.place.terms ≤ 2 ^ k
@@ -285,14 +285,14 @@ impl TermCursor {
     }
 
     // Passes the next word, which there is.
-    fn advance<S: ByteSource>(&mut self, source: &mut S) -> Result<(), EntriesFault>
+    fn advance<S: ByteSource>(&mut self, source: &mut S) -> Result<(), ReadFault>
         requires lies { LiesIn self.old.place (length (S.content source.old)) }
         requires some { self.old.read < self.old.place.terms }
         ensures at { S.honest → (es : List Item) (n : ℕ)
             → Comes (bytes_at (S.content source.old) self.old.place) self.old es n
             → MatchResult result
             (λ _. StandsAt (bytes_at (S.content source.old) self.old.place) self.new es (n + 1))
-            (λ e. e ≡ EntriesFault.Damaged → ⊥) }
+            (λ e. e ≡ ReadFault.Damaged → ⊥) }
         ensures holds { S.honest
             → HoldsOf (bytes_at (S.content source.old) self.old.place) self.old
             → OnOk result (HoldsOf (bytes_at (S.content source.old) self.old.place) self.new) }
@@ -302,11 +302,11 @@ impl TermCursor {
             (HasRead (bytes_at (S.content source.old) self.old.place) self.old self.new) }
         ensures damaged { S.honest
             → HoldsOf (bytes_at (S.content source.old) self.old.place) self.old
-            → IsErrOf result EntriesFault.Damaged
+            → IsErrOf result ReadFault.Damaged
             → IsBroken (bytes_at (S.content source.old) self.old.place) self.old }
         ensures full { S.honest
             → HoldsOf (bytes_at (S.content source.old) self.old.place) self.old
-            → IsErrOf result EntriesFault.Memory → (n : ℕ)
+            → IsErrOf result ReadFault.Memory → (n : ℕ)
             → HasRoom n self.old → length self.old.word.items ≤ n → (t : List ℕ × Entry × ℕ)
             → word_after (bytes_at (S.content source.old) self.old.place) self.old ≡ Ok t
             → n < length t.0 }
@@ -316,7 +316,7 @@ impl TermCursor {
         ensures ahead { ReadsAhead self.old.held.most self.new }
         ensures fault { self.new.fault ≡ self.old.fault }
         ensures read { OnOk result (self.new.read ≡ self.old.read + 1) }
-        ensures left { ReadsSource S.ByteSource CountsEntriesFaults result source.old source.new }
+        ensures left { ReadsSource S.ByteSource CountsReads result source.old source.new }
         ensures asks { S.honest → OnOk result (S.asked source.new
             ≤ S.asked source.old + 6 + asks_for (length self.new.word.items)) }
     {

@@ -14,9 +14,9 @@ ghost use Rattle.pk_dict.specs.Dictionary.{DictSpells, Item, entry_of, items_wit
 ghost use Rattle.pk_dict.specs.Entries.{items_from};
 
 use crate::entries::entries_in;
-use crate::entry::{DictFault, DictPlace, EntriesFault, Entry};
+use crate::entry::{DictFault, DictPlace, Entry};
 use crate::look_up::look_up_in;
-use pk_posting::SliceSource;
+use pk_posting::{ReadFault, SliceSource};
 use std::alloc::Global;
 use std::vec::Vec;
 
@@ -82,10 +82,10 @@ impl<'a> Dict<'a> {
         };
         match entries_in(alloc, &mut SliceSource::new(self.bytes), place, prefix) {
             Ok(entries) => Ok(entries),
-            Err(EntriesFault::Memory) => Err(DictFault::Memory),
-            Err(EntriesFault::Damaged) => Err(DictFault::Damaged),
+            Err(ReadFault::Memory) => Err(DictFault::Memory),
+            Err(ReadFault::Damaged) => Err(DictFault::Damaged),
             // A slice never answers it.
-            Err(EntriesFault::Disk) => Err(DictFault::Damaged),
+            Err(ReadFault::Disk) => Err(DictFault::Damaged),
         }
     }
 }

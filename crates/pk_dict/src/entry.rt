@@ -1,7 +1,6 @@
 //! What a dictionary says of a term, where a dictionary lies, and why one can't be read.
 
-use pk_posting::{ListPlace, SourceFault};
-use std::alloc::AllocError;
+use pk_posting::ListPlace;
 
 /// What a dictionary says of a term.
 #[derive(Clone, Copy, Debug, PartialEq, Eq)]
@@ -30,40 +29,4 @@ pub enum DictFault {
     Damaged,
     /// There was no memory for the answer.
     Memory,
-}
-
-/// Why a dictionary in a source gives no list of entries. It may be asked again.
-#[derive(Clone, Copy, Debug, PartialEq, Eq, Drop)]
-pub enum EntriesFault {
-    /// The bytes are no dictionary of that many terms.
-    Damaged,
-    /// What lies below the source failed.
-    Disk,
-    /// There was no memory for the answer.
-    Memory,
-}
-
-impl From<SourceFault> for EntriesFault {
-    ghost use Rattle.pk_dict.specs.Entries.{entries_fault};
-    ghost use Rattle.std.specs.Prelude.{◌≡◌};
-
-    ghost from_gives = { λ s e. e ≡ entries_fault s };
-
-    fn from(fault: SourceFault) -> EntriesFault {
-        match fault {
-            SourceFault::Damaged => EntriesFault::Damaged,
-            SourceFault::Disk => EntriesFault::Disk,
-        }
-    }
-}
-
-impl From<AllocError> for EntriesFault {
-    ghost use Rattle.pk_dict.specs.declared.entry.EntriesFault.TheVariants.{Memory};
-    ghost use Rattle.std.specs.Prelude.{◌≡◌};
-
-    ghost from_gives = { λ _ e. e ≡ Memory };
-
-    fn from(_fault: AllocError) -> EntriesFault {
-        EntriesFault::Memory
-    }
 }

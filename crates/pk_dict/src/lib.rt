@@ -69,7 +69,7 @@ mod writer;
 pub use cursor::TermCursor;
 pub use dict::Dict;
 pub use entries::entries_in;
-pub use entry::{DictFault, DictPlace, EntriesFault, Entry};
+pub use entry::{DictFault, DictPlace, Entry};
 pub use look_up::{look_up_in, look_up_near};
 pub use prefix::PrefixCursor;
 pub use windows::Windows;

@@ -5,14 +5,14 @@ ghost use Rattle.std.specs.Prelude.{None, Some, Ok, Err, true, false};
 ghost use Rattle.std.specs.Prelude.{IfErr, IfOk, IfSome, IsOk, IsTrue, MatchResult, OnOk};
 ghost use Rattle.std.specs.List.{AllByRecursion, starts_with};
 ghost use Rattle.pk_dict.specs.Dictionary.{DictSpells, Item, group_count, items_with_prefix};
-ghost use Rattle.pk_dict.specs.Entries.{CountsEntriesFaults};
+ghost use Rattle.pk_posting.specs.ReadFaults.{CountsReads};
 ghost use Rattle.pk_dict.specs.Place.{LiesIn, bytes_at};
 ghost use Rattle.pk_posting.specs.Limits.{asks_for, most_lent};
 ghost use Rattle.pk_posting.specs.Frames.{ReadsSource};
 
 use crate::cursor::TermCursor;
-use crate::entry::{DictPlace, EntriesFault, Entry};
-use pk_posting::ByteSource;
+use crate::entry::{DictPlace, Entry};
+use pk_posting::{ByteSource, ReadFault};
 use std::alloc::Global;
 
 /// The entries of the words of a dictionary that begin with a prefix, one by one: none is kept.
@@ -57,13 +57,13 @@ impl<'a> PrefixCursor<'a> {
 
     /// The entry of the next word that begins with the prefix; None where there is none. After a
     /// fault it answers that fault.
-    pub fn next<S: ByteSource>(&mut self, source: &mut S) -> Result<Option<Entry>, EntriesFault>
+    pub fn next<S: ByteSource>(&mut self, source: &mut S) -> Result<Option<Entry>, ReadFault>
         requires lies { LiesIn self.old.cursor.place (length (S.content source.old)) }
         ensures gives { S.honest → (es rest : List Item)
             → HasLeft (bytes_at (S.content source.old) self.old.cursor.place) self.old es rest
             → MatchResult result
             (GivesNext (bytes_at (S.content source.old) self.old.cursor.place) self.new es rest)
-            (λ e. e ≡ EntriesFault.Damaged → ⊥) }
+            (λ e. e ≡ ReadFault.Damaged → ⊥) }
 
         // Of any bytes.
         ensures begins { IfOk result (λ given. IfSome given (λ entry.
@@ -83,7 +83,7 @@ impl<'a> PrefixCursor<'a> {
             (λ e. (result ≡ Err e) × (source.new ≡ source.old)) }
         ensures ended { self.old.ended ≡ true → (result ≡ Ok None) × (source.new ≡ source.old) }
         ensures left { self.old.cursor.fault ≡ None
-            → ReadsSource S.ByteSource CountsEntriesFaults result source.old source.new }
+            → ReadsSource S.ByteSource CountsReads result source.old source.new }
         ensures asks { S.honest → self.old.begun ≡ true → OnOk result (S.asked source.new
             ≤ S.asked source.old + 6 + asks_for (length self.new.cursor.word.items)) }
         ensures first { S.honest → (es rest : List Item)
@@ -106,14 +106,14 @@ impl<'a> PrefixCursor<'a> {
     }
 
     // Goes to the next word that may begin with the prefix.
-    fn go<S: ByteSource>(&mut self, source: &mut S) -> Result<bool, EntriesFault>
+    fn go<S: ByteSource>(&mut self, source: &mut S) -> Result<bool, ReadFault>
         requires lies { LiesIn self.old.cursor.place (length (S.content source.old)) }
         requires on { self.old.ended ≡ false }
         ensures at { S.honest → (es rest : List Item)
             → HasLeft (bytes_at (S.content source.old) self.old.cursor.place) self.old es rest
             → MatchResult result
             (HasGone (bytes_at (S.content source.old) self.old.cursor.place) self.new es rest)
-            (λ e. e ≡ EntriesFault.Damaged → ⊥) }
+            (λ e. e ≡ ReadFault.Damaged → ⊥) }
         ensures begun { self.new.begun ≡ true }
         ensures ended { self.new.ended ≡ false }
         ensures prefix { self.new.prefix ≡ self.old.prefix }
@@ -128,7 +128,7 @@ impl<'a> PrefixCursor<'a> {
         ensures repeats { IfSome self.old.cursor.fault
             (λ e. (result ≡ Err e) × (source.new ≡ source.old)) }
         ensures left { self.old.cursor.fault ≡ None
-            → ReadsSource S.ByteSource CountsEntriesFaults result source.old source.new }
+            → ReadsSource S.ByteSource CountsReads result source.old source.new }
         ensures asks { S.honest → self.old.begun ≡ true → OnOk result (S.asked source.new
             ≤ S.asked source.old + 6 + asks_for (length self.new.cursor.word.items)) }
         ensures first { S.honest → (es rest : List Item)

@@ -3,14 +3,14 @@
 ghost use Rattle.std.specs.Prelude.{◌≡◌, ◌*◌, ◌+◌, ◌/◌, ◌<◌, ◌↔◌, List};
 ghost use Rattle.std.specs.Prelude.{IfOk, IsTrue, MatchResult, length, vec_len};
 ghost use Rattle.pk_dict.specs.Dictionary.{DictSpells, Item};
-ghost use Rattle.pk_dict.specs.Entries.{CountsEntriesFaults};
+ghost use Rattle.pk_posting.specs.ReadFaults.{CountsReads};
 ghost use Rattle.pk_dict.specs.Place.{LiesIn, bytes_at};
 ghost use Rattle.pk_posting.specs.Frames.{ReadsSource};
 
 use crate::bits::{has_bits, set_bits};
 use crate::hash::WordHash;
-use pk_dict::{DictPlace, EntriesFault, TermCursor};
-use pk_posting::{ByteSource, MOST_LENT};
+use pk_dict::{DictPlace, TermCursor};
+use pk_posting::{ByteSource, MOST_LENT, ReadFault};
 use std::alloc::{AllocError, Global};
 
 // For how many words there is a block, which has 256 bits.
@@ -44,13 +44,13 @@ impl WordFilter {
         alloc: Global,
         source: &mut S,
         place: DictPlace,
-    ) -> Result<WordFilter, EntriesFault>
+    ) -> Result<WordFilter, ReadFault>
         requires { LiesIn place (length (S.content source.old)) }
         ensures words { S.honest → (es : List Item)
             → DictSpells (bytes_at (S.content source.old) place) es → length es ≡ place.terms
-            → MatchResult result (HasAll es) (λ e. e ≡ EntriesFault.Damaged → ⊥) }
+            → MatchResult result (HasAll es) (λ e. e ≡ ReadFault.Damaged → ⊥) }
         ensures size { IfOk result (λ f. 4 * vec_len f.lanes ≡ bytes_for place.terms) }
-        ensures left { ReadsSource S.ByteSource CountsEntriesFaults result source.old source.new }
+        ensures left { ReadsSource S.ByteSource CountsReads result source.old source.new }
     {
         let mut filter = WordFilter::for_words(alloc, place.terms)?;
         let mut words = TermCursor::open(alloc, place, MOST_LENT as u32);

@@ -7,8 +7,6 @@ use Rattle.pk_posting.specs.declared.source.SourceFault.{SourceFault}
 use Rattle.pk_posting.specs.declared.source.SourceFault.TheVariants as sources
 use Rattle.pk_dict.specs.declared.cursor.TermCursor.{TermCursor}
 use Rattle.pk_dict.specs.declared.entry.DictPlace.{DictPlace}
-use Rattle.pk_dict.specs.declared.entry.EntriesFault.{EntriesFault}
-use Rattle.pk_dict.specs.declared.entry.EntriesFault.TheVariants as entries
 use Rattle.pk_dict.specs.declared.entry.Entry.{Entry}
 use Rattle.pk_dict.specs.Cursor.{word_after}
 use Rattle.pk_dict.specs.Dictionary.{DictSpells, Item, group_count}
@@ -18,7 +16,8 @@ use Rattle.pk_dict.specs.Said.{IsSaid, no_entry, nth_word}
 use Rattle.pk_dict.proofs.SaidLaw.{item_said, said_before, said_then}
 use Rattle.pk_disk.specs.Units.{extent_bytes}
 use Rattle.pk_disk.specs.declared.units.Extent.{Extent}
-use Rattle.pk_segment.specs.declared.fault.ReadFault.{ReadFault}
+use Rattle.pk_posting.specs.declared.fault.ReadFault.{ReadFault}
+use Rattle.pk_posting.specs.declared.fault.ReadFault.TheVariants as read
 use Rattle.pk_segment.specs.Reading.{read_of}
 use Rattle.pk_join.specs.declared.lists.InputLists.{InputLists}
 use Rattle.pk_join.specs.declared.lists.InputLists.TheVariants.{Stored, Indexed}
@@ -30,7 +29,6 @@ use Rattle.pk_segment.specs.Spelling.{SegmentSpells}
 use Rattle.pk_segment.proofs.ListingLemmas.{index_of, is_there}
 use Rattle.pk_state.specs.Committed.{Stored as Kept}
 use Rattle.pk_join.proofs.StandLemmas.{given_at}
-use Rattle.pk_segment.specs.Listing.{read_entries}
 use Rattle.pk_join.specs.declared.walk_input.Input.{Input}
 use Rattle.pk_join.specs.Counted.{passed_by}
 use Rattle.pk_join.specs.Listed.{AreListsOf, ListSource, source_of}
@@ -60,10 +58,10 @@ none_refused bytes c fit is lt full =
     absurd (omega (arith, more, next.short))
 
 -- so the fault is another one
-pub no_refusal : (f : EntriesFault) → (f ≡ entries.Memory → ⊥) → (y : ReadFault) → y ≡ read_entries f → IsNoRefusal y
-no_refusal entries.Damaged h y same = subst (λ (x : ReadFault). IsNoRefusal x) (sym same) tt
-no_refusal entries.Disk h y same = subst (λ (x : ReadFault). IsNoRefusal x) (sym same) tt
-no_refusal entries.Memory h y same = absurd (h refl)
+pub no_refusal : (f : ReadFault) → (f ≡ read.Memory → ⊥) → IsNoRefusal f
+no_refusal read.Damaged h = tt
+no_refusal read.Disk h = tt
+no_refusal read.Memory h = absurd (h refl)
 
 -- it keeps its room
 pub roomy_on : (bytes : List ℕ) (old new : TermCursor) → HasRoomFor bytes old → new.place ≡ old.place

@@ -7,8 +7,8 @@ use Rattle.pk_dict.specs.Memory.{HasRoom}
 use Rattle.pk_dict.specs.Place.{bytes_at}
 use Rattle.pk_dict.specs.Said.{nth_word}
 use Rattle.pk_disk.specs.Units.{extent_bytes}
-use Rattle.pk_segment.specs.declared.fault.ReadFault.{ReadFault}
-use Rattle.pk_segment.specs.declared.fault.ReadFault.TheVariants.{Damaged, Disk, Memory}
+use Rattle.pk_posting.specs.declared.fault.ReadFault.{ReadFault}
+use Rattle.pk_posting.specs.declared.fault.ReadFault.TheVariants.{Damaged, Disk, Memory}
 use Rattle.pk_join.specs.declared.lists.InputLists.{InputLists}
 use Rattle.pk_join.specs.declared.lists.InputLists.TheVariants.{Stored, Indexed}
 use Rattle.pk_join.specs.declared.walk.Walk.{Walk}

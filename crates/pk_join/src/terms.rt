@@ -53,7 +53,7 @@ pub(crate) fn next_term<D: Disk>(
         Ok(more) => Ok(more),
         Err(fault) => {
             words.rewind();
-            Err(ReadFault::from(fault))
+            Err(fault)
         }
     }
 }

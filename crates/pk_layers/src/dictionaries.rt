@@ -7,10 +7,10 @@ use crate::failing::Failing;
 use crate::told::{Fault, Told};
 use crate::words::{Words, bytes_of, halves, number};
 use pk_dict::{
-    Dict, DictPlace, DictWriter, EntriesFault, Entry, PrefixCursor, Windows, entries_in,
+    Dict, DictPlace, DictWriter, Entry, PrefixCursor, Windows, entries_in,
     look_up_in, look_up_near,
 };
-use pk_posting::{ByteSource, ListPlace, MOST_LENT, SourceFault};
+use pk_posting::{ByteSource, ListPlace, MOST_LENT, ReadFault, SourceFault};
 use std::alloc::{AllocError, Global};
 
 /// A term with what it is added with.
@@ -134,7 +134,7 @@ fn tell_begun_in<S: ByteSource>(
 ) -> Result<(), AllocError> {
     match entries_in(words.alloc(), source, place, &words.bytes()?) {
         Ok(entries) => told.entries(&entries),
-        Err(EntriesFault::Memory) => return Err(AllocError),
+        Err(ReadFault::Memory) => return Err(AllocError),
         Err(fault) => told.fault(Fault::from(fault)),
     }
     Ok(())
@@ -147,18 +147,18 @@ fn passed<S: ByteSource>(
     place: DictPlace,
     ahead: u32,
     prefix: &[u8],
-) -> Result<Vec<(Vec<u8>, Entry)>, EntriesFault>
+) -> Result<Vec<(Vec<u8>, Entry)>, ReadFault>
     requires { ahead ≤ most_lent }
 {
     if u64::from(source.len()) < u64::from(place.at) + u64::from(place.bytes) {
-        return Err(EntriesFault::Damaged);
+        return Err(ReadFault::Damaged);
     }
     let mut cursor = PrefixCursor::open(alloc, place, ahead, prefix);
     let mut found = Vec::new(alloc);
     'entries: while let Some(entry) = cursor.next(source)? {
         let word = Vec::from_slice(alloc, cursor.word())?;
         let Ok(()) = found.push((word, entry)) else {
-            return Err(EntriesFault::Memory);
+            return Err(ReadFault::Memory);
         };
     }
     Ok(found)
@@ -174,7 +174,7 @@ fn tell_passed<S: ByteSource>(
     let ahead = words.number().min(MOST_LENT as u32);
     match passed(words.alloc(), source, place, ahead, &words.bytes()?) {
         Ok(entries) => told.entries(&entries),
-        Err(EntriesFault::Memory) => return Err(AllocError),
+        Err(ReadFault::Memory) => return Err(AllocError),
         Err(fault) => told.fault(Fault::from(fault)),
     }
     Ok(())

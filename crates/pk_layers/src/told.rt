@@ -1,6 +1,6 @@
 //! What is answered: values as words, and a word for each fault.
 
-use pk_dict::{DictFault, EntriesFault, Entry};
+use pk_dict::{DictFault, Entry};
 use pk_disk::DiskFault;
 use pk_manifest::ManifestFault;
 use pk_merge::MergeFault;
@@ -71,16 +71,6 @@ impl From<DictFault> for Fault {
         match fault {
             DictFault::Damaged => DAMAGED,
             DictFault::Memory => MEMORY,
-        }
-    }
-}
-
-impl From<EntriesFault> for Fault {
-    fn from(fault: EntriesFault) -> Fault {
-        match fault {
-            EntriesFault::Damaged => DAMAGED,
-            EntriesFault::Disk => DISK,
-            EntriesFault::Memory => MEMORY,
         }
     }
 }

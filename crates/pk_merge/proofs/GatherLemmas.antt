@@ -13,8 +13,8 @@ use Rattle.pk_model.specs.Limits.{max_segment_bytes}
 use Rattle.pk_segment.specs.declared.building.BuildFault.{BuildFault}
 use Rattle.pk_segment.specs.declared.building.BuildFault.TheVariants as building
 use Rattle.pk_segment.specs.Building.{BuildFails}
-use Rattle.pk_segment.specs.declared.fault.ReadFault.{ReadFault}
-use Rattle.pk_segment.specs.declared.fault.ReadFault.TheVariants as reading
+use Rattle.pk_posting.specs.declared.fault.ReadFault.{ReadFault}
+use Rattle.pk_posting.specs.declared.fault.ReadFault.TheVariants as reading
 use Rattle.pk_segment.specs.Spelling.{docs_of, segment_length, texts}
 use Rattle.pk_segment.specs.Reading.{IsNoDamage}
 use Rattle.pk_segment.proofs.PlanLemmas.{front_of}

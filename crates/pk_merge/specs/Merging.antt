@@ -10,8 +10,8 @@ use Rattle.pk_replace.specs.declared.stream.StreamFault.{StreamFault}
 use Rattle.pk_replace.specs.declared.stream.StreamFault.TheVariants as streaming
 use Rattle.pk_segment.specs.declared.building.BuildFault.{BuildFault}
 use Rattle.pk_segment.specs.declared.building.BuildFault.TheVariants as building
-use Rattle.pk_segment.specs.declared.fault.ReadFault.{ReadFault}
-use Rattle.pk_segment.specs.declared.fault.ReadFault.TheVariants as reading
+use Rattle.pk_posting.specs.declared.fault.ReadFault.{ReadFault}
+use Rattle.pk_posting.specs.declared.fault.ReadFault.TheVariants as reading
 use Rattle.pk_segment.specs.Spelling.{SegmentSpells, segment_length}
 
 -- what a fault of a reader means to a merge

@@ -13,7 +13,7 @@ use Rattle.pk_open.specs.Showing.{Spans}
 use Rattle.pk_open.proofs.LookUpLemmas.{located}
 use Rattle.pk_posting.specs.declared.source.SourceFault.{SourceFault}
 use Rattle.pk_posting.specs.declared.source.SourceFault.TheVariants as source
-use Rattle.pk_segment.specs.declared.fault.ReadFault.{ReadFault}
+use Rattle.pk_posting.specs.declared.fault.ReadFault.{ReadFault}
 use Rattle.pk_segment.specs.Opened.{IsSegmentOf}
 use Rattle.pk_segment.specs.Spelling.{DirectorySpells, SegmentSpells, dictionary_in, postings_in, texts}
 use Rattle.pk_segment.proofs.SegmentLemmas.{length_parts}

@@ -5,7 +5,7 @@ use Rattle.std.specs.Prelude.{Err, Option, Some, None}
 use Rattle.std.specs.declared.alloc.Global.{Global}
 use Rattle.pk_model.specs.Collection.{Doc, is_live}
 use Rattle.pk_model.specs.Steps.{text_of}
-use Rattle.pk_segment.specs.declared.fault.ReadFault.{ReadFault}
+use Rattle.pk_posting.specs.declared.fault.ReadFault.{ReadFault}
 use Rattle.pk_segment.specs.Opened.{first_of, last_of}
 use Rattle.pk_segment.specs.Reading.{IsNoDamage}
 use Rattle.pk_open.specs.declared.opened.OpenSegment.{OpenSegment}

@@ -26,7 +26,7 @@
 //! memory.
 //!
 //! A `ByteSource` lends stretches of some bytes: of a slice, or of a part of a disk. What its calls
-//! leave is in `specs/Source.antt`. A list that lies in a source is read in parts, without memory:
+//! leave is in `specs/Source.antt`; what reads it into memory answers a `ReadFault`. A list that lies in a source is read in parts, without memory:
 //!
 //! | call | what it takes out | calls of the source, at most |
 //! |---|---|---|
@@ -54,6 +54,7 @@
 mod decoder;
 mod decoding;
 mod encoding;
+mod fault;
 mod fields;
 pub mod laws;
 mod lent;
@@ -64,6 +65,7 @@ pub mod source;
 pub use decoder::ListDecoder;
 pub use decoding::{DecodeFault, decode};
 pub use encoding::{encode, encode_into, length_of};
+pub use fault::ReadFault;
 pub use fields::{LONGEST_LIST, ListPlace, Shape, Skip, skip_of};
 pub use parts::{block_in, last_in, tail_in};
 pub use source::{ByteSource, MOST_LENT, SliceSource, SourceFault};

@@ -9,7 +9,7 @@ ghost use Rattle.pk_segment.specs.Listing.{dictionary_place};
 ghost use Rattle.pk_segment.specs.Reading.{CountsReads};
 ghost use Rattle.pk_segment.specs.Spelling.{IndexSpells};
 
-use pk_dict::{DictPlace, EntriesFault};
+use pk_dict::DictPlace;
 use pk_filter::WordFilter;
 use pk_open::OpenSegment;
 use pk_posting::ByteSource;
@@ -217,8 +217,8 @@ impl SegmentFilters {
                 self.bytes = bytes;
                 Ok(Some(filter))
             }
-            Err(EntriesFault::Damaged) | Err(EntriesFault::Memory) => Ok(None),
-            Err(EntriesFault::Disk) => Err(ReadFault::Disk),
+            Err(ReadFault::Damaged) | Err(ReadFault::Memory) => Ok(None),
+            Err(ReadFault::Disk) => Err(ReadFault::Disk),
         }
     }
 

@@ -15,7 +15,7 @@ use Rattle.pk_model.specs.Collection.{Doc}
 use Rattle.pk_model.specs.Terms.{terms_of}
 use Rattle.pk_model.specs.Tree.{begins_with}
 use Rattle.pk_model.proofs.TermLemmas.{rising_terms, term_has}
-use Rattle.pk_segment.specs.declared.fault.ReadFault.{ReadFault}
+use Rattle.pk_posting.specs.declared.fault.ReadFault.{ReadFault}
 use Rattle.pk_segment.specs.Indexed.{items_of, list_with}
 use Rattle.pk_segment.specs.Listing.{BegunAs, IsEntryFor, LeadsTo, TermsAs}
 use Rattle.pk_segment.proofs.IndexLemmas.{all_items, items_words, leads}

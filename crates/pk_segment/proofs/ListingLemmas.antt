@@ -3,8 +3,6 @@ use Rattle.std.proofs.Common.{◌≡◌, ℕ, ◌+◌, ◌≤◌, List, length, 
 use Rattle.std.proofs.lemmas.List.{drop-drop, drop_at, take_all}
 use Rattle.pk_model.specs.Limits.{max_segment_bytes}
 use Rattle.pk_dict.specs.declared.entry.DictPlace.{DictPlace}
-use Rattle.pk_dict.specs.declared.entry.EntriesFault.{EntriesFault}
-use Rattle.pk_dict.specs.declared.entry.EntriesFault.TheVariants as entries
 use Rattle.pk_dict.specs.declared.entry.Entry.{Entry}
 use Rattle.pk_dict.specs.Dictionary.{DictSpells, entry_of}
 use Rattle.pk_dict.specs.Place.{bytes_at}
@@ -14,16 +12,18 @@ use Rattle.pk_model.specs.Terms.{terms_of}
 use Rattle.pk_posting.proofs.SpellingLemmas.{spelling_spells}
 use Rattle.pk_posting.specs.Posting.{Spells}
 use Rattle.pk_posting.specs.Spelling.{spelling as list_spelling}
-use Rattle.pk_segment.specs.declared.fault.ReadFault.{ReadFault}
+use Rattle.pk_posting.specs.declared.fault.ReadFault.{ReadFault}
+use Rattle.pk_posting.specs.declared.fault.ReadFault.TheVariants.{Damaged}
 use Rattle.pk_segment.specs.declared.header.Header.{Header}
 use Rattle.pk_segment.specs.Fields.{IsHeader, header_field}
 use Rattle.pk_segment.specs.Indexed.{dictionary, items_of, list_with, postings}
-use Rattle.pk_segment.specs.Listing.{IsEntryFor, LeadsTo, dictionary_place, postings_at, read_entries}
+use Rattle.pk_segment.specs.Listing.{IsEntryFor, LeadsTo, dictionary_place, postings_at}
 use Rattle.pk_segment.specs.Reading.{IsNoDamage}
 use Rattle.pk_segment.specs.Said.{dictionary_said}
 use Rattle.pk_segment.specs.Spelling.{IndexSpells, SegmentSpells}
 use Rattle.pk_segment.proofs.DirectoryLemmas.{directory_of, header_in}
 use Rattle.pk_segment.proofs.IndexLemmas.{dictionary_spells, items_count, leads, list_posting}
+use Rattle.pk_segment.proofs.ReadLemmas.{cause_of}
 use Rattle.pk_segment.proofs.SegmentLemmas.{header_says, index_there, inside_part, length_parts, parts_of}
 
 -- a segment of kind 2 has its index
@@ -119,11 +119,9 @@ is_there bytes docs place is same = record {
   count = items_count docs 0 (terms_of docs) ∙ ap (λ (p : DictPlace). p.terms) (sym same);
 }
 
--- a fault of the dictionary that is no damage is a cause
-pub entries_cause : (f : EntriesFault) → (f ≡ entries.Damaged → ⊥) → (y : ReadFault) → y ≡ read_entries f → IsNoDamage y
-entries_cause entries.Damaged h y same = absurd (h refl)
-entries_cause entries.Disk h y same = subst (λ (x : ReadFault). IsNoDamage x) (sym same) tt
-entries_cause entries.Memory h y same = subst (λ (x : ReadFault). IsNoDamage x) (sym same) tt
+-- a fault that is passed on, and is no damage, is a cause
+pub entries_cause : (f : ReadFault) → (f ≡ Damaged → ⊥) → (y : ReadFault) → y ≡ f → IsNoDamage y
+entries_cause f no y same = subst (λ (x : ReadFault). IsNoDamage x) (sym same) (cause_of f no)
 
 -- ---- a list that is read
 

@@ -7,8 +7,8 @@ use Rattle.pk_disk.proofs.FrameLemmas.{keeps_disk_none, keeps_disk_then}
 use Rattle.pk_posting.specs.declared.source.ByteSource.{Ghosts as SourceGhosts}
 use Rattle.pk_posting.specs.Frames.{ReadsSource}
 use Rattle.pk_posting.proofs.SourceLemmas.{answered, answered_then, source_as}
-use Rattle.pk_segment.specs.declared.fault.ReadFault.{ReadFault}
-use Rattle.pk_segment.specs.declared.fault.ReadFault.TheVariants.{Damaged, Disk, Memory}
+use Rattle.pk_posting.specs.declared.fault.ReadFault.{ReadFault}
+use Rattle.pk_posting.specs.declared.fault.ReadFault.TheVariants.{Damaged, Disk, Memory}
 use Rattle.pk_segment.specs.OnlyRead.{ReadsDisk}
 use Rattle.pk_segment.specs.Reading.{CountsReads}
 

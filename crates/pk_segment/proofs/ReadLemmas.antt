@@ -16,8 +16,8 @@ use Rattle.std.specs.Prelude.{Option, is_some, slice_get}
 use Rattle.pk_posting.specs.declared.source.SourceFault.{SourceFault}
 use Rattle.pk_posting.specs.declared.source.SourceFault.TheVariants as source
 use Rattle.pk_segment.specs.declared.directory.Entry.{Entry}
-use Rattle.pk_segment.specs.declared.fault.ReadFault.{ReadFault}
-use Rattle.pk_segment.specs.declared.fault.ReadFault.TheVariants.{Damaged, Disk, Memory}
+use Rattle.pk_posting.specs.declared.fault.ReadFault.{ReadFault}
+use Rattle.pk_posting.specs.declared.fault.ReadFault.TheVariants.{Damaged, Disk, Memory}
 use Rattle.pk_segment.specs.Directory.{doc_in, EntrySays, FindsEntry}
 use Rattle.pk_segment.specs.Reading.{IsNoDamage, read_of, text_of}
 use Rattle.pk_segment.proofs.SegmentLemmas.{parts_of, rise_in, rise_of, text_found, live_at, live_missing}

@@ -20,8 +20,6 @@ use Rattle.std.specs.Prelude.{
 }
 use Rattle.std.specs.Global.{Vec}
 use Rattle.pk_dict.specs.declared.entry.DictPlace.{DictPlace}
-use Rattle.pk_dict.specs.declared.entry.EntriesFault.{EntriesFault}
-use Rattle.pk_dict.specs.declared.entry.EntriesFault.TheVariants as entries
 use Rattle.pk_dict.specs.declared.entry.Entry.{Entry}
 use Rattle.pk_dict.specs.Dictionary.{entry_of, items_with_prefix}
 use Rattle.pk_dict.specs.Entries.{items_from}
@@ -29,17 +27,11 @@ use Rattle.pk_model.specs.Collection.{Doc}
 use Rattle.pk_model.specs.Terms.{terms_of}
 use Rattle.pk_posting.specs.Spelling.{spelling as list_spelling}
 use Rattle.pk_posting.specs.declared.source.SourceFault.{SourceFault}
-use Rattle.pk_segment.specs.declared.fault.ReadFault.{ReadFault}
-use Rattle.pk_segment.specs.declared.fault.ReadFault.TheVariants.{Damaged, Disk, Memory}
+use Rattle.pk_posting.specs.declared.fault.ReadFault.{ReadFault}
+use Rattle.pk_posting.specs.declared.fault.ReadFault.TheVariants.{Damaged, Disk, Memory}
 use Rattle.pk_segment.specs.Indexed.{dictionary, items_of, list_with, postings}
 use Rattle.pk_segment.specs.Reading.{IsNoDamage, read_of}
 use Rattle.pk_segment.specs.Spelling.{texts}
-
--- what a fault of a dictionary means to a reader
-abbrev pub read_entries : EntriesFault → ReadFault
-read_entries entries.Damaged = Damaged
-read_entries entries.Disk = Disk
-read_entries entries.Memory = Memory
 
 -- where the posting lists begin
 abbrev pub postings_at : List Doc → ℕ

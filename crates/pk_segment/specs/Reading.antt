@@ -17,8 +17,6 @@ use Rattle.std.specs.Prelude.{
   Result,
   Ok,
   Err,
-  OnOk,
-  IsErrOf,
   String,
 }
 use Rattle.std.specs.Global.{Vec}
@@ -28,31 +26,17 @@ use Rattle.pk_model.specs.declared.documents.Document.{Document}
 use Rattle.pk_model.specs.Collection.{Doc, numbers_of, has_number, is_live}
 use Rattle.pk_model.specs.Views.{doc_of}
 use Rattle.pk_posting.specs.declared.source.SourceFault.{SourceFault}
-use Rattle.pk_posting.specs.declared.source.SourceFault.TheVariants as source
-use Rattle.pk_posting.specs.Source.{Rose}
+pub use Rattle.pk_posting.specs.ReadFaults.{CountsReads, read_of}
 use Rattle.pk_segment.specs.declared.directory.Directory.{Directory}
 use Rattle.pk_segment.specs.Directory.{IsDirectoryOf, doc_in}
-use Rattle.pk_segment.specs.declared.fault.ReadFault.{ReadFault}
-use Rattle.pk_segment.specs.declared.fault.ReadFault.TheVariants.{Damaged, Disk, Memory}
-
--- what a fault of a source means to a reader
-abbrev pub read_of : SourceFault → ReadFault
-read_of source.Damaged = Damaged
-read_of source.Disk = Disk
+use Rattle.pk_posting.specs.declared.fault.ReadFault.{ReadFault}
+use Rattle.pk_posting.specs.declared.fault.ReadFault.TheVariants.{Damaged, Disk, Memory}
 
 -- not damaged: the device failed, or memory was refused
 abbrev pub IsNoDamage : ReadFault → Type 0
 IsNoDamage Damaged = ⊥
 IsNoDamage Disk = Unit {0}
 IsNoDamage Memory = Unit {0}
-
--- Disk is answered exactly where the count of failures rose; with any other answer it is as before.
-pub record CountsReads {T : Type 0} (before now : ℕ) (result : Result T ReadFault) : Type 0 where
-  pub later : before ≤ now
-  pub ok : OnOk result (now ≡ before)
-  pub damaged : IsErrOf result Damaged → now ≡ before
-  pub memory : IsErrOf result Memory → now ≡ before
-  pub disk : IsErrOf result Disk → Rose before now
 
 -- the numbers of the documents
 abbrev pub NumbersAs : List Doc → Result (Vec ℕ) ReadFault → Type 0

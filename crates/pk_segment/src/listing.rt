@@ -11,11 +11,10 @@ ghost use Rattle.pk_segment.specs.Reading.{CountsReads};
 ghost use Rattle.pk_segment.specs.Said.{dictionary_said, entries_said, lists_from};
 ghost use Rattle.pk_segment.specs.Spelling.{IndexSpells};
 
-use crate::fault::ReadFault;
 use crate::header::header_of;
 use crate::segment::Segment;
 use pk_dict::{DictPlace, Entry, Windows, entries_in, look_up_near};
-use pk_posting::{ByteSource, MOST_LENT, SourceFault};
+use pk_posting::{ByteSource, MOST_LENT, ReadFault, SourceFault};
 use std::alloc::Global;
 
 impl Segment {

@@ -16,8 +16,7 @@ ghost use Rattle.pk_posting.specs.Limits.{asks_for};
 ghost use Rattle.pk_posting.specs.Frames.{ReadsSource};
 ghost use Rattle.pk_segment.specs.Reading.{CountsReads};
 
-use crate::fault::ReadFault;
-use pk_posting::{ByteSource, MOST_LENT};
+use pk_posting::{ByteSource, MOST_LENT, ReadFault};
 use std::alloc::Global;
 
 // The `len` bytes from an offset on, in memory that is taken once.

@@ -9,8 +9,8 @@ use Rattle.pk_model.specs.Collection.{Collection}
 use Rattle.pk_model.specs.declared.commands.Refusal.{Refusal}
 use Rattle.pk_model.specs.declared.commands.Refusal.TheVariants.{Reopen, TextTooLong, BufferFull, NumbersUsedUp, NoSuchDocument, TooManySegments, SegmentTooLarge, Memory, Full, Damaged, Disk}
 use Rattle.pk_segment.specs.Reading.{CountsReads}
-use Rattle.pk_segment.specs.declared.fault.ReadFault.{ReadFault}
-use Rattle.pk_segment.specs.declared.fault.ReadFault.TheVariants as fault
+use Rattle.pk_posting.specs.declared.fault.ReadFault.{ReadFault}
+use Rattle.pk_posting.specs.declared.fault.ReadFault.TheVariants as fault
 use Rattle.pk_state.specs.Holds.{Holds}
 use Rattle.pk_replace.proofs.ClaimLemmas.{each_weaker}
 use Rattle.pk_replace.specs.Claims.{IsThere, Stands}

@@ -1,8 +1,8 @@
 -- What is told of a number that no document has.
 use Rattle.std.proofs.Common.{◌≡◌, Bool, true, false, refl}
 use Rattle.pk_model.specs.declared.commands.Refusal.TheVariants.{NoSuchDocument}
-use Rattle.pk_segment.specs.declared.fault.ReadFault.{ReadFault}
-use Rattle.pk_segment.specs.declared.fault.ReadFault.TheVariants.{Damaged, Disk, Memory}
+use Rattle.pk_posting.specs.declared.fault.ReadFault.{ReadFault}
+use Rattle.pk_posting.specs.declared.fault.ReadFault.TheVariants.{Damaged, Disk, Memory}
 use Rattle.pk_store.specs.Refusing.{refusal_for}
 
 -- a fault of a reader is never told so

@@ -6,7 +6,7 @@ use Rattle.pk_check.specs.Entries.{EntriesFailAs, StandsFor}
 use Rattle.pk_check.specs.Holding.{ChecksBodyAs}
 use Rattle.pk_manifest.specs.declared.manifest.Part.{Part as Entry}
 use Rattle.pk_manifest.specs.Spelling.{view}
-use Rattle.pk_segment.specs.declared.fault.ReadFault.{ReadFault}
+use Rattle.pk_posting.specs.declared.fault.ReadFault.{ReadFault}
 use Rattle.pk_state.specs.Kept.{LieInside}
 use Rattle.pk_state.proofs.HoldsLemmas.{lie_inside}
 use Rattle.pk_check.proofs.BodyLemmas.{fault_held, stands_checked}

@@ -3,7 +3,7 @@ use Rattle.std.proofs.Common.{◌∙◌, ◌-◌, ℕ, List, Option, length, sym
 use Rattle.std.proofs.lemmas.List.{length-map}
 use Rattle.pk_disk.specs.declared.units.Extent.{Extent}
 use Rattle.pk_model.specs.Collection.{Doc}
-use Rattle.pk_segment.specs.declared.fault.ReadFault.TheVariants.{Damaged}
+use Rattle.pk_posting.specs.declared.fault.ReadFault.TheVariants.{Damaged}
 use Rattle.pk_check.specs.Deleted.{DeletionFailsAs, LeavesMany}
 use Rattle.pk_check.proofs.DeletedLemmas.{none_dropped, none_named, some_dropped}
 use Rattle.pk_check.proofs.NumberLemmas.{met}

@@ -1,7 +1,7 @@
 -- The numbers of a segment lie between its neighbours, and its deletion list is one of them.
 use Rattle.std.proofs.Common.{◌∙◌, ◌-◌, List, ℕ, Result, Err, sym, ap, subst, arith}
 use Rattle.std.proofs.lemmas.Result.{err_from_is_err_and}
-use Rattle.pk_segment.specs.declared.fault.ReadFault.{ReadFault}
+use Rattle.pk_posting.specs.declared.fault.ReadFault.{ReadFault}
 use Rattle.pk_check.specs.declared.entries.CheckedEntry.{CheckedEntry}
 use Rattle.pk_check.specs.Deleted.{DeletionFailsAs, LeavesMany}
 use Rattle.pk_check.specs.Entries.{ChecksEntryAs}

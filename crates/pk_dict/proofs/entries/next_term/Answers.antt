@@ -3,7 +3,7 @@ use Rattle.std.proofs.Common.{arith, ap, sym, subst, ◌∙◌, ◌≡◌, ◌�
 use Rattle.std.proofs.lemmas.Result.{err_from_is_err_and}
 use Rattle.std.proofs.lemmas.List.{length-append, length-take, length-drop}
 use Rattle.pk_dict.specs.declared.entry.Entry.{Entry}
-use Rattle.pk_dict.specs.declared.entry.EntriesFault.TheVariants.{Memory}
+use Rattle.pk_posting.specs.declared.fault.ReadFault.TheVariants.{Memory}
 use Rattle.pk_dict.specs.Place.{bytes_at}
 use Rattle.pk_dict.specs.Reading.{head_at, number_at}
 use Rattle.pk_dict.proofs.Coming.{same_made, term_made}

@@ -5,7 +5,7 @@ use Rattle.pk_dict.specs.Said.{IsSaid}
 use Rattle.pk_dict.specs.Dictionary.{DictSpells}
 use Rattle.pk_dict.proofs.SaidLaw.{said_goes, stands_said}
 use Rattle.pk_disk.specs.Units.{DiskExtent, extent_bytes}
-use Rattle.pk_segment.proofs.ListingLemmas.{entries_cause}
+use Rattle.pk_segment.proofs.ReadLemmas.{cause_of}
 use Rattle.pk_join.specs.Rooms.{HasRoomFor}
 use Rattle.pk_join.proofs.RoomLemmas.{no_refusal, none_refused, roomy_on}
 use Rattle.pk_join.proofs.terms.next_term.Given as given
@@ -37,8 +37,7 @@ returns-in-Err-clause-undamaged g c = λ honest es spells count is.
     let same = same_bytes g (goal.at.returns-in-Err-clause-undamaged g c).After-next in
     let here = subst (λ (b : List ℕ). IsSaid (bytes_at b old.place) old) (sym same) is in
     let there = subst (λ (b : List ℕ). DictSpells (bytes_at b old.place) es) (sym same) spells in
-    entries_cause c.in-Err.fault
-    (c.in-Err.ensures.at honest es old.read (stands_said _ es old there count here)) _ c.from.ensures
+    cause_of c.in-Err.fault (c.in-Err.ensures.at honest es old.read (stands_said _ es old there count here))
 
 pub returns-in-Err-clause-roomy : goal.returns-in-Err-clause-roomy
 returns-in-Err-clause-roomy g c = λ honest is fit.
@@ -49,7 +48,7 @@ returns-in-Err-clause-roomy g c = λ honest is fit.
     let lt : old.read < old.place.terms = omega (arith, c.in-Err.ensures.some c.requires.sound) in
     no_refusal c.in-Err.fault
     (λ full. none_refused _ old there here lt
-    (c.in-Err.ensures.full honest here.holds c.requires.sound (ap Err full))) _ c.from.ensures
+    (c.in-Err.ensures.full honest here.holds c.requires.sound (ap Err full)))
 
 pub returns-in-Ok-clause-rooms : goal.returns-in-Ok-clause-rooms
 returns-in-Ok-clause-rooms g c = λ bytes fit.

@@ -15,7 +15,7 @@ use Rattle.pk_join.specs.Walking.{stored_at}
 use Rattle.pk_join.specs.declared.walk_input.Input.{Input}
 use Rattle.pk_join.proofs.StandLemmas.{all_stay, given_at, is_read, keys_set, nowhere_none, nowhere_set, part_same}
 use Rattle.pk_segment.specs.Reading.{IsNoDamage}
-use Rattle.pk_segment.specs.declared.fault.ReadFault.{ReadFault}
+use Rattle.pk_posting.specs.declared.fault.ReadFault.{ReadFault}
 use Rattle.pk_join.proofs.walking.read_heads.Goals as goal
 
 pub loop-i-init : goal.loop-i-init

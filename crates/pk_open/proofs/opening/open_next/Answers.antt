@@ -2,7 +2,7 @@
 use Rattle.std.proofs.Common.{sym, subst, Err, Result}
 use Rattle.std.proofs.lemmas.Result.{err_from_is_err_and}
 use Rattle.pk_open.specs.declared.opened.OpenSegment.{OpenSegment}
-use Rattle.pk_segment.specs.declared.fault.ReadFault.{ReadFault}
+use Rattle.pk_posting.specs.declared.fault.ReadFault.{ReadFault}
 use Rattle.pk_open.specs.Opening.{OpensNext, ReadsOne}
 use Rattle.pk_open.specs.Opening.{OpensAsSegment}
 use Rattle.pk_open.proofs.EntryLemmas.{fault_next}

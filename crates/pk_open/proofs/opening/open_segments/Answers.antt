@@ -7,7 +7,7 @@ use Rattle.pk_manifest.specs.declared.manifest.Part.{Part as Entry}
 use Rattle.pk_manifest.specs.Spelling.{view}
 use Rattle.pk_open.specs.declared.opened.OpenSegment.{OpenSegment}
 use Rattle.pk_segment.proofs.OnlyReadLemmas.{disk_then}
-use Rattle.pk_segment.specs.declared.fault.ReadFault.{ReadFault}
+use Rattle.pk_posting.specs.declared.fault.ReadFault.{ReadFault}
 use Rattle.pk_open.specs.Opened.{entries_of}
 use Rattle.pk_open.specs.Opening.{SegmentsAs}
 use Rattle.pk_open.proofs.EntryLemmas.{end_so_far, fault_so_far, more_grown, next_so_far, no_entry}

@@ -5,7 +5,7 @@ use Rattle.std.proofs.lemmas.Result.{err_from_is_err_and}
 use Rattle.pk_dict.specs.declared.entry.Entry.{Entry}
 use Rattle.pk_dict.specs.Place.{bytes_at}
 use Rattle.pk_dict.specs.Prefix.{GivesNext, HasLeft}
-use Rattle.pk_segment.specs.declared.fault.ReadFault.{ReadFault}
+use Rattle.pk_posting.specs.declared.fault.ReadFault.{ReadFault}
 use Rattle.pk_segment.specs.Reading.{IsNoDamage}
 use Rattle.pk_segment.proofs.ListingLemmas.{entries_cause}
 use Rattle.pk_search.proofs.begun.next_entry.Goals as goal

@@ -4,7 +4,7 @@ use Rattle.std.specs.Prelude.{OnOk}
 use Rattle.pk_dict.specs.Place.{bytes_at}
 use Rattle.pk_dict.specs.declared.entry.DictPlace.{DictPlace}
 use Rattle.pk_disk.specs.Units.{extent_bytes}
-use Rattle.pk_dict.specs.declared.entry.EntriesFault.{EntriesFault}
+use Rattle.pk_posting.specs.declared.fault.ReadFault.{ReadFault}
 use Rattle.pk_segment.specs.Indexed.{items_of}
 use Rattle.pk_segment.specs.Spelling.{SegmentSpells}
 use Rattle.pk_segment.proofs.ListingLemmas.{index_of, is_there}
@@ -14,7 +14,7 @@ use Rattle.pk_join.specs.Reading.{HaveRead}
 use Rattle.pk_join.specs.Rooms.{HasRoomFor, HaveRoomFor}
 use Rattle.pk_join.proofs.lists.InputLists.next.Goals as goal
 
-none_kept : (o : Option EntriesFault) → no_fault o ≡ true → o ≡ None
+none_kept : (o : Option ReadFault) → no_fault o ≡ true → o ≡ None
 none_kept None is = refl
 none_kept (Some f) is = absurd (cc)
 

@@ -2,7 +2,7 @@
 use Rattle.std.proofs.Common.{◌∙◌, sym, ap, subst, arith, Err, Result}
 use Rattle.std.proofs.lemmas.Result.{err_from_is_err_and}
 use Rattle.pk_segment.specs.declared.directory.Directory.{Directory}
-use Rattle.pk_segment.specs.declared.fault.ReadFault.{ReadFault}
+use Rattle.pk_posting.specs.declared.fault.ReadFault.{ReadFault}
 use Rattle.pk_segment.specs.Reading.{DirectoryAs}
 use Rattle.pk_segment.proofs.DirectoryLemmas.{directory_read, field_read, within}
 use Rattle.pk_segment.proofs.ReadLemmas.{cause_of}

@@ -2,7 +2,7 @@
 use Rattle.std.proofs.Common.{◌<◌, sym, ap, subst, arith, Err, List, ℕ, length, Result}
 use Rattle.std.proofs.lemmas.Result.{err_from_is_err_and}
 use Rattle.pk_model.specs.declared.documents.Document.{Document}
-use Rattle.pk_segment.specs.declared.fault.ReadFault.{ReadFault}
+use Rattle.pk_posting.specs.declared.fault.ReadFault.{ReadFault}
 use Rattle.pk_segment.specs.Spelling.{SegmentSpells}
 use Rattle.pk_segment.specs.Reading.{DocumentAs}
 use Rattle.pk_segment.proofs.DirectoryLemmas.{directory_of, says, within}

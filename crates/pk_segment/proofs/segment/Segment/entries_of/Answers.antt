@@ -5,7 +5,7 @@ use Rattle.std.proofs.lemmas.Result.{err_from_is_err_and}
 use Rattle.pk_dict.specs.declared.entry.DictPlace.{DictPlace}
 use Rattle.pk_dict.specs.declared.entry.Entry.{Entry}
 use Rattle.pk_dict.specs.Entries.{entries_of}
-use Rattle.pk_segment.specs.declared.fault.ReadFault.{ReadFault}
+use Rattle.pk_posting.specs.declared.fault.ReadFault.{ReadFault}
 use Rattle.pk_segment.specs.Indexed.{items_of}
 use Rattle.pk_segment.specs.Listing.{BegunAs}
 use Rattle.pk_segment.specs.Spelling.{IndexSpells}

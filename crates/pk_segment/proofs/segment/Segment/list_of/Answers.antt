@@ -5,7 +5,7 @@ use Rattle.std.proofs.lemmas.Result.{err_from_is_err_and}
 use Rattle.pk_posting.specs.Limits.{asks_for}
 use Rattle.pk_dict.specs.declared.entry.Entry.{Entry}
 use Rattle.pk_posting.specs.declared.source.SourceFault.TheVariants as source
-use Rattle.pk_segment.specs.declared.fault.ReadFault.{ReadFault}
+use Rattle.pk_posting.specs.declared.fault.ReadFault.{ReadFault}
 use Rattle.pk_segment.specs.Indexed.{items_of}
 use Rattle.pk_segment.specs.Listing.{ListedAs}
 use Rattle.pk_segment.specs.Spelling.{IndexSpells}

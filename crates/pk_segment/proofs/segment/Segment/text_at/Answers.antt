@@ -4,7 +4,7 @@ use Rattle.std.specs.Prelude.{IsUtf8, String}
 use Rattle.std.specs.Global.{Vec}
 use Rattle.std.specs.declared.alloc.Global.{Global}
 use Rattle.std.proofs.lemmas.Result.{err_from_is_err_and}
-use Rattle.pk_segment.specs.declared.fault.ReadFault.{ReadFault}
+use Rattle.pk_posting.specs.declared.fault.ReadFault.{ReadFault}
 use Rattle.pk_segment.specs.Reading.{DocTextAs}
 use Rattle.pk_segment.proofs.SegmentLemmas.{text_in, text_there}
 use Rattle.pk_segment.proofs.ReadLemmas.{cause_of, utf8_in}

@@ -4,7 +4,7 @@ use Rattle.std.specs.Prelude.{Option, String}
 use Rattle.std.specs.declared.alloc.Global.{Global}
 use Rattle.std.proofs.lemmas.Result.{err_from_is_err_and}
 use Rattle.pk_segment.specs.declared.directory.Entry.{Entry}
-use Rattle.pk_segment.specs.declared.fault.ReadFault.{ReadFault}
+use Rattle.pk_posting.specs.declared.fault.ReadFault.{ReadFault}
 use Rattle.pk_segment.specs.Directory.{FindsEntry}
 use Rattle.pk_segment.specs.Spelling.{SegmentSpells}
 use Rattle.pk_segment.specs.Reading.{TextAs, IsNoDamage}
