@@ -7,8 +7,7 @@ use crate::failing::Failing;
 use crate::told::{Fault, Told};
 use crate::words::{Words, bytes_of, halves, number};
 use pk_dict::{
-    Dict, DictPlace, DictWriter, Entry, PrefixCursor, Windows, entries_in,
-    look_up_in, look_up_near,
+    Dict, DictPlace, DictWriter, Entry, PrefixCursor, Windows, entries_in, look_up_in, look_up_near,
 };
 use pk_posting::{ByteSource, ListPlace, MOST_LENT, ReadFault, SourceFault};
 use std::alloc::{AllocError, Global};
