@@ -84,11 +84,11 @@ class Dictionaries(unittest.TestCase):
                  for wanted in ((term, entry(i)), (term + b"\0", "-"))] + [(b"\xFF\xFF", "-")]
         listing = [f"{hexed(term)}:{entry(i)}" for i, term in enumerate(terms)] or ["-"]
         looked, begun = over(data, f"look {count} {' '.join(hexed(term) for term, _ in asked)}",
-                             f"begun {count} -")
+                             f"prefix {count} -")
         self.assertEqual(looked.split(), [wanted for _, wanted in asked])
         self.assertEqual(begun.split(), listing)
         there, amid = f"{NEVER} {place(data, count, 7)}", bytes([9] * 7) + data + bytes([9] * 3)
-        for line in (f"begun-in {there} -", *(f"passed-in {there} {ahead} -" for ahead in AHEAD)):
+        for line in (f"prefix-in {there} -", *(f"passed-in {there} {ahead} -" for ahead in AHEAD)):
             self.assertEqual(over(amid, line)[0].split()[:-2], listing, line)
         parts = [asked[part::4] for part in range(4)]
         told = each_answered([[f"source {hexed(amid)}", *[
@@ -128,7 +128,7 @@ class Dictionaries(unittest.TestCase):
                                    ("ajjji", 4_999, 5_000), ("ajjjj", 5_000, 5_000),
                                    ("b", 5_000, 5_000), ("A", 0, 0)):
             sought = hexed(prefix.encode())
-            told = over(data, f"begun 5000 {sought}",
+            told = over(data, f"prefix 5000 {sought}",
                         *(f"passed-in {NEVER} {place(data, 5_000)} {ahead} {sought}"
                           for ahead in AHEAD))
             wanted = [f"{hexed(terms[i])}:{entry(i)}" for i in range(start, end)] or ["-"]
@@ -197,8 +197,8 @@ class Damage(unittest.TestCase):
         sought = " ".join(map(hexed, TERMS))
         for data, there in ((DICTIONARY, place(DICTIONARY, 2)), (SEGMENT, IN_SEGMENT)):
             listings = [line for term in TERMS for line in (
-                f"begun 2 {hexed(term)}", f"begun-in {NEVER} {there} {hexed(term)}",
-                f"begun-windows {NEVER} {there} {hexed(term)}",
+                f"prefix 2 {hexed(term)}", f"prefix-in {NEVER} {there} {hexed(term)}",
+                f"prefix-windows {NEVER} {there} {hexed(term)}",
                 *(f"passed-in {NEVER} {there} {ahead} {hexed(term)}" for ahead in AHEAD))]
             near = [line for term in TERMS for way in ("near-in", "near-windows") for line in (
                 f"pivots {listed([1] * 16)}", f"{way} {NEVER} {there} {hexed(term)}")]
@@ -212,7 +212,7 @@ class Damage(unittest.TestCase):
         """A line about a dictionary is answered by entries, by none, or by damage."""
         name = words[0]
         told = told[:len(told) - {"in": 2, "windows": 3}.get(name.partition("-")[2], 0)]
-        if name.startswith(("begun", "passed")):
+        if name.startswith(("prefix", "passed")):
             self.assertTrue(told in (["-"], ["damaged"]) or len(told) <= 2
                             and all(item.count(":") == 3 for item in told), words)
         elif name not in ("source", "pivots"):
@@ -223,7 +223,7 @@ class Damage(unittest.TestCase):
     def test_a_dictionary_cut_short_is_damaged(self):
         """To whoever reads what is missing."""
         for n in range(len(DICTIONARY)):
-            self.assertEqual(over(DICTIONARY[:n], f"look 2 {hexed(b'newt')}", "begun 2 -"),
+            self.assertEqual(over(DICTIONARY[:n], f"look 2 {hexed(b'newt')}", "prefix 2 -"),
                              ["damaged", "damaged"], n)
 
 
@@ -259,7 +259,7 @@ class Failing(unittest.TestCase):
     def test_a_failed_read_of_a_list(self):
         """Five of the words begin with `aaad`."""
         sought = hexed(b"aaad")
-        for line in (f"begun-in {{}} {self.there} {sought}",
+        for line in (f"prefix-in {{}} {self.there} {sought}",
                      *(f"passed-in {{}} {self.there} {ahead} {sought}" for ahead in AHEAD)):
             clean = over(self.data, line.format(NEVER))[0].split()
             self.assertEqual(len(clean) - 2, 5)

@@ -68,7 +68,7 @@ pub(crate) fn tell_looked_up(
 }
 
 /// The entries of a prefix there.
-pub(crate) fn tell_begun(
+pub(crate) fn tell_prefix(
     alloc: Global,
     bytes: &[u8],
     words: &mut Words<'_>,
@@ -125,7 +125,7 @@ fn tell_each_near<S: ByteSource>(
 }
 
 /// The entries of a prefix in a source.
-fn tell_begun_in<S: ByteSource>(
+fn tell_prefix_in<S: ByteSource>(
     source: &mut S,
     place: DictPlace,
     words: &mut Words<'_>,
@@ -193,7 +193,7 @@ pub(crate) fn tell_in(
         "look-in" => tell_each(&mut source, place, *words, told)?,
         "near-in" => tell_each_near(&mut source, place, pivots, *words, told)?,
         "passed-in" => tell_passed(&mut source, place, words, told)?,
-        _ => tell_begun_in(&mut source, place, words, told)?,
+        _ => tell_prefix_in(&mut source, place, words, told)?,
     }
     source.tell(told);
     Ok(())
@@ -214,7 +214,7 @@ pub(crate) fn tell_by_windows(
     match name {
         "look-windows" => tell_each(&mut windows, place, *words, told)?,
         "near-windows" => tell_each_near(&mut windows, place, pivots, *words, told)?,
-        _ => tell_begun_in(&mut windows, place, words, told)?,
+        _ => tell_prefix_in(&mut windows, place, words, told)?,
     }
     told.number(windows.asked());
     source.tell(told);

@@ -1,7 +1,7 @@
 //! What is asked of the layers, line by line.
 
 use crate::dictionaries::{
-    tell_begun, tell_by_windows, tell_in, tell_looked_up, tell_windows, tell_written,
+    tell_by_windows, tell_in, tell_looked_up, tell_prefix, tell_windows, tell_written,
 };
 use crate::disks::Disks;
 use crate::lists::{
@@ -63,14 +63,14 @@ impl Layers {
             "walk"
             | "blocks"
             | "look"
-            | "begun"
+            | "prefix"
             | "look-in"
             | "near-in"
-            | "begun-in"
+            | "prefix-in"
             | "passed-in"
             | "look-windows"
             | "near-windows"
-            | "begun-windows"
+            | "prefix-windows"
             | "window" => self.read(name, words, told),
             "encode"
             | "into"
@@ -119,11 +119,11 @@ impl Layers {
             "walk" => tell_walk(source, words, told),
             "blocks" => tell_blocks(self.alloc, source, &self.other, words, told),
             "look" => tell_looked_up(self.alloc, source, words, told),
-            "begun" => tell_begun(self.alloc, source, words, told),
-            "look-in" | "near-in" | "begun-in" | "passed-in" => {
+            "prefix" => tell_prefix(self.alloc, source, words, told),
+            "look-in" | "near-in" | "prefix-in" | "passed-in" => {
                 tell_in(name, source, &mut self.pivots, words, told)
             }
-            "look-windows" | "near-windows" | "begun-windows" => {
+            "look-windows" | "near-windows" | "prefix-windows" => {
                 tell_by_windows(name, source, &mut self.pivots, words, told)
             }
             _ => tell_windows(source, words, told),

@@ -34,13 +34,13 @@
 //! - `blocks ROOM SEGMENT:BLOCK:PASSES ..`: blocks by way of a cache, and whether the source was
 //!   asked
 //! - `dict TERM:FREQUENCY:AT:BYTES ..`: a dictionary's length and bytes
-//! - `look TERMS TERM ..`, `begun TERMS PREFIX`: entries of a dictionary in memory
+//! - `look TERMS TERM ..`, `prefix TERMS PREFIX`: entries of a dictionary in memory
 //! - `look-in PASSES AT BYTES TERMS TERM ..`, also `near-in`: entries of one in a source, also by
 //!   pivots
-//! - `begun-in PASSES AT BYTES TERMS PREFIX`: those of a prefix
+//! - `prefix-in PASSES AT BYTES TERMS PREFIX`: those of a prefix
 //! - `passed-in PASSES AT BYTES TERMS AHEAD PREFIX`: the same by a cursor that reads so many bytes
 //!   ahead
-//! - `look-windows ..`, `near-windows ..`, `begun-windows ..`: the same by windows, and how often
+//! - `look-windows ..`, `near-windows ..`, `prefix-windows ..`: the same by windows, and how often
 //!   these were asked
 //! - `pivots KEYS`: the table that look-ups by pivots go by and fill
 //! - `window AT:N ..`: how often the source was asked behind each stretch that windows lend, and
@@ -72,7 +72,7 @@
 //!   behind it
 //! - `segment FIRST BYTES SIZE KIND READER ..`: what readers of the segment in an extent answer,
 //!   each behind a bar: `ends`, `postings`, `asked`, `numbers`, `has:N`, `text:N`, `document:I`,
-//!   `directory`, `dictionary`, `list:WORD`, `terms`, `begun:PREFIX`, and bytes that the source
+//!   `directory`, `dictionary`, `list:WORD`, `terms`, `prefix:PREFIX`, and bytes that the source
 //!   lends, `lend:AT:N`
 //! - `merge KIND XS YS`: what deletion lists leave of the segments in units 1 and 2, of 52 and 37
 //!   bytes, on a disk of 2,048

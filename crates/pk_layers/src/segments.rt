@@ -144,7 +144,7 @@ fn tell_reader<S: ByteSource>(
         }
         "list" => told.entry(segment.list_of(alloc, source, &bytes_of(alloc, rest)?)?),
         "terms" => told.entries(&segment.terms(alloc, source)?),
-        "begun" => told.entries(&segment.entries_of(alloc, source, &bytes_of(alloc, rest)?)?),
+        "prefix" => told.entries(&segment.entries_of(alloc, source, &bytes_of(alloc, rest)?)?),
         _ => told.word("-"),
     }
     Ok(())

@@ -1,4 +1,4 @@
 -- The lemmas of the crate.
 pub mod LiveLemmas
-pub mod BegunLemmas
+pub mod PrefixLemmas
 pub mod InRowLemmas

@@ -15,9 +15,9 @@
 //! holds takes no memory.
 #![tactic(auto)]
 
-mod begun;
 mod finding;
 mod in_row;
 mod live;
+mod prefix;
 
 pub use finding::{find, find_planned};

@@ -11,10 +11,10 @@ ghost use Rattle.pk_plan.specs.Plans.{found, word_at};
 ghost use Rattle.pk_plan.specs.Words.{texts};
 ghost use Rattle.pk_sets.specs.Sets.{intersection};
 
-use crate::begun::put_begun;
 use crate::in_row::keep_in_row;
+use crate::prefix::put_with_prefix;
 use pk_index::{Index, both_into};
-use pk_match::{Lists, asked_beginning, asked_row, keep_both};
+use pk_match::{Lists, asked_prefix, asked_row, keep_both};
 use pk_model::Document;
 use std::alloc::{AllocError, Global};
 
@@ -53,11 +53,11 @@ impl<'a> Lists for LiveLists<'a> {
     }
 
     fn put_prefix(&mut self, place: usize, out: &mut Vec<u32>) -> Result<(), AllocError> {
-        let Some(beginning) = asked_beginning(self.words, place) else {
+        let Some(prefix) = asked_prefix(self.words, place) else {
             out.clear();
             return Ok(());
         };
-        put_begun(self.alloc, self.index, self.live, beginning, out)
+        put_with_prefix(self.alloc, self.index, self.live, prefix, out)
     }
 
     fn keep_row(

@@ -1,12 +1,12 @@
 //! What stands at the places of a query that is asked.
 ghost use Rattle.std.specs.Prelude.{◌≡◌, MatchOption};
-ghost use Rattle.pk_plan.specs.Plans.{Beginning, InRow, Nothing, beginning_at, row_at};
+ghost use Rattle.pk_plan.specs.Plans.{WithPrefix, InRow, Nothing, prefix_at, row_at};
 ghost use Rattle.pk_plan.specs.Words.{texts};
 
 /// What a word is to begin with, at a place; none past the last word.
-pub fn asked_beginning<'a>(words: &[&'a str], place: usize) -> Option<&'a str>
-    ensures { MatchOption result (beginning_at (texts words.now) place ≡ Nothing)
-        (λ beginning. beginning_at (texts words.now) place ≡ Beginning beginning.now) }
+pub fn asked_prefix<'a>(words: &[&'a str], place: usize) -> Option<&'a str>
+    ensures { MatchOption result (prefix_at (texts words.now) place ≡ Nothing)
+        (λ prefix. prefix_at (texts words.now) place ≡ WithPrefix prefix.now) }
 {
     if place >= words.len() {
         return None;

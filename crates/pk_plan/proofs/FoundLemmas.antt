@@ -11,7 +11,7 @@ use Rattle.pk_sets.specs.Sets.{difference, has, intersection, union}
 use Rattle.pk_sets.proofs.CallerLemmas.{has_difference, has_intersection, has_union, same_members, union_rises}
 use Rattle.pk_sets.proofs.IntersectionLemmas.{Rising, eq_true, none_above}
 use Rattle.pk_sets.proofs.PartLemmas.{rising_all}
-use Rattle.pk_plan.specs.Plans.{Operation, Holding, InRow, Beginning, Everything, Nothing, Both, Either, Without, found, takes}
+use Rattle.pk_plan.specs.Plans.{Operation, Holding, InRow, WithPrefix, Everything, Nothing, Both, Either, Without, found, takes}
 
 -- the numbers of the documents that pass a test
 abbrev passing : (Doc → Bool) → List Doc → List ℕ
@@ -92,7 +92,7 @@ taken o d = takes o (words_of d.text)
 found_is : (o : Operation) (docs : List Doc) → IsStrictlyIncreasing (numbers_of docs) → found o docs ≡ passing (taken o) docs
 found_is (Holding word) docs h = refl
 found_is (InRow row) docs h = refl
-found_is (Beginning beginning) docs h = refl
+found_is (WithPrefix prefix) docs h = refl
 found_is Everything docs h = all_pass docs
 found_is Nothing docs h = none_pass docs
 found_is (Both left right) docs h = ap₂ intersection (found_is left docs h) (found_is right docs h) ∙ both (taken left) (taken right) docs h

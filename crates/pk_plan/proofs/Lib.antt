@@ -1,4 +1,4 @@
-pub mod BeginningLemmas
+pub mod PrefixLemmas
 pub mod FoundLemmas
 pub mod OperationLemmas
 pub mod OrderLemmas

@@ -6,7 +6,7 @@ use Rattle.pk_plan.specs.declared.plans.Plan.TheOpen.{Plan-F}
 use Rattle.pk_plan.specs.declared.plans.Plan.TheFolds.{fold-roll-Plan}
 use Rattle.pk_plan.specs.declared.plans.Plan.TheVariants.{All, Term, Prefix, Unite, Intersect, Exclude, Phrase, rolls-All, rolls-Term, rolls-Prefix, rolls-Unite, rolls-Intersect, rolls-Exclude, rolls-Phrase}
 use Rattle.pk_plan.specs.Order.{Standing, is_ordered, standing, standing_step}
-use Rattle.pk_plan.specs.Plans.{Operation, Both, Everything, Without, beginning_at, both_all, either_all, operation_of, operation_step, row_at, word_at}
+use Rattle.pk_plan.specs.Plans.{Operation, Both, Everything, Without, prefix_at, both_all, either_all, operation_of, operation_step, row_at, word_at}
 
 pub of_term : (asked : List (List ℕ)) (place : ℕ) → operation_of asked (Term place) ≡ word_at asked place
 of_term asked place = ap (operation_of asked) (sym (rolls-Term place)) ∙ fold-roll-Plan Operation (operation_step asked) (Plan-F.Term place)
@@ -23,7 +23,7 @@ of_intersect asked places parts = ap (operation_of asked) (sym (rolls-Intersect 
 pub of_exclude : (asked : List (List ℕ)) (all less : Box Plan) → operation_of asked (Exclude all less) ≡ Without (operation_of asked all.value) (operation_of asked less.value)
 of_exclude asked all less = ap (operation_of asked) (sym (rolls-Exclude all less)) ∙ fold-roll-Plan Operation (operation_step asked) (Plan-F.Exclude all less)
 
-pub of_prefix : (asked : List (List ℕ)) (place : ℕ) → operation_of asked (Prefix place) ≡ beginning_at asked place
+pub of_prefix : (asked : List (List ℕ)) (place : ℕ) → operation_of asked (Prefix place) ≡ prefix_at asked place
 of_prefix asked place = ap (operation_of asked) (sym (rolls-Prefix place)) ∙ fold-roll-Plan Operation (operation_step asked) (Plan-F.Prefix place)
 
 pub of_phrase : (asked : List (List ℕ)) (all : Box Plan) (first count : ℕ) → operation_of asked (Phrase all first count) ≡ Both (operation_of asked all.value) (row_at asked first count)

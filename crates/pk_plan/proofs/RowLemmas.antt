@@ -14,7 +14,7 @@ use Rattle.pk_plan.specs.declared.operands.Operands.{Operands}
 use Rattle.pk_plan.specs.declared.operands.PhrasePlaces.{PhrasePlaces}
 use Rattle.pk_plan.specs.declared.plans.Plan.{Plan}
 use Rattle.pk_plan.specs.Operands.{IsPassed, all_take}
-use Rattle.pk_plan.specs.Plans.{Both, Holding, InRow, Nothing, Operation, beginning_at, both_all, either_all, operation_of, row_at, takes, word_at}
+use Rattle.pk_plan.specs.Plans.{Both, Holding, InRow, Nothing, Operation, prefix_at, both_all, either_all, operation_of, row_at, takes, word_at}
 use Rattle.pk_plan.proofs.WordLemmas.{same_row}
 use Rattle.pk_plan.specs.Words.{leaves}
 use Rattle.pk_plan.specs.Rows.{AllRest, GathersRest, HasEach, IsNarrowed, IsPutOnce, JoinsRest, OperandsRest, RestsOnWords, StandAt, has_each, row_of}
@@ -36,10 +36,10 @@ word_rests [] place = tt
 word_rests (w ∷ asked) zero = tt
 word_rests (w ∷ asked) (suc place) = word_rests asked place
 
-pub beginning_rests : (asked : List (List ℕ)) (place : ℕ) → RestsOnWords (beginning_at asked place)
-beginning_rests [] place = tt
-beginning_rests (w ∷ asked) zero = tt
-beginning_rests (w ∷ asked) (suc place) = beginning_rests asked place
+pub prefix_rests : (asked : List (List ℕ)) (place : ℕ) → RestsOnWords (prefix_at asked place)
+prefix_rests [] place = tt
+prefix_rests (w ∷ asked) zero = tt
+prefix_rests (w ∷ asked) (suc place) = prefix_rests asked place
 
 both_rest : (os : List Operation) → Each1 RestsOnWords os → RestsOnWords (both_all os)
 both_rest [] each = tt

@@ -7,7 +7,7 @@ use Rattle.std.proofs.lemmas.Bool.{le-ltb, ltb-false}
 use Rattle.pk_model.proofs.TreeLemmas.{each}
 use Rattle.pk_model.specs.Tree.{Tree, Term, Phrase, Prefix, And, Or, Not, satisfies}
 use Rattle.pk_plan.specs.Operands.{query_takes}
-use Rattle.pk_plan.specs.Plans.{Beginning, Holding, InRow, Nothing, beginning_at, row_at, takes, word_at}
+use Rattle.pk_plan.specs.Plans.{WithPrefix, Holding, InRow, Nothing, prefix_at, row_at, takes, word_at}
 use Rattle.pk_plan.specs.Words.{leaves, texts}
 
 -- the word at a place, and none past the end
@@ -51,9 +51,9 @@ word_behind : (before : List (List ℕ)) (word : List ℕ) (behind : List (List 
 word_behind [] word behind = refl
 word_behind (w ∷ before) word behind = word_behind before word behind
 
-beginning_behind : (before : List (List ℕ)) (word : List ℕ) (behind : List (List ℕ)) → beginning_at (before ++ word ∷ behind) (length before) ≡ Beginning word
-beginning_behind [] word behind = refl
-beginning_behind (w ∷ before) word behind = beginning_behind before word behind
+prefix_behind : (before : List (List ℕ)) (word : List ℕ) (behind : List (List ℕ)) → prefix_at (before ++ word ∷ behind) (length before) ≡ WithPrefix word
+prefix_behind [] word behind = refl
+prefix_behind (w ∷ before) word behind = prefix_behind before word behind
 
 -- the words of a phrase behind others
 row_behind : (before row behind : List (List ℕ)) → row_at (before ++ (row ++ behind)) (length before) (length row) ≡ InRow row
@@ -102,7 +102,7 @@ on_right left right query words placed before behind =
 placed : (query : Tree) (words before behind : List (List ℕ)) → query_takes (before ++ (leaves query ++ behind)) words (length before) query ≡ satisfies query words
 placed (Term word) words before behind = ap (λ o. takes o words) (word_behind before word behind)
 placed (Phrase row) words before behind = ap (λ o. takes o words) (row_behind before row behind)
-placed (Prefix beginning) words before behind = ap (λ o. takes o words) (beginning_behind before beginning behind)
+placed (Prefix prefix) words before behind = ap (λ o. takes o words) (prefix_behind before prefix behind)
 placed (And left right) words before behind =
     ap₂ (λ a b. a && b) (on_left (leaves left) (leaves right) left words (placed left words) before behind) (on_right (leaves left) (leaves right) right words (placed right words) before behind)
 placed (Or left right) words before behind =

@@ -7,7 +7,7 @@ use Rattle.pk_plan.specs.declared.plans.Plan.{Plan}
 use Rattle.pk_plan.specs.declared.operands.Operands.{Operands}
 use Rattle.pk_plan.specs.declared.operands.PhrasePlaces.{PhrasePlaces}
 use Rattle.pk_plan.specs.Order.{all_ordered, all_parts, in_order, is_ordered}
-use Rattle.pk_plan.specs.Plans.{beginning_at, both_all, either_all, operation_of, row_at, takes, word_at}
+use Rattle.pk_plan.specs.Plans.{prefix_at, both_all, either_all, operation_of, row_at, takes, word_at}
 use Rattle.pk_plan.specs.Texts.{has_phrase, reads_texts}
 use Rattle.pk_plan.specs.Words.{leaves}
 
@@ -16,7 +16,7 @@ use Rattle.pk_plan.specs.Words.{leaves}
 abbrev pub query_takes : List (List ℕ) → List (List ℕ) → ℕ → Tree → Bool
 query_takes asked words from (Term word) = takes (word_at asked from) words
 query_takes asked words from (Phrase row) = takes (row_at asked from (length row)) words
-query_takes asked words from (Prefix beginning) = takes (beginning_at asked from) words
+query_takes asked words from (Prefix prefix) = takes (prefix_at asked from) words
 query_takes asked words from (And left right) =
     query_takes asked words from left && query_takes asked words (from + length (leaves left)) right
 query_takes asked words from (Or left right) =

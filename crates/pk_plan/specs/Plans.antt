@@ -16,7 +16,7 @@ use Rattle.pk_plan.specs.Words.{texts}
 pub data Operation : Type 0 where
   Holding : (word : List ℕ) → Operation
   InRow : (row : List (List ℕ)) → Operation
-  Beginning : (beginning : List ℕ) → Operation
+  WithPrefix : (prefix : List ℕ) → Operation
   Everything : Operation
   Nothing : Operation
   Both : (left right : Operation) → Operation
@@ -39,10 +39,10 @@ word_at (word ∷ words) zero = Holding word
 word_at (word ∷ words) (suc place) = word_at words place
 
 -- those that hold a word that begins with what stands at a place
-abbrev pub beginning_at : List (List ℕ) → ℕ → Operation
-beginning_at [] place = Nothing
-beginning_at (word ∷ words) zero = Beginning word
-beginning_at (word ∷ words) (suc place) = beginning_at words place
+abbrev pub prefix_at : List (List ℕ) → ℕ → Operation
+prefix_at [] place = Nothing
+prefix_at (word ∷ words) zero = WithPrefix word
+prefix_at (word ∷ words) (suc place) = prefix_at words place
 
 -- those in which so many words from a place on stand in a row; none where these pass the last word
 abbrev pub row_at : List (List ℕ) → ℕ → ℕ → Operation
@@ -52,7 +52,7 @@ row_at words first count =
 -- one level of a plan over the words of a query, with the operation of each part
 abbrev pub operation_step : List (List ℕ) → Plan-F Operation → Operation
 operation_step words (Plan-F.Term place) = word_at words place
-operation_step words (Plan-F.Prefix place) = beginning_at words place
+operation_step words (Plan-F.Prefix place) = prefix_at words place
 operation_step words Plan-F.All = Everything
 operation_step words (Plan-F.Intersect places parts) =
     both_all (map (word_at words) places.items ++ parts.items)
@@ -68,7 +68,7 @@ operation_of words = fold-Plan Operation (operation_step words)
 abbrev pub found : Operation → List Doc → List ℕ
 found (Holding word) docs = answer (Term word) docs
 found (InRow row) docs = answer (Phrase row) docs
-found (Beginning beginning) docs = answer (Prefix beginning) docs
+found (WithPrefix prefix) docs = answer (Prefix prefix) docs
 found Everything docs = numbers_of docs
 found Nothing docs = []
 found (Both left right) docs = intersection (found left docs) (found right docs)
@@ -92,7 +92,7 @@ IsPlanFor planned query =
 abbrev pub takes : Operation → List (List ℕ) → Bool
 takes (Holding word) words = list_any (bytes_eq word) words
 takes (InRow row) words = stand_in row words
-takes (Beginning beginning) words = list_any (begins_with beginning) words
+takes (WithPrefix prefix) words = list_any (begins_with prefix) words
 takes Everything words = true
 takes Nothing words = false
 takes (Both left right) words = takes left words && takes right words

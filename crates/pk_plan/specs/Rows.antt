@@ -8,7 +8,7 @@ use Rattle.pk_plan.specs.declared.plans.Plan.{Plan}
 use Rattle.pk_plan.specs.declared.operands.Operands.{Operands}
 use Rattle.pk_plan.specs.declared.operands.PhrasePlaces.{PhrasePlaces}
 use Rattle.pk_plan.specs.Operands.{all_take}
-use Rattle.pk_plan.specs.Plans.{Beginning, Both, Either, Everything, Holding, InRow, Nothing}
+use Rattle.pk_plan.specs.Plans.{WithPrefix, Both, Either, Everything, Holding, InRow, Nothing}
 use Rattle.pk_plan.specs.Plans.{Operation, Without, operation_of, takes}
 use Rattle.pk_plan.specs.Words.{leaves}
 use Rattle.pk_model.specs.Tree.{Tree}
@@ -23,7 +23,7 @@ abbrev pub StandsBeside : Operation → Operation → Type 0 → Type 0
 StandsBeside left (InRow row) rests =
     (words : List (List ℕ)) → takes left words ≡ true → has_each row words ≡ true
 StandsBeside left (Holding word) rests = rests
-StandsBeside left (Beginning beginning) rests = rests
+StandsBeside left (WithPrefix prefix) rests = rests
 StandsBeside left Everything rests = rests
 StandsBeside left Nothing rests = rests
 StandsBeside left (Both a b) rests = rests
@@ -34,7 +34,7 @@ StandsBeside left (Without a b) rests = rests
 abbrev pub RestsOnWords : Operation → Type 0
 RestsOnWords (Holding word) = Unit {0}
 RestsOnWords (InRow row) = ⊥
-RestsOnWords (Beginning beginning) = Unit {0}
+RestsOnWords (WithPrefix prefix) = Unit {0}
 RestsOnWords Everything = Unit {0}
 RestsOnWords Nothing = Unit {0}
 RestsOnWords (Both left right) = RestsOnWords left × StandsBeside left right (RestsOnWords right)

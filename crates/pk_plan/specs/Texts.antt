@@ -32,7 +32,7 @@ MayReadAll texts plans = list_any reads_texts plans ≡ true → texts ≡ true
 abbrev pub has_phrase : Tree → Bool
 has_phrase (Term word) = false
 has_phrase (Phrase row) = true
-has_phrase (Prefix beginning) = false
+has_phrase (Prefix prefix) = false
 has_phrase (And left right) = has_phrase left || has_phrase right
 has_phrase (Or left right) = has_phrase left || has_phrase right
 has_phrase (Not part) = has_phrase part

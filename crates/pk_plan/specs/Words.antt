@@ -11,7 +11,7 @@ texts words = map (λ (word : Bor (List ℕ)). word.now) words
 abbrev pub leaves : Tree → List (List ℕ)
 leaves (Term word) = word ∷ []
 leaves (Phrase row) = row
-leaves (Prefix beginning) = beginning ∷ []
+leaves (Prefix prefix) = prefix ∷ []
 leaves (And left right) = leaves left ++ leaves right
 leaves (Or left right) = leaves left ++ leaves right
 leaves (Not part) = leaves part

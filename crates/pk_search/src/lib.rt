@@ -14,7 +14,7 @@
 //! block; a later word is sought number by number where its list is more than 50 times as long as
 //! what is left, else taken out too and joined (`lists`). Where nothing is left, nothing more is
 //! read. The beginning of a word is sought in the dictionary: a cursor goes through the words that
-//! begin so, and the list of each is united with the others as it comes (`begun`). Words in a row are looked for in the texts of what is left at the
+//! begin so, and the list of each is united with the others as it comes (`prefix`). Words in a row are looked for in the texts of what is left at the
 //! end (`in_row`), by the one of them that the fewest documents of the segment hold: a text of
 //! 4,096 bytes or less where the source lends it, and a longer one by itself. Where two or more lie
 //! in as many bytes on average and little lies between them, those behind a text are lent with it
@@ -41,7 +41,6 @@
 //! memory. It writes nothing.
 #![tactic(auto)]
 
-mod begun;
 mod filters;
 mod finding;
 mod hits;
@@ -52,6 +51,7 @@ mod lists;
 mod nothing;
 mod pivots;
 mod planned;
+mod prefix;
 mod repeats;
 mod rows;
 mod span;

@@ -1,6 +1,6 @@
 pub mod AheadLemmas
 pub mod DirectoryLemmas
-pub mod BegunLemmas
+pub mod PrefixLemmas
 pub mod IndexLemmas
 pub mod ListingLemmas
 pub mod RangeLemmas

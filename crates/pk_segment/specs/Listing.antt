@@ -73,6 +73,6 @@ TermsAs docs (Ok terms) = items_from terms.items ≡ items_of docs
 TermsAs docs (Err fault) = IsNoDamage fault
 
 -- what it says of the words that begin with a prefix
-abbrev pub BegunAs : List Doc → List ℕ → Result (Vec (Vec ℕ × Entry)) ReadFault → Type 0
-BegunAs docs prefix (Ok terms) = items_from terms.items ≡ items_with_prefix prefix (items_of docs)
-BegunAs docs prefix (Err fault) = IsNoDamage fault
+abbrev pub HasPrefixAs : List Doc → List ℕ → Result (Vec (Vec ℕ × Entry)) ReadFault → Type 0
+HasPrefixAs docs prefix (Ok terms) = items_from terms.items ≡ items_with_prefix prefix (items_of docs)
+HasPrefixAs docs prefix (Err fault) = IsNoDamage fault

@@ -5,7 +5,7 @@ ghost use Rattle.pk_dict.specs.Entries.{items_from};
 ghost use Rattle.pk_model.specs.Collection.{Doc};
 ghost use Rattle.pk_posting.specs.Frames.{IsRead, ReadsSource};
 ghost use Rattle.pk_posting.specs.Limits.{asks_for};
-ghost use Rattle.pk_segment.specs.Listing.{BegunAs, ListedAs, PlacedAs, TermsAs};
+ghost use Rattle.pk_segment.specs.Listing.{HasPrefixAs, ListedAs, PlacedAs, TermsAs};
 ghost use Rattle.pk_segment.specs.Opened.{IsSegmentOf};
 ghost use Rattle.pk_segment.specs.Reading.{CountsReads};
 ghost use Rattle.pk_segment.specs.Said.{dictionary_said, entries_said, lists_from};
@@ -87,7 +87,7 @@ impl Segment {
         prefix: &[u8],
     ) -> Result<Vec<(Vec<u8>, Entry)>, ReadFault>
         ensures entries { S.honest → (docs : List Doc) → IndexSpells (S.content source.old) docs
-            → IsSegmentOf self.now docs → BegunAs docs prefix.now result }
+            → IsSegmentOf self.now docs → HasPrefixAs docs prefix.now result }
         ensures said { S.honest → IfOk result (λ entries. entries_said (lists_from self.now)
             (S.content source.old) prefix.now ≡ Ok (items_from entries.items)) }
         ensures left { ReadsSource S.ByteSource CountsReads result source.old source.new }

@@ -1,6 +1,6 @@
 -- The words from a place on; none where they pass the last word.
 use Rattle.std.proofs.Common.{◌≡◌, ◌∙◌, ◌+◌, ◌-◌, ℕ, take, drop, ap, arith}
-use Rattle.pk_plan.proofs.BeginningLemmas.{row_there}
+use Rattle.pk_plan.proofs.PrefixLemmas.{row_there}
 use Rattle.pk_plan.specs.Plans.{InRow}
 use Rattle.pk_plan.specs.Words.{texts}
 use Rattle.pk_match.proofs.asked.asked_row.Goals as goal

@@ -16,7 +16,7 @@ use Rattle.pk_plan.proofs.TextLemmas.{none_left, none_right, prefix_reads}
 use Rattle.pk_plan.specs.Rows.{AllRest, RestsOnWords, StandAt}
 use Rattle.pk_plan.specs.Words.{leaves}
 use Rattle.pk_plan.proofs.OperationLemmas.{of_term}
-use Rattle.pk_plan.proofs.RowLemmas.{beginning_rests, gathers_on, joins_on, narrowed_rest, stand_left, stand_right, word_rests}
+use Rattle.pk_plan.proofs.RowLemmas.{prefix_rests, gathers_on, joins_on, narrowed_rest, stand_left, stand_right, word_rests}
 use Rattle.pk_plan.proofs.planning.+planning.Goals as goal
 
 pub conjunction-gather-requires : goal.conjunction-gather-requires
@@ -133,7 +133,7 @@ pub put-returns-in_ok-put_part-in-Prefix-clause-rows : goal.put-returns-in_ok-pu
 put-returns-in_ok-put_part-in-Prefix-clause-rows t c = record {
   rest = λ asked stand.
       let place = c.args.place.now - 1 in
-      c.in_ok-put_part-in-Prefix.ensures.rows asked (subst RestsOnWords (sym (of_prefix asked place)) (beginning_rests asked place));
+      c.in_ok-put_part-in-Prefix.ensures.rows asked (subst RestsOnWords (sym (of_prefix asked place)) (prefix_rests asked place));
 }
 
 pub put-returns-in_ok-rule_out-in-Not-clause-rows : goal.put-returns-in_ok-rule_out-in-Not-clause-rows

@@ -7,7 +7,7 @@ use Rattle.pk_dict.specs.declared.entry.Entry.{Entry}
 use Rattle.pk_dict.specs.Entries.{entries_of}
 use Rattle.pk_posting.specs.declared.fault.ReadFault.{ReadFault}
 use Rattle.pk_segment.specs.Indexed.{items_of}
-use Rattle.pk_segment.specs.Listing.{BegunAs}
+use Rattle.pk_segment.specs.Listing.{HasPrefixAs}
 use Rattle.pk_segment.specs.Spelling.{IndexSpells}
 use Rattle.pk_segment.proofs.ListingLemmas.{entries_cause, is_there}
 use Rattle.pk_segment.proofs.segment.Segment.entries_of.Goals as goal
@@ -18,7 +18,7 @@ returns-in_err-entries-clause-entries g c = λ honest docs is of.
     let same = ap g.S.ByteSource.content c.on-windows.ensures.source ∙ c.in_ok-place.ensures.left.same honest in
     let there = subst (λ (x : List ℕ). IndexSpells x docs) (sym same) is in
     let at = is_there _ docs c.in_ok-place.place there (c.in_ok-place.ensures.place honest docs is of) in
-    subst (λ (r : Result (Vec (Vec ℕ × Entry)) ReadFault). BegunAs docs c.args.prefix.now r) (sym found.1)
+    subst (λ (r : Result (Vec (Vec ℕ × Entry)) ReadFault). HasPrefixAs docs c.args.prefix.now r) (sym found.1)
     (entries_cause c.in_err-entries.field-0.0 (c.in_err-entries.ensures.found honest (items_of docs) at.inside at.spelled at.count) found.0 found.2)
 
 pub returns-clause-entries : goal.returns-clause-entries

@@ -15,23 +15,23 @@ use std::alloc::{AllocError, Global};
 
 /// Puts the live numbers of the lists of all words that begin so into `out`, by one walk over the
 /// words of the table. It takes memory for these lists alone.
-pub(crate) fn put_begun(
+pub(crate) fn put_with_prefix(
     alloc: Global,
     index: &Index,
     live: &[u32],
-    beginning: &str,
+    prefix: &str,
     out: &mut Vec<u32>,
 ) -> Result<(), AllocError>
     requires live { IsStrictlyIncreasing live.now }
     ensures numbers { (docs : List Doc) → Keeps index.now docs → live.now ≡ numbers_of docs
-        → OnOk result (out.new.items ≡ answer (Prefix beginning.now) docs) }
+        → OnOk result (out.new.items ≡ answer (Prefix prefix.now) docs) }
     ensures rising { OnOk result (IsStrictlyIncreasing out.new.items) }
 {
     let mut lists = Vec::new(alloc);
     let mut spare = Vec::new(alloc);
     for place in 0..index.len() {
         let word = index.word(place).as_bytes();
-        if word.starts_with(beginning.as_bytes()) {
+        if word.starts_with(prefix.as_bytes()) {
             stack_live(alloc, live, index.row(place).list, &mut lists, &mut spare)?;
         }
     }

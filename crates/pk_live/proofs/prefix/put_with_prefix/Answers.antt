@@ -11,9 +11,9 @@ use Rattle.pk_model.specs.Tree.{begins_with}
 use Rattle.pk_sets.specs.Sets.{has, intersection}
 use Rattle.pk_index.specs.Index.{list_of}
 use Rattle.pk_index.specs.Terms.{words_in}
-use Rattle.pk_live.proofs.BegunLemmas.{begun_is, gives}
-use Rattle.pk_live.proofs.begun.put_begun.Goals.{else-starts_with, then-starts_with+in_ok-stack_live}
-use Rattle.pk_live.proofs.begun.put_begun.Goals as goal
+use Rattle.pk_live.proofs.PrefixLemmas.{prefix_is, gives}
+use Rattle.pk_live.proofs.prefix.put_with_prefix.Goals.{else-starts_with, then-starts_with+in_ok-stack_live}
+use Rattle.pk_live.proofs.prefix.put_with_prefix.Goals as goal
 
 or_none : (a b c : Bool) → b ≡ false → a ≡ (a || (b && c))
 or_none true b c e = refl
@@ -30,15 +30,15 @@ loop-place-preserved c =
     let before = c.loop-place.invariant in
     let table = c.args.index.now in
     let live = c.args.live.now in
-    let beginning = c.args.beginning.now in
+    let prefix = c.args.prefix.now in
     let words = words_in table in
     let place = c.loop-place.place in
     let word = c.word.result.now in
     let lt = slice_get_within words place word c.word.ensures in
     let at = sym (get_or_from_slice_get words place word word c.word.ensures) in
-    let so_far = λ (n : ℕ). list_any (gives table live beginning n) (take place words) in
+    let so_far = λ (n : ℕ). list_any (gives table live prefix n) (take place words) in
     let gives_n = λ (n : ℕ). has (intersection live (list_of table word)) n in
-    let more = λ (n : ℕ). sym (any_more (gives table live beginning n) words place word lt at) in
+    let more = λ (n : ℕ). sym (any_more (gives table live prefix n) words place word lt at) in
     let begins = sym (c.starts_with.ensures.value ∙ ap₂ (λ (w b : List ℕ). begins_with b w) c.as_bytes-word.ensures.value c.as_bytes.ensures.value) in
     elim c.if-starts_with.branch [
       | then-starts_with+in_ok-stack_live w ↦
@@ -53,7 +53,7 @@ loop-place-preserved c =
                 ∙ w.in_ok-stack_live.ensures.numbers n
                 ∙ ap (λ b. b || has (intersection live row.list.now) n) (before.numbers n)
                 ∙ ap (λ (ns : List ℕ). so_far n || has (intersection live ns) n) list
-                ∙ ap (λ b. so_far n || b) (and_true (begins_with beginning word) (gives_n n) yes)
+                ∙ ap (λ b. so_far n || b) (and_true (begins_with prefix word) (gives_n n) yes)
                 ∙ more n;
           }
       | else-starts_with w ↦
@@ -62,7 +62,7 @@ loop-place-preserved c =
             rising = subst (λ (v : Vec (Vec ℕ)). All IsStrictlyIncreasing (items_of v.items)) (sym w.lists-is) before.rising;
             numbers = λ n.
                 ap (λ (v : Vec (Vec ℕ)). has (union_of (items_of v.items)) n) w.lists-is
-                ∙ before.numbers n ∙ or_none (so_far n) (begins_with beginning word) (gives_n n) no ∙ more n;
+                ∙ before.numbers n ∙ or_none (so_far n) (begins_with prefix word) (gives_n n) no ∙ more n;
           }
     ]
 
@@ -71,6 +71,6 @@ returns-clause-numbers c = λ docs keeps live.
     let table = c.args.index.now in
     let words = words_in table in
     let all : take c.loop-place.place words ≡ words = take_all c.loop-place.place words (omega (arith, c.loop-place-test.false, length-map table (λ row. row.0))) in
-    begun_is table docs c.args.live.now c.args.beginning.now keeps live
+    prefix_is table docs c.args.live.now c.args.prefix.now keeps live
     c.unite_stacked.new.out.items c.requires.live c.in_ok-unite_stacked.ensures.rising
-    (λ n. ap (λ (ns : List ℕ). has ns n) c.in_ok-unite_stacked.ensures.numbers ∙ c.loop-place.invariant.numbers n ∙ ap (list_any (gives table c.args.live.now c.args.beginning.now n)) all)
+    (λ n. ap (λ (ns : List ℕ). has ns n) c.in_ok-unite_stacked.ensures.numbers ∙ c.loop-place.invariant.numbers n ∙ ap (list_any (gives table c.args.live.now c.args.prefix.now n)) all)

@@ -17,13 +17,13 @@ use Rattle.pk_model.specs.Tree.{begins_with}
 use Rattle.pk_model.proofs.TermLemmas.{rising_terms, term_has}
 use Rattle.pk_posting.specs.declared.fault.ReadFault.{ReadFault}
 use Rattle.pk_segment.specs.Indexed.{items_of, list_with}
-use Rattle.pk_segment.specs.Listing.{BegunAs, IsEntryFor, LeadsTo, TermsAs}
+use Rattle.pk_segment.specs.Listing.{HasPrefixAs, IsEntryFor, LeadsTo, TermsAs}
 use Rattle.pk_segment.proofs.IndexLemmas.{all_items, items_words, leads}
 
 -- all words begin with nothing
-pub all_begun : (docs : List Doc) (result : Result (Vec (Vec ℕ × Entry)) ReadFault) → BegunAs docs [] result → TermsAs docs result
-all_begun docs (Ok terms) says = says ∙ all_items (items_of docs)
-all_begun docs (Err fault) says = says
+pub all_with_prefix : (docs : List Doc) (result : Result (Vec (Vec ℕ × Entry)) ReadFault) → HasPrefixAs docs [] result → TermsAs docs result
+all_with_prefix docs (Ok terms) says = says ∙ all_items (items_of docs)
+all_with_prefix docs (Err fault) says = says
 
 -- ---- EACH ITEM leads to the list of its term
 other_word : (v w : List ℕ) → slice_cmp nat_cmp v w ≡ Less → bytes_eq v w ≡ false
@@ -53,21 +53,21 @@ items_lead docs =
 
 -- ---- THOSE that begin so
 -- a word leads to its list, and begins so
-abbrev pub LeadsBegun : List Doc → List ℕ → Item → Type 0
-LeadsBegun docs prefix x = LeadsTo docs x.term x.entry × (begins_with prefix x.term ≡ true)
+abbrev pub LeadsWithPrefix : List Doc → List ℕ → Item → Type 0
+LeadsWithPrefix docs prefix x = LeadsTo docs x.term x.entry × (begins_with prefix x.term ≡ true)
 
-kept_head : (docs : List Doc) (prefix : List ℕ) (x : Item) (xs : List Item) (b : Bool) → begins_with prefix x.term ≡ b → Leads docs x → AllByRecursion (LeadsBegun docs prefix) xs
-    → AllByRecursion (LeadsBegun docs prefix) (cond b (x ∷ xs) xs)
+kept_head : (docs : List Doc) (prefix : List ℕ) (x : Item) (xs : List Item) (b : Bool) → begins_with prefix x.term ≡ b → Leads docs x → AllByRecursion (LeadsWithPrefix docs prefix) xs
+    → AllByRecursion (LeadsWithPrefix docs prefix) (cond b (x ∷ xs) xs)
 kept_head docs prefix x xs true e l rest = ((l, e), rest)
 kept_head docs prefix x xs false e l rest = rest
 
-kept_lead : (docs : List Doc) (prefix : List ℕ) (xs : List Item) → AllByRecursion (Leads docs) xs → AllByRecursion (LeadsBegun docs prefix) (items_with_prefix prefix xs)
+kept_lead : (docs : List Doc) (prefix : List ℕ) (xs : List Item) → AllByRecursion (Leads docs) xs → AllByRecursion (LeadsWithPrefix docs prefix) (items_with_prefix prefix xs)
 kept_lead docs prefix [] all = tt
 kept_lead docs prefix (x ∷ xs) all = kept_head docs prefix x (items_with_prefix prefix xs) (begins_with prefix x.term) refl all.0 (kept_lead docs prefix xs all.1)
 
 -- the words that begin so lead to their lists
-pub begun_lead : (docs : List Doc) (prefix : List ℕ) → AllByRecursion (LeadsBegun docs prefix) (items_with_prefix prefix (items_of docs))
-begun_lead docs prefix = kept_lead docs prefix (items_of docs) (items_lead docs)
+pub prefix_lead : (docs : List Doc) (prefix : List ℕ) → AllByRecursion (LeadsWithPrefix docs prefix) (items_with_prefix prefix (items_of docs))
+prefix_lead docs prefix = kept_lead docs prefix (items_of docs) (items_lead docs)
 
 or_right : (a b : Bool) → b ≡ true → (a || b) ≡ true
 or_right true b e = refl
@@ -86,6 +86,6 @@ any_kept prefix word e [] h = h
 any_kept prefix word e (x ∷ xs) h = any_kept_head prefix word e x xs (bytes_eq word x.term) (begins_with prefix x.term) refl refl h (any_kept prefix word e xs)
 
 -- a word that a document has, and that begins so, is among them
-pub begun_every : (docs : List Doc) (prefix word : List ℕ) → begins_with prefix word ≡ true → 0 < length (list_with word docs) → list_any (bytes_eq word) (item_terms (items_with_prefix prefix (items_of docs))) ≡ true
-begun_every docs prefix word begins some =
+pub prefix_every : (docs : List Doc) (prefix word : List ℕ) → begins_with prefix word ≡ true → 0 < length (list_with word docs) → list_any (bytes_eq word) (item_terms (items_with_prefix prefix (items_of docs))) ≡ true
+prefix_every docs prefix word begins some =
     any_kept prefix word begins (items_of docs) (ap (list_any (bytes_eq word)) (items_words docs 0 (terms_of docs)) ∙ term_has word docs some)

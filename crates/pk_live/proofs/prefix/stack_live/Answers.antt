@@ -5,7 +5,7 @@ use Rattle.std.proofs.lemmas.List.Kept.{IsStrictlyIncreasing-filter}
 use Rattle.pk_match.specs.Uniting.{items_of, union_of}
 use Rattle.pk_sets.proofs.CallerLemmas.{has_union}
 use Rattle.pk_sets.specs.Sets.{has}
-use Rattle.pk_live.proofs.begun.stack_live.Goals as goal
+use Rattle.pk_live.proofs.prefix.stack_live.Goals as goal
 
 pub stack_list-requires-clause-list : goal.stack_list-requires-clause-list
 stack_list-requires-clause-list c = subst IsStrictlyIncreasing (sym c.in_ok-put_live.ensures) (IsStrictlyIncreasing-filter (has c.args.list.now) c.args.live.now c.requires.live)

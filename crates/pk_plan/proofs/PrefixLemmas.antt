@@ -15,7 +15,7 @@ use Rattle.pk_model.proofs.CollectionLemmas.{rising-filter}
 use Rattle.pk_sets.specs.Sets.{has}
 use Rattle.pk_sets.proofs.CallerLemmas.{same_members}
 use Rattle.pk_sets.proofs.PartLemmas.{rising_all}
-use Rattle.pk_plan.specs.Plans.{Beginning, InRow, Nothing, beginning_at, row_at}
+use Rattle.pk_plan.specs.Plans.{WithPrefix, InRow, Nothing, prefix_at, row_at}
 use Rattle.pk_plan.specs.Words.{texts}
 
 -- ---- TRUTH
@@ -36,18 +36,18 @@ same_truth false true f g = g refl
 same_truth false false f g = refl
 
 -- ---- WORDS that begin so
-word_begins : (beginning word : List ℕ) → begins_with beginning word ≡ true → (words : List (List ℕ)) → list_any (bytes_eq word) words ≡ true → list_any (begins_with beginning) words ≡ true
-word_begins beginning word e [] h = h
-word_begins beginning word e (v ∷ words) h = elim (one_of (bytes_eq word v) (list_any (bytes_eq word) words) h) [
-  | inl same ↦ or_left (begins_with beginning v) (list_any (begins_with beginning) words) (ap (begins_with beginning) (sym ((bytes_eq-Decides word v).0 same)) ∙ e)
-  | inr more ↦ or_right (begins_with beginning v) (list_any (begins_with beginning) words) (word_begins beginning word e words more)
+word_begins : (prefix word : List ℕ) → begins_with prefix word ≡ true → (words : List (List ℕ)) → list_any (bytes_eq word) words ≡ true → list_any (begins_with prefix) words ≡ true
+word_begins prefix word e [] h = h
+word_begins prefix word e (v ∷ words) h = elim (one_of (bytes_eq word v) (list_any (bytes_eq word) words) h) [
+  | inl same ↦ or_left (begins_with prefix v) (list_any (begins_with prefix) words) (ap (begins_with prefix) (sym ((bytes_eq-Decides word v).0 same)) ∙ e)
+  | inr more ↦ or_right (begins_with prefix v) (list_any (begins_with prefix) words) (word_begins prefix word e words more)
 ]
 
-begun_word : (beginning : List ℕ) (words : List (List ℕ)) → list_any (begins_with beginning) words ≡ true → (word : List ℕ) × (begins_with beginning word ≡ true) × (list_any (bytes_eq word) words ≡ true)
-begun_word beginning [] h = absurd (true≢false (sym h))
-begun_word beginning (v ∷ words) h = elim (one_of (begins_with beginning v) (list_any (begins_with beginning) words) h) [
+prefix_word : (prefix : List ℕ) (words : List (List ℕ)) → list_any (begins_with prefix) words ≡ true → (word : List ℕ) × (begins_with prefix word ≡ true) × (list_any (bytes_eq word) words ≡ true)
+prefix_word prefix [] h = absurd (true≢false (sym h))
+prefix_word prefix (v ∷ words) h = elim (one_of (begins_with prefix v) (list_any (begins_with prefix) words) h) [
   | inl here ↦ (v, here, or_left (bytes_eq v v) (list_any (bytes_eq v) words) ((bytes_eq-Decides v v).1 refl))
-  | inr later ↦ (let w = begun_word beginning words later in (w.0, w.1, or_right (bytes_eq w.0 v) (list_any (bytes_eq w.0) words) w.2))
+  | inr later ↦ (let w = prefix_word prefix words later in (w.0, w.1, or_right (bytes_eq w.0 v) (list_any (bytes_eq w.0) words) w.2))
 ]
 
 -- ---- DOCUMENTS that pass a test
@@ -74,46 +74,46 @@ later_in true d xs n h = or_right (nat_eq n d.number) (has (numbers_of xs) n) h
 later_in false d xs n h = h
 
 -- a word that begins so, and has the number
-abbrev pub HasBegun : List ℕ → List Doc → ℕ → Type 0
-HasBegun beginning docs n = (word : List ℕ) × (begins_with beginning word ≡ true) × (has (answer (Term word) docs) n ≡ true)
+abbrev pub HasPrefix : List ℕ → List Doc → ℕ → Type 0
+HasPrefix prefix docs n = (word : List ℕ) × (begins_with prefix word ≡ true) × (has (answer (Term word) docs) n ≡ true)
 
-begun_later : (beginning : List ℕ) (d : Doc) (docs : List Doc) (n : ℕ) → HasBegun beginning docs n → HasBegun beginning (d ∷ docs) n
-begun_later beginning d docs n w = (w.0, w.1, later_in (is_hit (Term w.0) d) d (filter (is_hit (Term w.0)) docs) n w.2)
+prefix_later : (prefix : List ℕ) (d : Doc) (docs : List Doc) (n : ℕ) → HasPrefix prefix docs n → HasPrefix prefix (d ∷ docs) n
+prefix_later prefix d docs n w = (w.0, w.1, later_in (is_hit (Term w.0) d) d (filter (is_hit (Term w.0)) docs) n w.2)
 
-begun_head : (beginning : List ℕ) (d : Doc) (docs : List Doc) (n : ℕ) (hit : Bool) → is_hit (Prefix beginning) d ≡ hit → (has (answer (Prefix beginning) docs) n ≡ true → HasBegun beginning docs n)
-    → has (numbers_of (cond hit (d ∷ filter (is_hit (Prefix beginning)) docs) (filter (is_hit (Prefix beginning)) docs))) n ≡ true → HasBegun beginning (d ∷ docs) n
-begun_head beginning d docs n true e more h = elim (one_of (nat_eq n d.number) (has (answer (Prefix beginning) docs) n) h) [
-  | inl here ↦ (let w = begun_word beginning (words_of d.text) e in (w.0, w.1, here_in (is_hit (Term w.0) d) d (filter (is_hit (Term w.0)) docs) n w.2 here))
-  | inr later ↦ begun_later beginning d docs n (more later)
+prefix_head : (prefix : List ℕ) (d : Doc) (docs : List Doc) (n : ℕ) (hit : Bool) → is_hit (Prefix prefix) d ≡ hit → (has (answer (Prefix prefix) docs) n ≡ true → HasPrefix prefix docs n)
+    → has (numbers_of (cond hit (d ∷ filter (is_hit (Prefix prefix)) docs) (filter (is_hit (Prefix prefix)) docs))) n ≡ true → HasPrefix prefix (d ∷ docs) n
+prefix_head prefix d docs n true e more h = elim (one_of (nat_eq n d.number) (has (answer (Prefix prefix) docs) n) h) [
+  | inl here ↦ (let w = prefix_word prefix (words_of d.text) e in (w.0, w.1, here_in (is_hit (Term w.0) d) d (filter (is_hit (Term w.0)) docs) n w.2 here))
+  | inr later ↦ prefix_later prefix d docs n (more later)
 ]
-begun_head beginning d docs n false e more h = begun_later beginning d docs n (more h)
+prefix_head prefix d docs n false e more h = prefix_later prefix d docs n (more h)
 
-begun_of : (beginning : List ℕ) (docs : List Doc) (n : ℕ) → has (answer (Prefix beginning) docs) n ≡ true → HasBegun beginning docs n
-begun_of beginning [] n h = absurd (true≢false (sym h))
-begun_of beginning (d ∷ docs) n h = begun_head beginning d docs n (is_hit (Prefix beginning) d) refl (begun_of beginning docs n) h
+with_prefix_of : (prefix : List ℕ) (docs : List Doc) (n : ℕ) → has (answer (Prefix prefix) docs) n ≡ true → HasPrefix prefix docs n
+with_prefix_of prefix [] n h = absurd (true≢false (sym h))
+with_prefix_of prefix (d ∷ docs) n h = prefix_head prefix d docs n (is_hit (Prefix prefix) d) refl (with_prefix_of prefix docs n) h
 
 -- the numbers of all words that begin so are the answer
-pub begun_found : (beginning ns : List ℕ) (docs : List Doc) → IsStrictlyIncreasing (numbers_of docs) → IsStrictlyIncreasing ns
-    → ((n : ℕ) → has ns n ≡ true → HasBegun beginning docs n)
-    → ((n : ℕ) → HasBegun beginning docs n → has ns n ≡ true)
-    → ns ≡ answer (Prefix beginning) docs
-begun_found beginning ns docs h rises some all =
-    same_members ns (answer (Prefix beginning) docs) (rising_all ns rises) (rising_all (answer (Prefix beginning) docs) (rising-filter (is_hit (Prefix beginning)) docs h))
-    (λ n. same_truth (has ns n) (has (answer (Prefix beginning) docs) n)
-    (λ e. let w = some n e in kept_by (is_hit (Term w.0)) (is_hit (Prefix beginning)) (λ d k. word_begins beginning w.0 w.1 (words_of d.text) k) docs n w.2)
-    (λ e. all n (begun_of beginning docs n e)))
+pub prefix_found : (prefix ns : List ℕ) (docs : List Doc) → IsStrictlyIncreasing (numbers_of docs) → IsStrictlyIncreasing ns
+    → ((n : ℕ) → has ns n ≡ true → HasPrefix prefix docs n)
+    → ((n : ℕ) → HasPrefix prefix docs n → has ns n ≡ true)
+    → ns ≡ answer (Prefix prefix) docs
+prefix_found prefix ns docs h rises some all =
+    same_members ns (answer (Prefix prefix) docs) (rising_all ns rises) (rising_all (answer (Prefix prefix) docs) (rising-filter (is_hit (Prefix prefix)) docs h))
+    (λ n. same_truth (has ns n) (has (answer (Prefix prefix) docs) n)
+    (λ e. let w = some n e in kept_by (is_hit (Term w.0)) (is_hit (Prefix prefix)) (λ d k. word_begins prefix w.0 w.1 (words_of d.text) k) docs n w.2)
+    (λ e. all n (with_prefix_of prefix docs n e)))
 
 -- ---- PLACES
 -- what a word is to begin with, at a place, and none past the end
-pub beginning_there : (words : List (Bor (List ℕ))) (place : ℕ) (other : Bor (List ℕ)) → place < length words → beginning_at (texts words) place ≡ Beginning (get_or words place other).now
-beginning_there [] place other lt = absurd (omega arith)
-beginning_there (w ∷ words) zero other lt = refl
-beginning_there (w ∷ words) (suc place) other lt = beginning_there words place other (omega arith)
+pub prefix_there : (words : List (Bor (List ℕ))) (place : ℕ) (other : Bor (List ℕ)) → place < length words → prefix_at (texts words) place ≡ WithPrefix (get_or words place other).now
+prefix_there [] place other lt = absurd (omega arith)
+prefix_there (w ∷ words) zero other lt = refl
+prefix_there (w ∷ words) (suc place) other lt = prefix_there words place other (omega arith)
 
-pub no_beginning_there : (words : List (Bor (List ℕ))) (place : ℕ) → length words ≤ place → beginning_at (texts words) place ≡ Nothing
-no_beginning_there [] place le = refl
-no_beginning_there (w ∷ words) zero le = absurd (omega arith)
-no_beginning_there (w ∷ words) (suc place) le = no_beginning_there words place (omega arith)
+pub no_prefix_there : (words : List (Bor (List ℕ))) (place : ℕ) → length words ≤ place → prefix_at (texts words) place ≡ Nothing
+no_prefix_there [] place le = refl
+no_prefix_there (w ∷ words) zero le = absurd (omega arith)
+no_prefix_there (w ∷ words) (suc place) le = no_prefix_there words place (omega arith)
 
 -- words in a row from a place on, and none where they pass the end
 length_texts : (words : List (Bor (List ℕ))) → length (texts words) ≡ length words

@@ -6,7 +6,7 @@ use Rattle.pk_dict.specs.Place.{bytes_at}
 use Rattle.pk_dict.specs.Prefix.{HasLeft}
 use Rattle.pk_segment.specs.Indexed.{items_of}
 use Rattle.pk_segment.proofs.ListingLemmas.{is_there}
-use Rattle.pk_search.proofs.begun.words_begun.Goals as goal
+use Rattle.pk_search.proofs.prefix.words_with_prefix.Goals as goal
 
 pub returns-then-from-clause-all : goal.returns-then-from-clause-all
 returns-then-from-clause-all g c = λ honest docs is of.

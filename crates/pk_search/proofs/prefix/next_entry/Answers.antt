@@ -8,7 +8,7 @@ use Rattle.pk_dict.specs.Prefix.{GivesNext, HasLeft}
 use Rattle.pk_posting.specs.declared.fault.ReadFault.{ReadFault}
 use Rattle.pk_segment.specs.Reading.{IsNoDamage}
 use Rattle.pk_segment.proofs.ListingLemmas.{entries_cause}
-use Rattle.pk_search.proofs.begun.next_entry.Goals as goal
+use Rattle.pk_search.proofs.prefix.next_entry.Goals as goal
 
 pub returns-in_err-next-clause-gives : goal.returns-in_err-next-clause-gives
 returns-in_err-next-clause-gives g c = λ honest es rest left.
