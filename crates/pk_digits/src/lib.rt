@@ -10,8 +10,8 @@
 //! | below 10,000 | a space, and one to four digits |
 //! | from 10,000 on | a space and the digits before the last four, as they are kept, and four digits |
 //!
-//! Nothing is refused, and nothing but the table takes memory. The bytes are those of `decimal` behind a space: a
-//! number has no leading zero, and 0 is `0`.
+//! Only the table takes memory, and nothing else is refused. The bytes are those of `decimal` behind
+//! a space: a number has no leading zero, and 0 is `0`.
 #![tactic(auto)]
 
 mod digits;

@@ -40,14 +40,15 @@
 //!
 //! Where the words are: `specs/Ahead` says how much is read ahead, `specs/Inputs` has what inputs
 //! spell, `specs/Listed` what the words and lists of an input are, `specs/Reading` what was read of
-//! them, `specs/Rooms` that there is room for each, `specs/Counted` how many were passed, `specs/Said` where any bytes say they lie,
-//! `specs/Marks` what the marks of deleted numbers say, `specs/Joining` what is joined, `specs/Keys`
-//! the keys of words, `specs/HeadKeys` the groups of keys, `specs/Noted` which inputs have the least
-//! of the words at their heads, `specs/Walking` the words side by side, `specs/WalkInput` the inputs of a walk, `specs/Walk`
-//! where it has come, `specs/Whole` that it passes whole lists, and `specs/WholeLists` that all of
-//! a segment are. Lemma pages: `TermWalkLemmas` on the walk, whose words are the terms of the
-//! documents that are left; `ShowLemmas` on what cursors show of them; `RoomLemmas` on their memory;
-//! `JoinLemmas` on one word's list.
+//! them, `specs/Rooms` that there is room for each, `specs/Counted` how many were passed,
+//! `specs/Said` where any bytes say they lie, `specs/Marks` what the marks of deleted numbers say,
+//! `specs/Joining` what is joined, `specs/Keys` the keys of words, `specs/HeadKeys` the groups of
+//! keys, `specs/Noted` which inputs have the least of the words at their heads, `specs/Walking` the
+//! words side by side, `specs/WalkInput` the inputs of a walk, `specs/Walk` where it has come,
+//! `specs/Whole` that it passes whole lists, and `specs/WholeLists` that all of a segment are.
+//! Lemma pages: `TermWalkLemmas` on the walk, whose words are the terms of the documents that are
+//! left; `ShowLemmas` on what cursors show of them; `RoomLemmas` on their memory; `JoinLemmas` on
+//! one word's list.
 #![tactic(auto)]
 
 mod head_keys;

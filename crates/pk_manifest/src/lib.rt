@@ -76,8 +76,9 @@
 //! `Evolves` in specs/ says how the bytes may change while others read them; laws say that moves as
 //! small as a reader sees them keep it (`laws::moves_let_the_bytes_evolve`), and so does a file that is
 //! made longer (`laws::a_file_may_be_made_longer`). The steps say which bytes they write, whatever they
-//! answer: `only` (a gate alone, a body alone) and `shuts` (a gate isn't opened), and of `finish` `bytes`
-//! and, after a fault, `part`. `IsFound` is a sound body behind an open gate, in force or not.
+//! answer: `only` (a gate alone, a body alone) and `shuts` (a gate isn't opened), and of `finish`
+//! `bytes` and, after a fault, `part`. `IsFound` is a sound body behind an open gate, in force or
+//! not.
 //!
 //! # For the crates above
 //!

@@ -26,7 +26,8 @@
 //! memory.
 //!
 //! A `ByteSource` lends stretches of some bytes: of a slice, or of a part of a disk. What its calls
-//! leave is in `specs/Source.antt`; what reads it into memory answers a `ReadFault`. A list that lies in a source is read in parts, without memory:
+//! leave is in `specs/Source.antt`; what reads it into memory answers a `ReadFault`. A list that
+//! lies in a source is read in parts, without memory:
 //!
 //! | call | what it takes out | calls of the source, at most |
 //! |---|---|---|
