@@ -103,6 +103,6 @@ pub use decoding::{decode, table_place, u32_at, u64_at};
 pub use fault::ManifestFault;
 pub use gates::{CLOSED, OPEN, close_spare, gate_open, open_spare, write_body};
 pub use half::{BODY_SIZE, Half};
-pub use manifest::{Manifest, NO_TABLE, Part};
+pub use manifest::{ENTRY_BYTES, Manifest, NO_TABLE, Part};
 pub use reading::{read_current, read_of, said_units, store_units};
 pub use steps::{finish, install, shut_spare};

@@ -5,7 +5,7 @@ ghost use Rattle.pk_merge.specs.Keeping.{kept_bytes, kept_directory};
 ghost use Rattle.pk_segment.specs.Spelling.{header};
 
 use crate::kept::Kept;
-use pk_segment::{Entry, Header, put_entry, put_header};
+use pk_segment::{ENTRY_BYTES, Entry, HEADER_BYTES, Header, put_entry, put_header};
 use std::alloc::{AllocError, Global};
 
 fn put_directory(out: &mut Vec<u8>, documents: &[Kept]) -> Result<(), AllocError>
@@ -35,7 +35,9 @@ pub(crate) fn front_of(alloc: Global, h: Header, documents: &[Kept]) -> Result<V
 {
     let mut front = Vec::with_capacity(
         alloc,
-        24usize.saturating_add(documents.len().saturating_mul(12)),
+        (HEADER_BYTES as usize).saturating_add(
+            documents.len().saturating_mul(ENTRY_BYTES as usize),
+        ),
     )?;
     put_header(&mut front, h)?;
     put_directory(&mut front, documents)?;

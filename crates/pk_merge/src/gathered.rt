@@ -10,7 +10,7 @@ ghost use Rattle.pk_segment.specs.Spelling.{IsKind, docs_of, segment_length};
 use crate::fault::MergeFault;
 use pk_model::Document;
 use pk_model::limits::MAX_SEGMENT_BYTES;
-use pk_segment::build;
+use pk_segment::{ENTRY_BYTES, HEADER_BYTES, build};
 use std::alloc::Global;
 
 /// The documents that are left so far: such as one segment may hold.
@@ -39,7 +39,7 @@ impl Gathered {
         Gathered {
             documents: Vec::new(alloc),
             last: 0,
-            bytes: 24,
+            bytes: u64::from(HEADER_BYTES),
         }
     }
 
@@ -64,7 +64,7 @@ impl Gathered {
         requires { self.old.last < document.number.0 }
         ensures { KeepsAs self.old (doc_of document) self.new result }
     {
-        let bytes = self.bytes + 12 + document.text.len() as u64;
+        let bytes = self.bytes + u64::from(ENTRY_BYTES) + document.text.len() as u64;
         if bytes > u64::from(MAX_SEGMENT_BYTES) {
             return Err(MergeFault::TooLarge);
         }

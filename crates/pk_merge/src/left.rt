@@ -25,7 +25,7 @@ use crate::fault::MergeFault;
 use crate::kept::Kept;
 use pk_dead::Dead;
 use pk_model::limits::MAX_SEGMENT_BYTES;
-use pk_segment::Directory;
+use pk_segment::{Directory, ENTRY_BYTES, HEADER_BYTES};
 use std::alloc::Global;
 
 /// The documents of an input.
@@ -70,7 +70,7 @@ impl Left {
             documents: Vec::new(alloc),
             disk_bytes,
             last: 0,
-            bytes: 24,
+            bytes: u64::from(HEADER_BYTES),
         }
     }
 
@@ -90,7 +90,7 @@ impl Left {
         ensures last { self.new.last ≡ self.old.last }
         ensures disk_bytes { self.new.disk_bytes ≡ self.old.disk_bytes }
     {
-        let bytes = self.bytes + 12 + u64::from(kept.len);
+        let bytes = self.bytes + u64::from(ENTRY_BYTES) + u64::from(kept.len);
         if bytes > u64::from(MAX_SEGMENT_BYTES) {
             return Err(MergeFault::TooLarge);
         }

@@ -39,7 +39,7 @@ use crate::left::{InputDocuments, Left};
 use pk_disk::{Disk, UNIT};
 use pk_join::{Input, InputLists, MergeInput, READ_AHEAD, read_lists};
 use pk_posting::ByteSource;
-use pk_segment::{Ahead, AheadSource, Segment};
+use pk_segment::{Ahead, AheadSource, ENTRY_BYTES, HEADER_BYTES, Segment};
 use std::alloc::Global;
 
 // The words of an input whose segment is all of a source, and whose bytes begin at a position of
@@ -74,7 +74,8 @@ fn read_from<S: ByteSource>(
     let bytes = source.len();
     let segment = Segment::open(source, bytes, input.kind)?;
     let directory = segment.directory(alloc, source)?;
-    let texts = start.saturating_add(24 + 12 * u64::from(segment.count()));
+    let front = u64::from(HEADER_BYTES) + u64::from(ENTRY_BYTES) * u64::from(segment.count());
+    let texts = start.saturating_add(front);
     let end = start + u64::from(bytes);
     let documents = InputDocuments {
         directory: &directory,

@@ -18,9 +18,9 @@ ghost use Rattle.pk_segment.specs.Spelling.{
   texts,
 };
 
-use crate::directory::Entry;
+use crate::directory::{ENTRY_BYTES, Entry};
 use crate::front::{put_entry, put_header};
-use crate::header::Header;
+use crate::header::{HEADER_BYTES, Header};
 use crate::indexing::{IndexPlan, index_of};
 use crate::kind::PLAIN;
 use crate::segment::Segment;
@@ -122,7 +122,7 @@ fn build_plain(alloc: Global, documents: &[Document]) -> Result<Vec<u8>, BuildFa
 {
     let size = plain_size(documents)?;
     let mut out = Vec::with_capacity(alloc, size as usize)?;
-    let text_bytes = size - 24 - 12 * documents.len() as u32;
+    let text_bytes = size - HEADER_BYTES - ENTRY_BYTES * documents.len() as u32;
     put_plain(&mut out, documents, text_bytes)?;
     Ok(out)
 }
@@ -134,7 +134,7 @@ pub(crate) fn plain_size(documents: &[Document]) -> Result<u32, BuildFault>
     if documents.len() > 89_478_485 {
         return Err(BuildFault::TooLarge);
     }
-    let mut total = 24 + 12 * documents.len() as u64;
+    let mut total = u64::from(HEADER_BYTES) + u64::from(ENTRY_BYTES) * documents.len() as u64;
     for d in documents {
         total += d.text.len() as u64;
         if total > u64::from(MAX_SEGMENT_BYTES) {

@@ -4,8 +4,8 @@ ghost use Rattle.std.specs.Prelude.{◌≡◌, ◌<◌, ◌^◌, ◌++◌, OnOk}
 ghost use Rattle.pk_segment.specs.Planning.{size_in};
 ghost use Rattle.pk_segment.specs.Spelling.{header, le32};
 
-use crate::directory::Entry;
-use crate::header::Header;
+use crate::directory::{ENTRY_BYTES, Entry};
+use crate::header::{HEADER_BYTES, Header};
 use std::alloc::AllocError;
 
 impl Header {
@@ -14,11 +14,11 @@ impl Header {
         requires { size_in self < 2 ^ 32 }
         ensures { result ≡ size_in self }
     {
-        24 + 12 * self.count + self.texts + self.postings + self.dictionary
+        HEADER_BYTES + ENTRY_BYTES * self.count + self.texts + self.postings + self.dictionary
     }
 }
 
-/// Puts a header behind bytes: 24 more.
+/// Puts a header behind bytes.
 #[tactic(auto, unfolding(crate::specs::Spelling::header))]
 pub fn put_header(out: &mut Vec<u8>, h: Header) -> Result<(), AllocError>
     ensures { OnOk result (out.new.items
@@ -32,7 +32,7 @@ pub fn put_header(out: &mut Vec<u8>, h: Header) -> Result<(), AllocError>
     put_u32(out, h.terms)
 }
 
-/// Puts an entry of the directory behind bytes: 12 more.
+/// Puts an entry of the directory behind bytes.
 pub fn put_entry(out: &mut Vec<u8>, entry: Entry) -> Result<(), AllocError>
     ensures { OnOk result (out.new.items
         ≡ out.old.items ++ (le32 entry.number ++ le32 entry.at ++ le32 entry.len)) }

@@ -14,8 +14,12 @@ ghost use Rattle.std.specs.Prelude.{
 ghost use Rattle.pk_posting.specs.Frames.{IsRead};
 ghost use Rattle.pk_segment.specs.Fields.{IsHeader, header_field, is_sound, number_at};
 
+use crate::directory::ENTRY_BYTES;
 use crate::kind::PLAIN;
 use pk_posting::{ByteSource, SourceFault};
+
+/// How many bytes a header has.
+pub const HEADER_BYTES: u32 = 24;
 
 /// The six numbers of a header.
 #[derive(Clone, Copy)]
@@ -41,8 +45,8 @@ impl Header {
     {
         self.kind == kind
             && 1 <= self.count
-            && 24
-                + 12 * u64::from(self.count)
+            && u64::from(HEADER_BYTES)
+                + u64::from(ENTRY_BYTES) * u64::from(self.count)
                 + u64::from(self.texts)
                 + u64::from(self.postings)
                 + u64::from(self.dictionary)
@@ -58,7 +62,7 @@ pub fn header_of<S: ByteSource>(source: &mut S) -> Result<Header, SourceFault>
     ensures damaged { IsErrOf result SourceFault.Damaged ↔ (length (S.content source.old) < 24) }
     ensures left { IsRead S.ByteSource 1 result source.old source.new }
 {
-    let field = source.bytes(0, 24)?;
+    let field = source.bytes(0, HEADER_BYTES)?;
     Ok(Header {
         kind: u32_at(field, 0),
         count: u32_at(field, 4),

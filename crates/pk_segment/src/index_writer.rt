@@ -26,7 +26,8 @@ ghost use Rattle.pk_segment.specs.Indexed.{dictionary, items_of, list_with};
 ghost use Rattle.pk_segment.specs.Spelling.{segment_length};
 
 use crate::building::BuildFault;
-use crate::header::Header;
+use crate::directory::ENTRY_BYTES;
+use crate::header::{HEADER_BYTES, Header};
 use crate::kind::INDEXED;
 use pk_dict::DictWriter;
 use pk_model::limits::MAX_SEGMENT_BYTES;
@@ -150,7 +151,7 @@ impl IndexWriter {
         Ok(Header {
             kind: INDEXED,
             count,
-            texts: front - 24 - 12 * count,
+            texts: front - HEADER_BYTES - ENTRY_BYTES * count,
             postings: self.postings,
             dictionary: words as u32,
             terms: self.terms,
