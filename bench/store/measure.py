@@ -157,10 +157,20 @@ def shown_numbers(texts):
     return [1 + place * 7_919 % len(texts) for place in range(SHOWS)]
 
 
-def show_all(side, numbers, texts):
-    """Seconds to show the numbers, one after the other."""
+def show_each(side, numbers):
+    """Shows the numbers, each asked when the one before was answered."""
+    return [side.show(number) for number in numbers]
+
+
+def show_in_row(side, numbers):
+    """Shows the numbers, without waiting for an answer before the next is asked."""
+    return side.show_in_row(numbers)
+
+
+def show_all(side, way, numbers, texts):
+    """Seconds to show the numbers in this way."""
     start = time.perf_counter()
-    shown = [side.show(number) for number in numbers]
+    shown = way(side, numbers)
     seconds = time.perf_counter() - start
     if shown != [texts[number - 1] for number in numbers]:
         sys.exit("measure: a text came back changed")
@@ -196,19 +206,20 @@ def report_filling(filled, texts, paths):
     row("file, MB", [size_on_disk(path) for path in paths.values()], ".1f", 1e-6)
 
 
-def show_anew(opening, numbers, texts):
+def show_anew(opening, way, numbers, texts):
     """The same on a side that is opened for it."""
     side = opening()
-    seconds = show_all(side, numbers, texts)
+    seconds = show_all(side, way, numbers, texts)
     side.close()
     return seconds
 
 
 def report_asking(openings, texts):
     numbers = shown_numbers(texts)
-    shown = [statistics.median(show_anew(each, numbers, texts) for _ in range(LIMITS))
-             for each in openings]
-    row(f"{SHOWS} shows, s, median of {LIMITS}", shown, ".4f")
+    for how, way in (("one after the other", show_each), ("in a row", show_in_row)):
+        shown = [statistics.median(show_anew(each, way, numbers, texts) for _ in range(LIMITS))
+                 for each in openings]
+        row(f"{SHOWS} shows {how}, s, median of {LIMITS}", shown, ".4f")
     sides = dict(zip(FINDS, (opening() for opening in openings)))
     for name, side in sides.items():
         if side.count() != len(texts):

@@ -111,9 +111,27 @@ class Program:
     def find(self, word):
         return int(self.ask(f"find {word}").split(":")[0].split()[1])
 
+    @staticmethod
+    def text_of(reply):
+        """The text that a reply to `show` gives."""
+        return reply.removeprefix("text ").replace("\\\\", "\\")
+
     def show(self, number):
-        reply = self.ask(f"show {number}").removeprefix("text ")
-        return reply.replace("\\\\", "\\")
+        return self.text_of(self.ask(f"show {number}"))
+
+    def show_in_row(self, numbers):
+        """Shows the numbers, without waiting for an answer before the next is asked."""
+        lines = "".join(f"show {number}\n" for number in numbers).encode()
+
+        def feed():
+            self.process.stdin.write(lines)
+            self.process.stdin.flush()
+
+        feeder = threading.Thread(target=feed, daemon=True)
+        feeder.start()
+        replies = [self.process.stdout.readline() for _ in numbers]
+        feeder.join()
+        return [self.text_of(reply.decode().rstrip("\n")) for reply in replies]
 
     def close(self):
         self.ask("quit")
@@ -177,6 +195,10 @@ class Fts5:
 
     def show(self, number):
         return self.base.execute("SELECT text FROM documents WHERE rowid = ?", (number,)).fetchone()[0]
+
+    def show_in_row(self, numbers):
+        """Shows the numbers: there is nothing to wait for."""
+        return [self.show(number) for number in numbers]
 
     def close(self):
         self.base.close()

@@ -17,7 +17,7 @@ import subprocess
 import sys
 import time
 
-from measure import fill_program, processor, show_anew, shown_numbers
+from measure import fill_program, processor, show_anew, show_each, shown_numbers
 from peers import UNIT, Program, merged, size_on_disk
 
 ROUNDS = 9
@@ -62,7 +62,8 @@ def fill(program, path, texts):
         "fill, s": seconds,
         "fill, processor s": used,
         "opening and count, s": min(timed(lambda: count(program, path)) for _ in range(11)),
-        "1,000 shows, s": show_anew(lambda: Program(program, path), shown_numbers(texts), texts),
+        "1,000 shows, s": show_anew(lambda: Program(program, path), show_each,
+                                    shown_numbers(texts), texts),
     }
 
 
