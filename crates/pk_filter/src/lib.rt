@@ -16,9 +16,9 @@
 //! are set, `Filter` which words pass. What that says of a dictionary's entries is a law ([`laws`]).
 #![tactic(auto)]
 
-pub(crate) mod bits;
-pub mod filter;
-pub mod hash;
+mod bits;
+mod filter;
+mod hash;
 pub mod laws;
 
 pub use filter::WordFilter;
