@@ -121,7 +121,7 @@ is_there bytes docs place is same = record {
 
 -- a fault that is passed on, and is no damage, is a cause
 pub entries_cause : (f : ReadFault) → (f ≡ Damaged → ⊥) → (y : ReadFault) → y ≡ f → IsNoDamage y
-entries_cause f no y same = subst (λ (x : ReadFault). IsNoDamage x) (sym same) (cause_of f no)
+entries_cause f undamaged y same = subst (λ (x : ReadFault). IsNoDamage x) (sym same) (cause_of f undamaged)
 
 -- ---- a list that is read
 

@@ -134,7 +134,7 @@ pub(crate) fn plain_size(documents: &[Document]) -> Result<u32, BuildFault>
     if documents.len() > 89_478_485 {
         return Err(BuildFault::TooLarge);
     }
-    let mut total = u64::from(HEADER_BYTES) + u64::from(ENTRY_BYTES) * documents.len() as u64;
+    let mut total = HEADER_BYTES as u64 + ENTRY_BYTES as u64 * documents.len() as u64;
     for d in documents {
         total += d.text.len() as u64;
         if total > u64::from(MAX_SEGMENT_BYTES) {
