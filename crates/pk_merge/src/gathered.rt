@@ -39,7 +39,7 @@ impl Gathered {
         Gathered {
             documents: Vec::new(alloc),
             last: 0,
-            bytes: u64::from(HEADER_BYTES),
+            bytes: HEADER_BYTES as u64,
         }
     }
 
@@ -64,7 +64,7 @@ impl Gathered {
         requires { self.old.last < document.number.0 }
         ensures { KeepsAs self.old (doc_of document) self.new result }
     {
-        let bytes = self.bytes + u64::from(ENTRY_BYTES) + document.text.len() as u64;
+        let bytes = self.bytes + ENTRY_BYTES as u64 + document.text.len() as u64;
         if bytes > u64::from(MAX_SEGMENT_BYTES) {
             return Err(MergeFault::TooLarge);
         }

@@ -70,7 +70,7 @@ impl Left {
             documents: Vec::new(alloc),
             disk_bytes,
             last: 0,
-            bytes: u64::from(HEADER_BYTES),
+            bytes: HEADER_BYTES as u64,
         }
     }
 
@@ -90,7 +90,7 @@ impl Left {
         ensures last { self.new.last ≡ self.old.last }
         ensures disk_bytes { self.new.disk_bytes ≡ self.old.disk_bytes }
     {
-        let bytes = self.bytes + u64::from(ENTRY_BYTES) + u64::from(kept.len);
+        let bytes = self.bytes + ENTRY_BYTES as u64 + u64::from(kept.len);
         if bytes > u64::from(MAX_SEGMENT_BYTES) {
             return Err(MergeFault::TooLarge);
         }

@@ -74,7 +74,7 @@ fn read_from<S: ByteSource>(
     let bytes = source.len();
     let segment = Segment::open(source, bytes, input.kind)?;
     let directory = segment.directory(alloc, source)?;
-    let front = u64::from(HEADER_BYTES) + u64::from(ENTRY_BYTES) * u64::from(segment.count());
+    let front = HEADER_BYTES as u64 + ENTRY_BYTES as u64 * u64::from(segment.count());
     let texts = start.saturating_add(front);
     let end = start + u64::from(bytes);
     let documents = InputDocuments {
