@@ -1,10 +1,10 @@
-"""Measures finds of phrases and of beginnings of words beside SQLite FTS5, Xapian and Lucene.
+"""Measures finds of phrases and of prefixes of words beside SQLite FTS5, Xapian and Lucene.
 
     phrases.py PROGRAM LINES FOLDER
 
 LINES has a text a line, of small letters, digits and spaces, which all cut into the same words;
 FOLDER has what measure.py wants there. The peers keep positions of words; a second base of FTS5
-keeps none, and is asked for beginnings alone. Queries are asked as in measure.py, as the stores
+keeps none, and is asked for prefixes alone. Queries are asked as in measure.py, as the stores
 were filled and then merged, optimized and compacted, and all answers must agree.
 """
 
@@ -33,8 +33,8 @@ from measure import (  # noqa: E402
 )
 from peers import BATCH, Fts5, Fts5Positions, Program, merged, segments  # noqa: E402
 
-# How many words a beginning is to have.
-BEGINNINGS = 20, 1_000, 20_000
+# How many words are to have a prefix.
+PREFIXES = 20, 1_000, 20_000
 
 # Phrases that are always asked: a word of one letter, which a search sees everywhere, and one that
 # stands in few of the texts that have its words.
@@ -99,15 +99,15 @@ def longer(texts, row):
     return (*row, max(able, key=lambda word: (thirds[word], word))) if able else None
 
 
-def pick_beginnings(texts):
-    """Beginnings of words with how many words have them."""
+def pick_prefixes(texts):
+    """Prefixes with how many words have them."""
     vocabulary = set(itertools.chain.from_iterable(text.split() for text in texts))
     counts = collections.Counter(
         word[:length] for word in vocabulary for length in range(1, min(len(word), 6) + 1)
     )
-    able = [begun for begun in counts if re.fullmatch("[a-z]+", begun)]
-    picked = (min(able, key=lambda it: (abs(counts[it] - wanted), it)) for wanted in BEGINNINGS)
-    return {begun: counts[begun] for begun in picked}
+    able = [prefix for prefix in counts if re.fullmatch("[a-z]+", prefix)]
+    picked = (min(able, key=lambda it: (abs(counts[it] - wanted), it)) for wanted in PREFIXES)
+    return {prefix: counts[prefix] for prefix in picked}
 
 
 def finds_of(texts):
@@ -117,8 +117,8 @@ def finds_of(texts):
     for name, row in (picked | fixed).items():
         phrase = " ".join(row)
         finds.append((f"{name}, `{phrase}`", f'"{phrase}"', f'"{phrase}"', "+".join(row), True))
-    for begun, count in pick_beginnings(texts).items():
-        query = f"{begun}*"
+    for prefix, count in pick_prefixes(texts).items():
+        query = f"{prefix}*"
         finds.append((f"{count:,} words, `{query}`", query, query, query, False))
     return finds
 
