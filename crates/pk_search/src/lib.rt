@@ -53,6 +53,7 @@ mod pivots;
 mod planned;
 mod prefix;
 mod repeats;
+mod rising;
 mod rows;
 mod span;
 mod stored;

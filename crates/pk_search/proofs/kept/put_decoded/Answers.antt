@@ -19,12 +19,13 @@ loop-block-preserved g c =
     let read = c.in_ok-block_in.ensures.left in
     let inside : k < c.args.shape.blocks = omega (arith, c.loop-block-test.true) in
     record {
+      whole = c.in_ok-put_block.ensures.whole;
       left = search rules;
       out = λ h xs has. (
           let here = subst (λ (x : List ℕ). HasShape (bytes_at x c.args.place) c.args.shape xs) (sym (before.left.same h)) has in
           let is = c.in_ok-block_in.ensures.spelled h xs here inside in
           let room : 128 * k + 128 ≤ length xs = omega (arith, has.blocks, inside) in
-          c.in_ok-extend_from_slice.ensures.items ∙ ap (λ (ns : List ℕ). ns ++ c.block_in.new.xs) (before.out h xs has)
+          c.in_ok-put_block.ensures.items ∙ ap (λ (ns : List ℕ). ns ++ c.block_in.new.xs) (before.out h xs has)
           ∙ append_assoc c.args.out.now.items (take (128 * k) xs) c.block_in.new.xs
           ∙ ap (λ (ns : List ℕ). c.args.out.now.items ++ ns) (ap (λ (ns : List ℕ). take (128 * k) xs ++ ns) is ∙ sym (take_block k xs room)));
     }
