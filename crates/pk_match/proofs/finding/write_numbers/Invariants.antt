@@ -1,5 +1,5 @@
 -- The numbers so far are written.
-use Rattle.std.proofs.Common.{◌≡◌, ◌++◌, length, take, drop}
+use Rattle.std.proofs.Common.{◌≡◌, length, take}
 use Rattle.pk_model.specs.Views.{numbers_in}
 use Rattle.pk_match.proofs.finding.write_numbers.Given as goal
 

@@ -1,8 +1,7 @@
 -- A term in a group of its own or in one that has others: the draft has one item more.
 use Rattle.std.proofs.Common.{arith, refl, subst, ◌^◌, sym, ap, ◌∙◌, ◌≡◌, ◌<◌, ◌%◌, ℕ, List, ◌++◌, ◌∷◌, [], length}
 use Rattle.std.proofs.lemmas.List.{length-append}
-use Rattle.pk_dict.specs.Dictionary.{Item, item_of, Fits, IsRising, rest_of, shared, spelling}
-use Rattle.pk_vbyte.specs.VariableByte.{vbyte}
+use Rattle.pk_dict.specs.Dictionary.{Item, item_of, Fits, IsRising, spelling}
 use Rattle.pk_dict.specs.declared.writer.DictWriter.{DictWriter}
 use Rattle.pk_dict.proofs.Adding.{last_push, fits_push, starts_other, starts_done, body_first, body_other}
 use Rattle.pk_dict.proofs.Same.{same_added}
