@@ -128,16 +128,18 @@ class Sessions(Stores):
 
     def test_commands_queue(self):
         async def loads():
-            return await asyncio.gather(self.session.load(1, 500, lines(1, 500), LONG),
-                                        self.session.find("line", 0, 999),
-                                        self.session.load(501, 100, lines(501, 600), LONG),
+            first = await self.session.load(1, 500, lines(1, 500), LONG)
+            return first, await self.session.load(501, 100, lines(501, 600), LONG)
+
+        async def beside_finds():
+            return await asyncio.gather(loads(), self.session.find("line", 0, 999),
                                         self.session.find("line", 0, 999))
 
         async def deletions():
             return await asyncio.gather(self.session.delete([1, 2]), self.session.find("line", 0, 999),
                                         self.session.delete([3]), self.session.find("line", 0, 999))
-        first, before, second, behind = asyncio.run(loads())
-        self.assertEqual((first, second), ((501, 0, 0, 0, ()), (601, 0, 0, 0, ())))
+        added, before, behind = asyncio.run(beside_finds())
+        self.assertEqual(added, ((501, 0, 0, 0, ()), (601, 0, 0, 0, ())))
         # What is still decoded keeps nobody waiting, and no find sees a part of a load.
         self.assertLessEqual({before, behind}, {(0, b""), (500, b""), (600, b"")})
         self.assertEqual(asyncio.run(deletions()), [[True, True], (598, b""), [True], (597, b"")])
