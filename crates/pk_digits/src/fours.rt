@@ -6,6 +6,7 @@ ghost use Rattle.pk_digits.specs.Fours.{AreFours};
 
 use crate::digits::write_four;
 use std::alloc::{AllocError, Global};
+use std::simd::prelude::*;
 
 /// The four digits of each number below 10,000, with leading zeros: 40,000 bytes.
 #[derive(Drop)]
@@ -37,7 +38,7 @@ impl FourDigits {
         ensures written { take result out.new ≡ take at out.old ++ four_digits number }
         ensures size { length out.new ≡ length out.old }
     {
-        out[at..at + 4].copy_from_slice(&self.digits[number as usize]);
+        u8x4::from_array(self.digits[number as usize]).copy_to_slice(&mut out[at..]);
         at + 4
     }
 }

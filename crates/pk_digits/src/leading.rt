@@ -1,6 +1,7 @@
 //! The leading digits that numbers share, and numbers written by them.
 
-ghost use Rattle.std.specs.Prelude.{◌≡◌, ◌+◌, ◌/◌, ◌<◌, ◌≤◌, ◌++◌, length, take, codes, decimal};
+ghost use Rattle.std.specs.Prelude.{◌≡◌, ◌+◌, ◌/◌, ◌<◌, ◌≤◌, ◌++◌, ◌↔◌, IsTrue, length, take};
+ghost use Rattle.std.specs.Prelude.{codes, decimal};
 ghost use Rattle.pk_digits.specs.declared.leading.TheConstants.{SPACED_BYTES};
 
 use crate::digits::{write_short, write_six};
@@ -32,8 +33,8 @@ impl Model for LeadingDigits {
 
     ghost view = { λ l. l.number };
 
-    ghost invariant = { λ l. (l.number ≤ 429496) × (l.least ≡ 10000 * l.number)
-        × (l.end ≡ 1 + length (decimal l.number))
+    ghost invariant = { λ l. (1 ≤ l.number) × (l.number ≤ 429496) × (l.least ≡ 10000 * l.number)
+        × (l.end ≡ 1 + length (decimal l.number)) × (length l.text ≡ 8)
         × (take l.end l.text ≡ codes " " ++ decimal l.number) };
 }
 
@@ -47,7 +48,8 @@ impl LeadingDigits {
 
     // Those of a number that is `number` without its last four digits.
     fn of(number: u32) -> LeadingDigits
-        requires { number ≤ 429496 }
+        requires least { 1 ≤ number }
+        requires most { number ≤ 429496 }
         ensures { result ≡ number }
     {
         let mut text = [b' '; 8];
@@ -60,16 +62,27 @@ impl LeadingDigits {
         }
     }
 
-    // Keeps those of a number from 10,000 on. Whether it has those that are kept is told by how far
-    // it is from the least that does: a number below that one is far from it too.
+    // Whether they are those of a number from 10,000 on: told by how far it is from the least one
+    // that has them.
     #[inline(always)]
-    fn keep(&mut self, number: u32)
-        requires { 10000 ≤ number }
-        ensures { self.new ≡ number / 10000 }
+    fn lead(&self, number: u32) -> bool
+        ensures { IsTrue result ↔ number / 10000 ≡ self.now }
     {
-        if number.wrapping_sub(self.least) >= 10_000 {
-            *self = LeadingDigits::of(number / 10_000);
-        }
+        u64::from(number).wrapping_sub(u64::from(self.least)) < 10_000
+    }
+
+    // Writes a space and a number that they lead at the beginning of the bytes.
+    #[inline(always)]
+    fn write_led(&self, fours: &FourDigits, number: u32, out: &mut [u8]) -> usize
+        requires led { number / 10000 ≡ self.now }
+        requires room { SPACED_BYTES ≤ length out.old }
+        ensures end { result ≡ 1 + length (decimal number) }
+        ensures within { result ≤ SPACED_BYTES }
+        ensures written { take result out.new ≡ codes " " ++ decimal number }
+        ensures size { length out.new ≡ length out.old }
+    {
+        self.text.copy_to_slice(out);
+        fours.write(number - self.least, out, self.end)
     }
 
     /// Writes a space and a number in decimal at the beginning of the bytes, and returns where they
@@ -84,12 +97,14 @@ impl LeadingDigits {
         ensures kept { number < 10000 → self.new ≡ self.old }
         ensures next { 10000 ≤ number → self.new ≡ number / 10000 }
     {
+        if self.lead(number) {
+            return self.write_led(fours, number, out);
+        }
         if number < 10_000 {
             out[0] = b' ';
             return write_short(number, out, 1);
         }
-        self.keep(number);
-        self.text.copy_to_slice(out);
-        fours.write(number - self.least, out, self.end)
+        *self = LeadingDigits::of(number / 10_000);
+        self.write_led(fours, number, out)
     }
 }

@@ -1,13 +1,8 @@
--- A short number, or the leading digits as they are kept and four more.
-use Rattle.std.proofs.Common.{◌≡◌, ◌/◌, ◌%◌, ◌-◌, ◌≤◌, ◌∷◌, ◌++◌, length, take, drop, refl, ap, ◌∙◌, arith}
+-- A short number, or one with the leading digits that are kept.
+use Rattle.std.proofs.Common.{◌++◌, ap, ◌∙◌, refl, arith}
 use Rattle.std.specs.Prelude.{decimal}
 use Rattle.std.proofs.lemmas.Fmt.{length-decimal-le}
 use Rattle.std.proofs.lemmas.Grind.{take-set_at}
-use Rattle.std.proofs.lemmas.List.{take-append-le}
-use Rattle.std.proofs.lemmas.Simd.{length-put_chunk, put_chunk_is}
-use Rattle.std.specs.Simd.Lanes.{put_chunk}
-use Rattle.pk_digits.specs.Digits.{four_digits}
-use Rattle.pk_digits.proofs.DecimalLemmas.{decimal_four, length_four}
 use Rattle.pk_digits.proofs.leading.LeadingDigits.write_spaced.Goals as goal
 
 pub returns-then-number-lt10000-clause-within : goal.returns-then-number-lt10000-clause-within
@@ -16,30 +11,3 @@ returns-then-number-lt10000-clause-within c = omega (arith, length-decimal-le 4 
 pub returns-then-number-lt10000-clause-written : goal.returns-then-number-lt10000-clause-written
 returns-then-number-lt10000-clause-written c =
     c.write_short.ensures.written ∙ ap (λ t. t ++ decimal c.args.number) (take-set_at c.args.out.now 0 1 32 refl (omega arith))
-
-pub write-requires-clause-low : goal.write-requires-clause-low
-write-requires-clause-low c = omega (arith, c.self.view_is ∙ c.keep.ensures, c.self.invariant.1)
-
-pub write-requires-clause-room : goal.write-requires-clause-room
-write-requires-clause-room c =
-    omega (arith, length-put_chunk 0 c.args.out.now c.self.inside.text, length-decimal-le 6 c.self.inside.number (omega arith) (omega arith) (omega arith))
-
-pub returns-clause-end : goal.returns-clause-end
-returns-clause-end c =
-    omega (arith, length_four c.args.number c.if-number-lt10000.false (omega arith), ap (λ n. length (decimal n)) (c.self.view_is ∙ c.keep.ensures))
-
-pub returns-clause-within : goal.returns-clause-within
-returns-clause-within c = omega (arith, length-decimal-le 6 c.self.inside.number (omega arith) (omega arith) (omega arith))
-
-pub returns-clause-written : goal.returns-clause-written
-returns-clause-written c =
-    let text = c.self.inside.text in
-    let few : length (decimal c.self.inside.number) ≤ 6 = length-decimal-le 6 c.self.inside.number (omega arith) (omega arith) (omega arith) in
-    let stored : put_chunk 0 c.args.out.now text ≡ text ++ drop (length text) c.args.out.now = put_chunk_is 0 c.args.out.now text (omega arith) in
-    let front : take c.self.inside.end (put_chunk 0 c.args.out.now text) ≡ 32 ∷ decimal c.self.inside.number =
-    ap (take c.self.inside.end) stored ∙ take-append-le c.self.inside.end text _ (omega arith) ∙ c.self.invariant.3 in
-    let same : c.self.inside.number ≡ c.args.number / 10000 = c.self.view_is ∙ c.keep.ensures in
-    let low : c.args.number - c.self.inside.least ≡ c.args.number % 10000 = omega (arith, same, c.self.invariant.1) in
-    c.write.ensures.written
-    ∙ ap (λ t. t ++ four_digits (c.args.number - c.self.inside.least)) front
-    ∙ rw (low, decimal_four c.args.number c.if-number-lt10000.false (omega arith), ← same) refl
