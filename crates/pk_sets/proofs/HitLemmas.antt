@@ -1,5 +1,5 @@
 -- Which of four numbers are among those before a place of a rising list.
-use Rattle.std.proofs.Common.{◌≡◌, ℕ, ◌<◌, ◌≤◌, ◌+◌, ◌-◌, ◌/◌, ◌%◌, ◌^◌, List, ◌++◌, length, take, drop, slice_index, Bool, true, false, cond, not, ◌||◌, bit_or, nat_le, max, arith, refl, sym, ap, ap₂, ◌∙◌}
+use Rattle.std.proofs.Common.{◌≡◌, ℕ, ◌<◌, ◌≤◌, ◌+◌, ◌-◌, ◌/◌, ◌%◌, ◌^◌, List, ◌++◌, length, take, drop, slice_index, Bool, true, false, cond, not, ◌||◌, bit_or, nat_le, max, append_assoc, arith, refl, sym, ap, ap₂, ◌∙◌}
 use Rattle.std.specs.Simd.Lanes.{chunk}
 use Rattle.std.specs.List.Sorted.{IsStrictlyIncreasing}
 use Rattle.std.proofs.lemmas.Simd.{chunk-drop, get_or-chunk}
@@ -84,3 +84,62 @@ still_there n m xs out rest h room e =
     sym (take-take n m out h) ∙ ap (take n) e
     ∙ take-append-le n (take n xs) rest (omega (arith, length-take n xs))
     ∙ take-take n n xs (omega arith)
+
+-- WHERE A MERGE OF FOUR AGAINST FOUR STANDS: what is written, and what is left; which of the four at i are
+-- among the numbers of b before j, that no later one is, and an index with none of what is left before it
+pub record IsMet (a b out : List ℕ) (i j n bits start : ℕ) : Type 0 where
+  pub in_a : i ≤ length a
+  pub in_b : j ≤ length b
+  pub in_start : start ≤ length b
+  pub written : n ≤ i
+  pub found : take n out ++ difference (drop i a) b ≡ difference a b
+  pub seen : (t : ℕ) → t < 4 → i + t < length a → bits / 2 ^ t % 2 ≡ cond (has (take j b) (slice_index a (i + t))) 1 0
+  pub ahead : (k : ℕ) → i + 4 ≤ k → k < length a → has (take j b) (slice_index a k) ≡ false
+  pub behind : (k : ℕ) → i ≤ k → k < length a → has (take start b) (slice_index a k) ≡ false
+
+module _ {a b out : List ℕ} {i j n bits start : ℕ} (is : IsMet a b out i j n bits start) where
+  -- what is left can do without the numbers of b before that index
+  pub left_over : take n out ++ difference (drop i a) (drop start b) ≡ difference a b
+  left_over = ap (λ l. take n out ++ l) (sym (start_over a b i start is.behind)) ∙ is.found
+
+  -- ONE STEP, where the four of both sides were compared
+  module _ (inc_a : IsStrictlyIncreasing a) (inc_b : IsStrictlyIncreasing b) (met : ℕ) (room : i + 4 ≤ length a) (room_b : j + 4 ≤ length b)
+      (met_are : (t : ℕ) → t < 4 → met / 2 ^ t % 2 ≡ cond (has (chunk j 4 b) (slice_index (chunk i 4 a) t)) 1 0) where
+    pub through : (t : ℕ) → t < 4 → bit_or bits met / 2 ^ t % 2 ≡ cond (has (take (j + 4) b) (slice_index a (i + t))) 1 0
+    through = hits_are a b i j bits met room is.seen met_are
+
+    -- the four of b are passed, and those of a stay
+    pub past_b : (now : List ℕ) → slice_index b (j + 3) < slice_index a (i + 3) → take n now ≡ take n out → IsMet a b now i (j + 4) n (bit_or bits met) start
+    past_b now lt same = record {
+      in_a = is.in_a;
+      in_b = room_b;
+      in_start = is.in_start;
+      written = is.written;
+      found = ap (λ l. l ++ difference (drop i a) b) same ∙ is.found;
+      seen = λ t h l. through t h;
+      ahead = λ k h l. none_through b inc_b (j + 4) (j + 3) (slice_index a k) (omega arith) (omega (arith, room_b))
+          (omega (arith, lt, at_most a inc_a (i + 3) k (omega (arith, h)) l));
+      behind = is.behind;
+    }
+
+    -- the four of a are decided, and b goes on to where no later one is met
+    pub past_a : (now : List ℕ) (m later : ℕ) → slice_index a (i + 3) ≤ slice_index b (j + 3) → m ≤ n + 4
+        → ((ys : List ℕ) → ((t : ℕ) → t < 4 → bit_or bits met / 2 ^ t % 2 ≡ cond (has ys (slice_index a (i + t))) 1 0) → take m now ≡ take n out ++ difference (chunk i 4 a) ys)
+        → later ≤ length b → ((k : ℕ) → i + 4 ≤ k → k < length a → has (take later b) (slice_index a k) ≡ false) → IsMet a b now (i + 4) later m 0 j
+    past_a now m later le most put in_b passed =
+        let front = take n out in
+        let after = difference (drop (i + 4) a) b in
+        let decided : (t : ℕ) → t < 4 → bit_or bits met / 2 ^ t % 2 ≡ cond (has b (slice_index a (i + t))) 1 0 =
+        λ t h. through t h ∙ ap (λ q. cond q 1 0) (all_through b inc_b (j + 4) (j + 3) (slice_index a (i + t)) (omega arith) (omega (arith, room_b))
+        (omega (arith, le, at_most a inc_a (i + t) (i + 3) (omega (arith, h)) (omega (arith, room))))) in
+        record {
+          in_a = room;
+          in_b = in_b;
+          in_start = is.in_b;
+          written = omega (arith, most, is.written);
+          found = ap (λ l. l ++ after) (put b decided) ∙ append_assoc front (difference (chunk i 4 a) b) after
+              ∙ ap (λ l. front ++ l) (sym (difference_parts a b i)) ∙ is.found;
+          seen = λ t h l. no_hit (take later b) (slice_index a (i + 4 + t)) t (passed (i + 4 + t) (omega arith) l);
+          ahead = λ k h l. passed k (omega (arith, h)) l;
+          behind = is.ahead;
+        }

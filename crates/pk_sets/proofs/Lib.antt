@@ -7,3 +7,4 @@ pub mod ExclusionLemmas
 pub mod CallerLemmas
 pub mod HitLemmas
 pub mod CursorLemmas
+pub mod GaplessLemmas

@@ -9,6 +9,7 @@ ghost use Rattle.pk_sets.specs.Sets.{difference, has};
 
 use crate::cursor::{Cursor, START};
 use crate::finding::{is_long, next_from};
+use crate::gapless::{exclude_gapless, is_gapless};
 use crate::merging::shared;
 use crate::writing::{keep, one_up_to, put_below, put_four, put_rest};
 use std::hint::select_unpredictable;
@@ -39,7 +40,7 @@ fn exclude_one(a: &[u32], b: &[u32], at: Cursor, out: &mut [u32]) -> Cursor
 }
 
 // What is left of `a`, one number after another.
-fn exclude_rest(a: &[u32], b: &[u32], from: Cursor, out: &mut [u32]) -> usize
+pub fn exclude_rest(a: &[u32], b: &[u32], from: Cursor, out: &mut [u32]) -> usize
     requires rising_a { IsStrictlyIncreasing a.now }
     requires rising_b { IsStrictlyIncreasing b.now }
     requires left { from.a ≤ length a.now }
@@ -287,6 +288,9 @@ pub fn without(a: &[u32], b: &[u32], out: &mut [u32]) -> usize
     }
     if is_long(b.len() / 4, a.len()) {
         return exclude_passing(a, b, out);
+    }
+    if is_gapless(a) {
+        return exclude_gapless(a, b, out);
     }
     if is_long(b.len(), a.len()) {
         return exclude_foreseen(a, b, out);

@@ -19,9 +19,10 @@
 //! `either` goes by single numbers, without a branch on which is lower, through the lower and the
 //! higher halves of both lists side by side: each step waits for the one before, and two rows of
 //! steps wait at the same time. `without` compares four against four, and keeps a number once
-//! nothing that is left of the second list can meet it. Where one list is some 8 times as long as
-//! the other or longer, both copy or pass its numbers in runs, four at once, up to the next number
-//! of the other. The ends are done plainly.
+//! nothing that is left of the second list can meet it; of a list that misses no number between its
+//! first and its last, as that of all documents mostly is, each number of the second tells where in it
+//! it stands. Where one list is some 8 times as long as the other or longer, both copy or pass its
+//! numbers in runs, four at once, up to the next number of the other. The ends are done plainly.
 //!
 //! Contracts see a set as its list. `specs/Sets.antt` has the operations by membership, and `laws`
 //! what follows from them: the results rise, the order of the two lists does not matter, and the
@@ -33,6 +34,7 @@ mod cursor;
 mod excluding;
 mod finding;
 mod galloping;
+mod gapless;
 mod intersecting;
 pub mod laws;
 mod merging;

@@ -40,6 +40,16 @@ pub fn put_four(xs: &[u32], from: usize, n: usize, out: &mut [u32])
     u32x4::from_slice(&xs[from..]).copy_to_slice(&mut out[n..]);
 }
 
+// Writes at index n the eight numbers from `from` on.
+#[inline(always)]
+pub fn put_eight(xs: &[u32], from: usize, n: usize, out: &mut [u32])
+    requires left { from + 8 ≤ length xs.now }
+    requires room { n + 8 ≤ length out.old }
+    ensures { take (n + 8) out.new ≡ take n out.old ++ chunk from 8 xs.now }
+{
+    u32x8::from_slice(&xs[from..]).copy_to_slice(&mut out[n..]);
+}
+
 // Writes at index n the numbers from `from` on that are below x, four at once as far as that goes,
 // and gives the index of the first that is not.
 #[inline(always)]
