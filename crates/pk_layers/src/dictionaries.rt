@@ -193,31 +193,30 @@ pub(crate) fn tell_in(
         "look-in" => tell_each(&mut source, place, *words, told)?,
         "near-in" => tell_each_near(&mut source, place, pivots, *words, told)?,
         "passed-in" => tell_passed(&mut source, place, words, told)?,
-        _ => tell_prefix_in(&mut source, place, words, told)?,
+        "prefix-in" => tell_prefix_in(&mut source, place, words, told)?,
+        _ => tell_by_windows(name, &mut source, place, pivots, words, told)?,
     }
     source.tell(told);
     Ok(())
 }
 
 /// The same by windows over the source, with how often these were asked.
-pub(crate) fn tell_by_windows(
+fn tell_by_windows<S: ByteSource>(
     name: &str,
-    source: &[u8],
+    source: &mut S,
+    place: DictPlace,
     pivots: &mut [u64],
     words: &mut Words<'_>,
     told: &mut Told,
-) -> Result<(), Fault> {
-    let mut source = Failing::after(source, words.long());
-    let place = dict_place(words);
+) -> Result<(), AllocError> {
     let mut long = [0; MOST_LENT];
-    let mut windows = Windows::on(&mut source, place, &mut long);
+    let mut windows = Windows::on(source, place, &mut long);
     match name {
         "look-windows" => tell_each(&mut windows, place, *words, told)?,
         "near-windows" => tell_each_near(&mut windows, place, pivots, *words, told)?,
         _ => tell_prefix_in(&mut windows, place, words, told)?,
     }
     told.number(windows.asked());
-    source.tell(told);
     Ok(())
 }
 

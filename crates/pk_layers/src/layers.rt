@@ -1,8 +1,6 @@
 //! What is asked of the layers, line by line.
 
-use crate::dictionaries::{
-    tell_by_windows, tell_in, tell_looked_up, tell_prefix, tell_windows, tell_written,
-};
+use crate::dictionaries::{tell_in, tell_looked_up, tell_prefix, tell_windows, tell_written};
 use crate::disks::Disks;
 use crate::lists::{
     tell_blocks, tell_dead, tell_decoded, tell_encoded, tell_lent, tell_put_into, tell_read,
@@ -120,13 +118,8 @@ impl Layers {
             "blocks" => tell_blocks(self.alloc, source, &self.other, words, told),
             "look" => tell_looked_up(self.alloc, source, words, told),
             "prefix" => tell_prefix(self.alloc, source, words, told),
-            "look-in" | "near-in" | "prefix-in" | "passed-in" => {
-                tell_in(name, source, &mut self.pivots, words, told)
-            }
-            "look-windows" | "near-windows" | "prefix-windows" => {
-                tell_by_windows(name, source, &mut self.pivots, words, told)
-            }
-            _ => tell_windows(source, words, told),
+            "window" => tell_windows(source, words, told),
+            _ => tell_in(name, source, &mut self.pivots, words, told),
         }
     }
 }

@@ -188,8 +188,8 @@ fn tell_both(
     Ok(())
 }
 
-/// What either has.
-fn tell_either(
+/// What either has, and what the first has alone.
+fn tell_others(
     alloc: Global,
     spare: u32,
     a: &[u32],
@@ -202,20 +202,6 @@ fn tell_either(
     let mut all = room(alloc, a.len().saturating_add(b.len()), spare)?;
     let n = either(a, b, &mut all);
     told.numbers(&all[..n]);
-    Ok(())
-}
-
-/// What the first has alone.
-fn tell_without(
-    alloc: Global,
-    spare: u32,
-    a: &[u32],
-    b: &[u32],
-    told: &mut Told,
-) -> Result<(), AllocError>
-    requires rising_a { IsStrictlyIncreasing a.now }
-    requires rising_b { IsStrictlyIncreasing b.now }
-{
     let mut rest = room(alloc, a.len(), spare)?;
     let n = without(a, b, &mut rest);
     told.numbers(&rest[..n]);
@@ -235,7 +221,6 @@ pub(crate) fn tell_sets(
         return Err(Fault("no set"));
     }
     tell_both(alloc, spare, &a, &b, told)?;
-    tell_either(alloc, spare, &a, &b, told)?;
-    tell_without(alloc, spare, &a, &b, told)?;
+    tell_others(alloc, spare, &a, &b, told)?;
     Ok(())
 }

@@ -34,10 +34,7 @@ impl From<SourceFault> for MergeFault {
     ghost from_gives = { λ fault merge. merge ≡ merge_of (read_of fault) };
 
     fn from(fault: SourceFault) -> MergeFault {
-        match fault {
-            SourceFault::Damaged => MergeFault::Damaged,
-            SourceFault::Disk => MergeFault::Disk,
-        }
+        MergeFault::from(ReadFault::from(fault))
     }
 }
 
