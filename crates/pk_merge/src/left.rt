@@ -15,6 +15,7 @@ ghost use Rattle.std.specs.Prelude.{
   drop,
   All,
   IfErr,
+  IsErrOf,
   OnOk,
 };
 ghost use Rattle.pk_model.specs.Limits.{max_segment_bytes};
@@ -87,6 +88,8 @@ impl Left {
     fn keep(&mut self, kept: Kept) -> Result<(), MergeFault>
         requires { kept.at + kept.len ≤ self.old.disk_bytes }
         ensures kept { KeepsOneAs (kept_in self.old) self.old.bytes kept self.new result }
+        ensures memory { IsErrOf result MergeFault.Memory
+            → self.old.bytes + 12 + kept.len ≤ max_segment_bytes }
         ensures last { self.new.last ≡ self.old.last }
         ensures disk_bytes { self.new.disk_bytes ≡ self.old.disk_bytes }
     {

@@ -14,14 +14,16 @@
 //! block; a later word is sought number by number where its list is more than 50 times as long as
 //! what is left, else taken out too and joined (`lists`). Where nothing is left, nothing more is
 //! read. The beginning of a word is sought in the dictionary: a cursor goes through the words that
-//! begin so, and the list of each is united with the others as it comes (`prefix`). Words in a row
-//! are looked for in the texts of what is left at the end (`in_row`), by the one of them that the
-//! fewest documents of the segment hold: a text of 4,096 bytes or less where the source lends it,
-//! and a longer one by itself. Where two or more lie in as many bytes on average and little lies
-//! between them, those behind a text are lent with it (`span`). Where one document of 64 or more is
-//! left, the directory is read whole, and gone through from each number to the next. A segment of
-//! kind 1 has no lists: its documents are read, and the plan carried out over an index of the words
-//! of each (pk_live, by `hits`). The plan is answered, so that other documents are found by it too.
+//! begin so, and the list of each is united with the others as it comes (`prefix`). For what only
+//! rules out, all documents are taken: without a read where none of their numbers is missing. Words
+//! in a row are looked for in the texts of what is left at the end (`in_row`), by the one of them
+//! that the fewest documents of the segment hold: a text of 4,096 bytes or less where the source
+//! lends it, and a longer one by itself. Where two or more lie in as many bytes on average and
+//! little lies between them, those behind a text are lent with it (`span`). Where one document of
+//! 64 or more is left, the directory is read whole, and gone through from each number to the next.
+//! A segment of kind 1 has no lists: its documents are read, and the plan carried out over an index
+//! of the words of each (pk_live, by `hits`). The plan is answered, so that other documents are
+//! found by it too.
 //!
 //! The answer is exact whatever the frequencies are: they choose the way alone.
 //!

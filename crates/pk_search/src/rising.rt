@@ -1,11 +1,11 @@
 //! Whether numbers rise that are taken out block by block.
-ghost use Rattle.std.specs.Prelude.{◌↔◌, IsTrue};
+ghost use Rattle.std.specs.Prelude.{◌≡◌, ◌↔◌, IsTrue, length};
 ghost use Rattle.std.specs.List.Sorted.{IsStrictlyIncreasing};
 ghost use Rattle.pk_search.specs.Blocks.{RisesInBlocks};
 
-/// Whether numbers rise of which each block of 128 does: by the first number of each block and the
-/// one before it.
-pub(crate) fn blocks_rise(numbers: &[u32]) -> bool
+// Whether numbers rise of which each block of 128 does: by the first number of each block and the one
+// before it.
+fn blocks_rise(numbers: &[u32]) -> bool
     requires { RisesInBlocks numbers.now }
     ensures { IsTrue result ↔ IsStrictlyIncreasing numbers.now }
 {
@@ -16,4 +16,13 @@ pub(crate) fn blocks_rise(numbers: &[u32]) -> bool
         }
     }
     true
+}
+
+/// Whether numbers of which each block of 128 rises are a list of so many: all of them rise.
+pub(crate) fn is_list_of(numbers: &[u32], count: u32) -> bool
+    requires { RisesInBlocks numbers.now }
+    ensures { IsTrue result
+        ↔ ((length numbers.now ≡ count) × IsStrictlyIncreasing numbers.now) }
+{
+    numbers.len() == count as usize && blocks_rise(numbers)
 }

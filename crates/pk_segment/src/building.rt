@@ -1,6 +1,6 @@
 //! A segment made of its documents.
 
-ghost use Rattle.std.specs.Prelude.{◌≡◌, ◌≤◌, ◌<◌, ◌+◌, ◌*◌, ◌^◌, ◌++◌, length, All, OnOk};
+ghost use Rattle.std.specs.Prelude.{◌≡◌, ◌≤◌, ◌<◌, ◌+◌, ◌*◌, ◌^◌, ◌++◌, length, All, IsErrOf, OnOk};
 ghost use Rattle.std.specs.List.Sorted.{IsStrictlyIncreasing};
 ghost use Rattle.pk_model.specs.Collection.{numbers_of};
 ghost use Rattle.pk_model.specs.Views.{doc_of};
@@ -129,7 +129,8 @@ fn build_plain(alloc: Global, documents: &[Document]) -> Result<Vec<u8>, BuildFa
 
 // The length of the segment of kind 1.
 pub(crate) fn plain_size(documents: &[Document]) -> Result<u32, BuildFault>
-    ensures { SizedAs (docs_of documents.now) 1 result }
+    ensures size { SizedAs (docs_of documents.now) 1 result }
+    ensures memory { IsErrOf result BuildFault.Memory → ⊥ }
 {
     if documents.len() > 89_478_485 {
         return Err(BuildFault::TooLarge);

@@ -19,7 +19,7 @@ returns-in_err-front c =
     let docs = docs_of c.args.documents.now in
     let found = err_from_is_err_and c.from_residual.result c.from_residual.ensures.1 in
     subst (λ (r : Result IndexPlan BuildFault). PlansIndexAs docs r) (sym found.1)
-    (subst (λ (f : BuildFault). BuildFails docs 2 f) (sym found.2) (fails_more docs c.in_err-front.field-0.0 c.in_err-front.ensures))
+    (subst (λ (f : BuildFault). BuildFails docs 2 f) (sym found.2) (fails_more docs c.in_err-front.field-0.0 c.in_err-front.ensures.size))
 
 pub index_rows-requires-clause-are : goal.index_rows-requires-clause-are
 index_rows-requires-clause-are c = are_documents c.args.documents.now c.requires.some c.requires.rising c.requires.least (c.in_ok-live.ensures.small refl)
@@ -33,17 +33,17 @@ index_rows-requires-clause-rows c =
 pub overflow_cast-documents : goal.overflow_cast-documents
 overflow_cast-documents c =
     let ds = c.args.documents.now in
-    omega (arith, c.in_ok-front.ensures.0, c.in_ok-front.ensures.1, front_of (docs_of ds), length-map ds doc_of)
+    omega (arith, c.in_ok-front.ensures.size.0, c.in_ok-front.ensures.size.1, front_of (docs_of ds), length-map ds doc_of)
 
 pub header-requires-clause-front : goal.header-requires-clause-front
 header-requires-clause-front c =
     let ds = c.args.documents.now in
-    omega (arith, c.in_ok-front.ensures.0, front_of (docs_of ds), length-map ds doc_of)
+    omega (arith, c.in_ok-front.ensures.size.0, front_of (docs_of ds), length-map ds doc_of)
 
 pub returns : goal.returns
 returns c =
     let docs = docs_of c.args.documents.now in
-    let headed = c.in_ok-header.ensures.header docs c.in_ok-index.ensures (sym (length-map c.args.documents.now doc_of)) c.in_ok-front.ensures.0 in
+    let headed = c.in_ok-header.ensures.header docs c.in_ok-index.ensures (sym (length-map c.args.documents.now doc_of)) c.in_ok-front.ensures.size.0 in
     record {
       are = are_documents c.args.documents.now c.requires.some c.requires.rising c.requires.least (c.in_ok-live.ensures.small refl);
       header_is = headed.0;
