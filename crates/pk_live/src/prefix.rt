@@ -1,20 +1,19 @@
 //! The lists of all words that begin alike, united.
 
-ghost use Rattle.std.specs.Prelude.{◌≡◌, ◌||◌, ℕ, List, All, OnOk};
+ghost use Rattle.std.specs.Prelude.{◌≡◌, ◌-◌, ◌<◌, List, OnOk, length, slice_index};
 ghost use Rattle.std.specs.List.Sorted.{IsStrictlyIncreasing};
 ghost use Rattle.pk_index.specs.Index.{Keeps};
-ghost use Rattle.pk_match.specs.Uniting.{items_of, union_of};
 ghost use Rattle.pk_model.specs.Collection.{Doc, answer, numbers_of};
 ghost use Rattle.pk_model.specs.Tree.{Prefix};
-ghost use Rattle.pk_sets.specs.Sets.{has, intersection};
+ghost use Rattle.pk_sets.specs.Sets.{intersection, union};
 
 use crate::live::put_live;
 use pk_index::Index;
-use pk_match::{stack_list, unite_stacked};
+use pk_match::UnionBuilder;
 use std::alloc::{AllocError, Global};
 
 /// Puts the live numbers of the lists of all words that begin so into `out`, by one walk over the
-/// words of the table. It takes memory for these lists alone.
+/// words of the table. It takes memory for these numbers alone.
 pub(crate) fn put_with_prefix(
     alloc: Global,
     index: &Index,
@@ -27,35 +26,42 @@ pub(crate) fn put_with_prefix(
         → OnOk result (out.new.items ≡ answer (Prefix prefix.now) docs) }
     ensures rising { OnOk result (IsStrictlyIncreasing out.new.items) }
 {
-    let mut lists = Vec::new(alloc);
-    let mut spare = Vec::new(alloc);
+    let (first, last) = ends_of(live);
+    let mut united = UnionBuilder::new(alloc, first, last);
+    let mut numbers = Vec::new(alloc);
     for place in 0..index.len() {
         let word = index.word(place).as_bytes();
         if word.starts_with(prefix.as_bytes()) {
-            stack_live(alloc, live, index.row(place).list, &mut lists, &mut spare)?;
+            unite_live(live, index.row(place).list, &mut united, &mut numbers)?;
         }
     }
-    unite_stacked(&mut lists, out, &mut spare)?;
+    united.finish(out)?;
     Ok(())
 }
 
-// Puts the live numbers of a list on the stack.
-fn stack_live(
-    alloc: Global,
+// The first number and the last; 0 where there is none.
+fn ends_of(numbers: &[u32]) -> (u32, u32)
+    ensures first { 0 < length numbers.now → result.0 ≡ slice_index numbers.now 0 }
+    ensures last { 0 < length numbers.now
+        → result.1 ≡ slice_index numbers.now (length numbers.now - 1) }
+{
+    if numbers.is_empty() {
+        return (0, 0);
+    }
+    (numbers[0], numbers[numbers.len() - 1])
+}
+
+// Puts the live numbers of a list to those that are there, by a buffer.
+fn unite_live(
     live: &[u32],
     list: &[u32],
-    lists: &mut Vec<Vec<u32>>,
-    spare: &mut Vec<u32>,
+    united: &mut UnionBuilder,
+    numbers: &mut Vec<u32>,
 ) -> Result<(), AllocError>
     requires live { IsStrictlyIncreasing live.now }
     requires list { IsStrictlyIncreasing list.now }
-    requires lists { All IsStrictlyIncreasing (items_of lists.old.items) }
-    ensures numbers { OnOk result ((n : ℕ) → has (union_of (items_of lists.new.items)) n
-        ≡ (has (union_of (items_of lists.old.items)) n || has (intersection live.now list.now) n)) }
-    ensures rising { OnOk result (All IsStrictlyIncreasing (items_of lists.new.items)) }
+    ensures { OnOk result (united.new ≡ union united.old (intersection live.now list.now)) }
 {
-    let mut numbers = Vec::new(alloc);
-    put_live(live, list, &mut numbers)?;
-    stack_list(lists, numbers, spare)?;
-    Ok(())
+    put_live(live, list, numbers)?;
+    united.put(numbers)
 }

@@ -1,5 +1,5 @@
 -- Stacks of lists, one list higher or lower.
-use Rattle.std.proofs.Common.{◌≡◌, ◌*◌, ◌<◌, ℕ, suc, List, [], ◌∷◌, ◌++◌, length, get_or, refl, ap}
+use Rattle.std.proofs.Common.{◌≡◌, ◌∙◌, ◌*◌, ◌<◌, ℕ, suc, List, [], ◌∷◌, ◌++◌, length, get_or, refl, ap, subst}
 use Rattle.std.specs.Global.{Vec}
 use Rattle.pk_match.specs.Stack.{IsStack, lengths_of}
 
@@ -18,3 +18,7 @@ pub stack_on : (ns : List ℕ) (top : ℕ) → IsStack ns → ((k : ℕ) → len
 stack_on [] top is longer = tt
 stack_on (n ∷ []) top is longer = (longer 0 refl, tt)
 stack_on (n ∷ m ∷ ms) top is longer = (is.0, stack_on (m ∷ ms) top is.1 (λ k e. longer (suc k) (ap suc e)))
+
+-- the one at the top is taken off
+pub stack_below : (lists left : List (Vec ℕ)) (top : Vec ℕ) → lists ≡ left ++ top ∷ [] → IsStack (lengths_of lists) → IsStack (lengths_of left)
+stack_below lists left top e is = stack_front (lengths_of left) (length top.items) (subst IsStack (ap lengths_of e ∙ lengths_on left top) is)

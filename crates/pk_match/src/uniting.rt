@@ -13,7 +13,7 @@ use std::alloc::AllocError;
 /// about as often as the stack is high, and that is the logarithm of how many numbers there are;
 /// were each list united with all before it, many short lists would take the square of their
 /// number. What `spare` holds is open.
-pub fn stack_list(
+pub(crate) fn stack_list(
     lists: &mut Vec<Vec<u32>>,
     list: Vec<u32>,
     spare: &mut Vec<u32>,
@@ -22,10 +22,9 @@ pub fn stack_list(
     requires list { IsStrictlyIncreasing list.items }
     ensures numbers { OnOk result (union_of (items_of lists.new.items)
         ≡ union (union_of (items_of lists.old.items)) list.items) }
-    ensures rising { OnOk result (All IsStrictlyIncreasing (items_of lists.new.items)) }
-    // So the stack is no higher than the logarithm.
-    ensures stack { OnOk result (IsStack (lengths_of lists.old.items)
-        → IsStack (lengths_of lists.new.items)) }
+    // Also where memory is refused. So the stack is no higher than the logarithm.
+    ensures rising { All IsStrictlyIncreasing (items_of lists.new.items) }
+    ensures stack { IsStack (lengths_of lists.old.items) → IsStack (lengths_of lists.new.items) }
 {
     let mut top = list;
     'shorter: while let Some(below) = pop_short(lists, top.len()) {
@@ -52,17 +51,23 @@ fn pop_short(lists: &mut Vec<Vec<u32>>, len: usize) -> Option<Vec<u32>>
     None
 }
 
-/// Puts the numbers of all lists of a stack into `out`. What `spare` holds is open.
-pub fn unite_stacked(
+/// Puts the numbers of all lists of a stack to those that are in `out`; the stack is empty then.
+/// What `spare` holds is open.
+pub(crate) fn unite_onto(
     lists: &mut Vec<Vec<u32>>,
     out: &mut Vec<u32>,
     spare: &mut Vec<u32>,
 ) -> Result<(), AllocError>
-    requires { All IsStrictlyIncreasing (items_of lists.old.items) }
-    ensures numbers { OnOk result (out.new.items ≡ union_of (items_of lists.old.items)) }
+    requires lists { All IsStrictlyIncreasing (items_of lists.old.items) }
+    requires out { IsStrictlyIncreasing out.old.items }
+    ensures numbers { OnOk result (out.new.items
+        ≡ union (union_of (items_of lists.old.items)) out.old.items) }
     ensures rising { OnOk result (IsStrictlyIncreasing out.new.items) }
+    ensures none { OnOk result (lists.new.items ≡ []) }
+    // Also where memory is refused.
+    ensures left { All IsStrictlyIncreasing (items_of lists.new.items) }
+    ensures stack { IsStack (lengths_of lists.old.items) → IsStack (lengths_of lists.new.items) }
 {
-    out.clear();
     'lists: while let Some(below) = lists.pop() {
         put_either(out, &below, spare)?;
     }

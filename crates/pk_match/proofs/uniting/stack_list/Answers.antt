@@ -5,7 +5,7 @@ use Rattle.std.specs.List.Sorted.{IsStrictlyIncreasing}
 use Rattle.pk_match.proofs.UnionLemmas.{all_stacked, rest_rise, stacked, taken_off, top_rises}
 use Rattle.pk_match.specs.Stack.{IsStack, lengths_of}
 use Rattle.pk_match.specs.Uniting.{items_of, union_of}
-use Rattle.pk_match.proofs.StackLemmas.{stack_front, lengths_on}
+use Rattle.pk_match.proofs.StackLemmas.{stack_below, lengths_on}
 use Rattle.pk_sets.specs.Sets.{union}
 use Rattle.pk_match.proofs.uniting.stack_list.Goals as goal
 
@@ -23,8 +23,7 @@ shorter-preserved c =
       top = c.in_ok-put_either.ensures.rising;
       same = ap (union (union_of (items_of left))) (c.in_ok-put_either.ensures.numbers ∙ ap (union c.shorter.top.items) c.deref.ensures.value)
           ∙ taken_off lists left c.in-Some.below c.shorter.top.items c.in-Some.ensures.popped before.rising before.top ∙ before.same;
-      stack = λ was. stack_front (lengths_of left) (length c.in-Some.below.items)
-          (subst IsStack (ap lengths_of c.in-Some.ensures.popped ∙ lengths_on left c.in-Some.below) (before.stack was));
+      stack = λ was. stack_below lists left c.in-Some.below c.in-Some.ensures.popped (before.stack was);
     }
 
 pub shorter-smaller : goal.shorter-smaller
@@ -44,3 +43,11 @@ returns-clause-stack c = λ was.
     subst IsStack
     (sym (ap lengths_of (c.in_ok-push.ensures.items ∙ ap (λ (ls : List (Vec ℕ)). ls ++ c.shorter.top ∷ []) c.in_default.ensures.popped) ∙ lengths_on lists c.shorter.top))
     (subst (λ (n : ℕ). IsStack (lengths_of lists ++ n ∷ [])) (c.len.ensures ∙ c.shorter.top.ok.0) (c.in_default.ensures.stack (c.shorter.invariant.stack was)))
+
+pub returns-in_err-put_either-clause-rising : goal.returns-in_err-put_either-clause-rising
+returns-in_err-put_either-clause-rising c =
+    rest_rise c.shorter.lists.items c.pop_short.new.lists.items c.in-Some.below c.in-Some.ensures.popped c.shorter.invariant.rising
+
+pub returns-in_err-put_either-clause-stack : goal.returns-in_err-put_either-clause-stack
+returns-in_err-put_either-clause-stack c = λ was.
+    stack_below c.shorter.lists.items c.pop_short.new.lists.items c.in-Some.below c.in-Some.ensures.popped (c.shorter.invariant.stack was)

@@ -2,23 +2,15 @@
 use Rattle.std.proofs.Common.{◌≡◌, ◌∙◌, ◌∷◌, [], List, ℕ, length, length-append, ap, refl, sym, subst, arith}
 use Rattle.std.specs.Global.{Vec}
 use Rattle.std.specs.List.Sorted.{IsStrictlyIncreasing}
-use Rattle.pk_match.proofs.UnionLemmas.{rest_rise, taken_off, top_rises, union_nil, union_of_rises}
+use Rattle.pk_match.proofs.StackLemmas.{stack_below}
+use Rattle.pk_match.proofs.UnionLemmas.{rest_rise, taken_off, top_rises}
 use Rattle.pk_match.specs.Uniting.{items_of, union_of}
 use Rattle.pk_sets.specs.Sets.{union}
-use Rattle.pk_match.proofs.uniting.unite_stacked.Goals as goal
+use Rattle.pk_match.proofs.uniting.unite_onto.Goals as goal
 
 none_left : (lists : List (Vec ℕ)) → length lists ≡ 0 → lists ≡ []
 none_left [] e = refl
 none_left (v ∷ lists) e = absurd (omega (arith, e))
-
-pub lists-init : goal.lists-init
-lists-init c =
-    let all = union_of (items_of c.args.lists.now.items) in
-    record {
-      rising = c.requires;
-      out = subst IsStrictlyIncreasing (sym c.clear.ensures.items) (λ i l. absurd (omega (arith, l)));
-      same = ap (union all) c.clear.ensures.items ∙ union_nil all (union_of_rises (items_of c.args.lists.now.items) c.requires);
-    }
 
 pub put_either-requires-clause-list : goal.put_either-requires-clause-list
 put_either-requires-clause-list c =
@@ -34,10 +26,19 @@ lists-preserved c =
       out = c.in_ok-put_either.ensures.rising;
       same = ap (union (union_of (items_of left))) (c.in_ok-put_either.ensures.numbers ∙ ap (union c.lists.out.items) c.deref.ensures.value)
           ∙ taken_off lists left c.in-Some.below c.lists.out.items c.in-Some.ensures.items before.rising before.out ∙ before.same;
+      stack = λ was. stack_below lists left c.in-Some.below c.in-Some.ensures.items (before.stack was);
     }
 
 pub lists-smaller : goal.lists-smaller
 lists-smaller c = omega (arith, ap length c.in-Some.ensures.items, length-append c.pop.new.self.items (c.in-Some.below ∷ []))
+
+pub returns-in_err-put_either-clause-left : goal.returns-in_err-put_either-clause-left
+returns-in_err-put_either-clause-left c =
+    rest_rise c.lists.lists.items c.pop.new.self.items c.in-Some.below c.in-Some.ensures.items c.lists.invariant.rising
+
+pub returns-in_err-put_either-clause-stack : goal.returns-in_err-put_either-clause-stack
+returns-in_err-put_either-clause-stack c = λ was.
+    stack_below c.lists.lists.items c.pop.new.self.items c.in-Some.below c.in-Some.ensures.items (c.lists.invariant.stack was)
 
 pub returns-clause-numbers : goal.returns-clause-numbers
 returns-clause-numbers c =
