@@ -1,13 +1,19 @@
 -- Where a cursor stands in a list.
 use Rattle.std.specs.Prelude.{◌≡◌, ◌≤◌, ◌<◌, ◌+◌, ◌-◌, ◌*◌, ℕ, List, length, min, slice_index}
 use Rattle.std.specs.Prelude.{Option, None, Some, Result, Ok, Err, IsOk, IfErr, IfSome}
+use Rattle.std.specs.Prelude.{◌%◌, nat_lt, if◌then◌else◌}
 use Rattle.pk_posting.specs.declared.source.ByteSource.{Ghosts}
 use Rattle.pk_posting.specs.declared.source.SourceFault.{SourceFault}
 use Rattle.pk_posting.specs.Frames.{IsRead}
 use Rattle.pk_posting.specs.Source.{full_count}
+use Rattle.pk_posting.specs.declared.fields.Shape.{Shape}
 use Rattle.pk_posting.specs.Parts.{HasShape}
 use Rattle.pk_cursor.specs.Seeking.{Between, IsFirst}
 use Rattle.pk_cursor.specs.declared.standing.Standing.{Standing}
+
+-- how many numbers a block of a list of such a shape has: the one after the last is the tail
+abbrev pub count_in : Shape → ℕ → ℕ
+count_in shape block = if nat_lt block shape.blocks then 128 else shape.count % 128
 
 -- the bytes spell the list xs, and here is its index n: the numbers that are held are those of its
 -- block, or of the tail

@@ -34,7 +34,7 @@ pub(crate) struct Standing {
 }
 
 impl Standing {
-    ghost use Rattle.pk_cursor.specs.Standing.{CountsDecoded, IsMoved, StandsAt};
+    ghost use Rattle.pk_cursor.specs.Standing.{CountsDecoded, IsMoved, StandsAt, count_in};
 
     // At the start of a list.
     pub(crate) fn open<S: ByteSource>(
@@ -109,6 +109,8 @@ impl Standing {
         ensures shape { self.new.shape ≡ self.old.shape }
         ensures fault { self.new.fault ≡ self.old.fault }
         ensures nothing { IfErr result (λ _. self.new.held ≡ 0) }
+        // Of any bytes.
+        ensures whole { IsOk result → self.new.held ≡ count_in self.old.shape block }
         ensures most { self.new.decoded ≤ self.old.decoded + 1 }
         ensures counted { IsOk result → block < self.old.shape.blocks
             → self.new.decoded ≡ min (self.old.decoded + 1) full_count }
@@ -148,6 +150,8 @@ impl Standing {
         ensures block { self.new.block ≡ block }
         ensures place { self.new.place ≡ self.old.place }
         ensures shape { self.new.shape ≡ self.old.shape }
+        // Of any bytes.
+        ensures whole { IsOk result → self.new.held ≡ count_in self.old.shape block }
         ensures decoded { CountsDecoded result self.old self.new }
         ensures faults { IfErr result (λ e. self.new.fault ≡ Some e) }
         ensures sound { IsOk result → self.new.fault ≡ None }

@@ -65,7 +65,8 @@ fn index_rows(
     requires live { live.now ≡ numbers_of (docs_of documents.now) }
     requires rows { AreRows rows.now (docs_of documents.now) }
     requires room { length live.now ≤ length list.old }
-    ensures { IndexesAs (docs_of documents.now) result }
+    ensures index { IndexesAs (docs_of documents.now) result }
+    ensures most_kept { IfOk result (λ w. w.most_kept ≡ max_segment_bytes) }
 {
     let mut writer = IndexWriter::new(alloc, MAX_SEGMENT_BYTES);
     for row in rows {

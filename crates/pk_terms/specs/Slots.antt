@@ -1,5 +1,9 @@
 -- Slots of a table: of each hash in which ones it is looked for, and which of them are taken.
-use Rattle.std.specs.Prelude.{◌≡◌, ℕ, zero, suc, ◌+◌, ◌-◌, ◌<◌, ◌≤◌, List, length, slice_index, bit_and}
+use Rattle.std.specs.Prelude.{◌≡◌, ℕ, zero, suc, ◌+◌, ◌-◌, ◌*◌, ◌<◌, ◌≤◌, List, length, max, slice_index, bit_and}
+
+-- how many slots come after so many: twice as many, and 2,048 at the least
+abbrev pub size_above : ℕ → ℕ
+size_above count = max (2 * count) 2048
 
 -- the slot of a number among so many
 abbrev pub slot_of : ℕ → ℕ → ℕ

@@ -10,12 +10,12 @@ ghost use Rattle.std.specs.Prelude.{
   [],
   ℕ,
   List,
-  IfSome,
+  MatchOption,
   OnErr,
   OnOk,
   length,
 };
-ghost use Rattle.pk_terms.specs.Slots.{HaveSlots, IsFree, slot_of};
+ghost use Rattle.pk_terms.specs.Slots.{AreTaken, HaveSlots, IsFree, slot_of};
 
 use std::alloc::AllocError;
 
@@ -29,10 +29,13 @@ pub fn slot_of(count: usize, number: usize) -> usize
     number & (count - 1)
 }
 
-/// The first free slot from the first one of the hash on, if there is one.
+/// The first free slot from the first one of the hash on; none where all that are looked through are
+/// taken, as many as there are.
 fn free_slot(slots: &[u32], hash: u32) -> Option<usize>
     requires { 0 < length slots.now }
-    ensures { IfSome result (λ at. IsFree (length slots.now) slots.now hash at) }
+    ensures { MatchOption result
+        (AreTaken (length slots.now) slots.now hash (length slots.now))
+        (λ at. IsFree (length slots.now) slots.now hash at) }
 {
     let mut at = slot_of(slots.len(), hash as usize);
     'slots: for _step in 0..slots.len() {
@@ -52,6 +55,8 @@ pub fn fill_slot(slots: &mut [u32], hash: u32, place: usize) -> Result<(), Alloc
     ensures ok { OnOk result ((hashes : List ℕ) → length hashes ≡ place
         → HaveSlots hashes slots.old → HaveSlots (hashes ++ hash ∷ []) slots.new) }
     ensures err { OnErr result (slots.new ≡ slots.old) }
+    ensures full { OnErr result
+        (AreTaken (length slots.old) slots.old hash (length slots.old)) }
 {
     match free_slot(slots, hash) {
         Some(at) => {

@@ -2,6 +2,7 @@
 
 ghost use Rattle.std.specs.Prelude.{
   ◌≡◌,
+  ◌⊎◌,
   ◌<◌,
   ◌^◌,
   ◌+◌,
@@ -25,7 +26,7 @@ ghost use Rattle.std.specs.Prelude.{
   string_bytes,
 };
 ghost use Rattle.pk_terms.specs.Fingerprints.{fingerprint_of};
-ghost use Rattle.pk_terms.specs.Slots.{HaveSlots};
+ghost use Rattle.pk_terms.specs.Slots.{HaveSlots, size_above};
 ghost use Rattle.pk_terms.specs.Table.{AreApart, IsPart, IsTable, hashes_of, words_in};
 
 use crate::fingerprints::{SHORT_BYTES, fingerprint, hash_of};
@@ -135,10 +136,19 @@ impl Terms {
     pub fn clear(&mut self)
         ensures { self.new ≡ [] }
     {
-        self.text.clear();
-        self.entries.clear();
-        free_all(&mut self.slots);
+        forget_all(&mut self.text, &mut self.entries, &mut self.slots);
     }
+}
+
+/// Takes out the bytes of all words, also of those that were refused, and what is known of them.
+fn forget_all(text: &mut String, entries: &mut Vec<Entry>, slots: &mut [u32])
+    ensures text { string_bytes text.new ≡ [] }
+    ensures entries { entries.new.items ≡ [] }
+    ensures free { HaveSlots [] slots.new }
+{
+    text.clear();
+    entries.clear();
+    free_all(slots);
 }
 
 /// The place of the word, if it is there.
@@ -198,18 +208,27 @@ fn word_of<'a>(entries: &[Entry], text: &'a str, place: usize) -> &'a str
     &text[entry.start as usize..entry.end as usize]
 }
 
+/// How many slots there are next: twice as many, so always a power of two.
+fn size_above(count: usize) -> usize
+    requires { count < 2 ^ 63 }
+    ensures { result ≡ size_above count }
+{
+    (2 * count).max(FEWEST_SLOTS)
+}
+
 /// Makes room for one more entry, where half the slots are taken, by twice as many slots.
 fn make_room(alloc: Global, entries: &[Entry], slots: &mut Vec<u32>) -> Result<(), AllocError>
     requires few { length entries.now < 2 ^ 32 }
     requires slots { HaveSlots (hashes_of entries.now) slots.old.items }
     ensures slots { HaveSlots (hashes_of entries.now) slots.new.items }
     ensures some { OnOk result (0 < length slots.new.items) }
+    ensures size { length slots.new.items ≡ length slots.old.items
+        ⊎ (length slots.new.items ≡ size_above (length slots.old.items)) }
 {
     if entries.len() < slots.len() / 2 {
         return Ok(());
     }
-    let count = slots.len().saturating_mul(2).max(FEWEST_SLOTS);
-    let mut new_slots = vec![in alloc; 0u32; count]?;
+    let mut new_slots = vec![in alloc; 0u32; size_above(slots.len())]?;
     fill_all(entries, &mut new_slots)?;
     *slots = new_slots;
     Ok(())

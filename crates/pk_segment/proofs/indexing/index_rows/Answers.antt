@@ -40,10 +40,11 @@ loop-row-preserved c =
           (c.in_ok-add.ensures.words docs xs ys terms numbers c.loop-row.invariant.words);
       entries = c.in_ok-add.ensures.entries;
       room = omega (arith, c.both_into-count.auto.out, c.loop-row.invariant.room);
+      most_kept = c.in_ok-add.ensures.most_kept ∙ c.loop-row.invariant.most_kept;
     }
 
-pub returns : goal.returns
-returns c =
+pub returns-clause-index : goal.returns-clause-index
+returns-clause-index c =
     let docs = docs_of c.args.documents.now in
     let all = ap words_in (take_all c.loop-row.row-index c.args.rows.now (omega (arith, c.loop-row-test.false))) ∙ one_terms _ docs c.requires.rows.terms in
     subst (λ (ws : List (List ℕ)). HasWords c.loop-row.writer ws docs) all c.loop-row.invariant.words
@@ -53,10 +54,11 @@ loop-row-init c = record {
   words = c.new-writer.ensures.words (docs_of c.args.documents.now);
   entries = c.new-writer.ensures.entries;
   room = refl;
+  most_kept = c.new-writer.ensures.most_kept;
 }
 
-pub returns-in_err-add : goal.returns-in_err-add
-returns-in_err-add c =
+pub returns-in_err-add-clause-index : goal.returns-in_err-add-clause-index
+returns-in_err-add-clause-index c =
     let docs = docs_of c.args.documents.now in
     let rows = c.args.rows.now in
     let i = c.loop-row.row-index in

@@ -43,10 +43,10 @@ header-requires-clause-front c =
 pub returns : goal.returns
 returns c =
     let docs = docs_of c.args.documents.now in
-    let headed = c.in_ok-header.ensures.header docs c.in_ok-index.ensures (sym (length-map c.args.documents.now doc_of)) c.in_ok-front.ensures.size.0 in
+    let headed = c.in_ok-header.ensures.header docs c.in_ok-index.ensures.index (sym (length-map c.args.documents.now doc_of)) c.in_ok-front.ensures.size.0 in
     record {
       are = are_documents c.args.documents.now c.requires.some c.requires.rising c.requires.least (c.in_ok-live.ensures.small refl);
       header_is = headed.0;
-      words = c.in_ok-index.ensures;
+      words = c.in_ok-index.ensures.index;
       fits = headed.1;
     }
