@@ -21,10 +21,12 @@ pub struct FindTables {
 impl FindTables {
     ghost use Rattle.std.specs.Prelude.{◌≡◌, []};
     ghost use Rattle.pk_search.specs.Filtered.{filters_of};
+    ghost use Rattle.pk_search.specs.Rooms.{IsSmall};
 
     /// No table and no filter yet. Their memory is taken as segments are searched.
     pub fn new(alloc: Global) -> FindTables
-        ensures { filters_of result ≡ [] }
+        ensures filters { filters_of result ≡ [] }
+        ensures room { IsSmall result.room }
     {
         FindTables {
             pivots: PivotTables::new(),

@@ -10,5 +10,5 @@ invariant_of-result g c = (
   c.requires.ready,
   c.requires.cached,
   c.requires.room,
-  filtered_none g.D.Disk (volume_of c.args.disk (view c.args.manifest) c.args.opened.items c.args.spare (blocks_of c.args.cache)) c.new-tables.result c.new-tables.ensures,
+  filtered_none g.D.Disk (volume_of c.args.disk (view c.args.manifest) c.args.opened.items c.args.spare (blocks_of c.args.cache)) c.new-tables.result c.new-tables.ensures.filters,
 )
