@@ -1,6 +1,6 @@
 //! Filters of the words of segments, kept from find to find.
-ghost use Rattle.std.specs.Prelude.{◌≡◌, ◌≤◌, ◌<◌, [], List};
-ghost use Rattle.std.specs.Prelude.{IfErr, IfOk, IfSome, IsTrue, length, vec_len};
+ghost use Rattle.std.specs.Prelude.{◌≡◌, ◌+◌, ◌-◌, ◌^◌, ◌≤◌, ◌<◌, [], List};
+ghost use Rattle.std.specs.Prelude.{IfErr, IfOk, IfSome, IsTrue, MatchResult, length, min, vec_len};
 ghost use Rattle.pk_filter.specs.Filter.{HasAll};
 ghost use Rattle.pk_model.specs.Collection.{Doc};
 ghost use Rattle.pk_posting.specs.Frames.{ReadsSource};
@@ -45,6 +45,20 @@ pub(crate) struct SegmentFilter {
     pub(crate) filter: Option<WordFilter>,
 }
 
+impl SegmentFilter {
+    ghost use Rattle.pk_search.specs.FilterBytes.{bytes_of};
+
+    // How many bytes its filter takes.
+    fn bytes(&self) -> usize
+        ensures { result ≡ bytes_of self.now.filter }
+    {
+        match &self.filter {
+            Some(filter) => filter.bytes(),
+            None => 0,
+        }
+    }
+}
+
 /// Filters of the words of segments (pk_filter). A segment gets one once enough finds looked into
 /// it, as long as all filters together keep their limit.
 ///
@@ -62,11 +76,13 @@ pub(crate) struct SegmentFilters {
 }
 
 impl SegmentFilters {
+    ghost use Rattle.pk_search.specs.FilterBytes.{KeepsLimit, bytes_in, bytes_of};
     ghost use Rattle.pk_search.specs.Filtered.{AddsFilterOf, AddsNoFilter, KeepsFilter};
 
     /// Of no segment.
     pub(crate) fn new(alloc: Global) -> SegmentFilters
-        ensures { result.kept.items ≡ [] }
+        ensures none { result.kept.items ≡ [] }
+        ensures limit { KeepsLimit result }
     {
         SegmentFilters {
             kept: Vec::new(alloc),
@@ -78,7 +94,8 @@ impl SegmentFilters {
     /// Begins a find: puts what is kept of the open segments at their places, and drops what is kept
     /// of others.
     pub(crate) fn settle(&mut self, opened: &[OpenSegment])
-        ensures { AddsNoFilter self.old.kept.items self.new.kept.items }
+        ensures adds { AddsNoFilter self.old.kept.items self.new.kept.items }
+        ensures limit { KeepsLimit self.old → KeepsLimit self.new }
     {
         self.read = 0;
         for place in 0..opened.len() {
@@ -95,7 +112,8 @@ impl SegmentFilters {
     // there.
     #[inline]
     fn settle_at(&mut self, place: usize, segment: u64)
-        ensures { AddsNoFilter self.old.kept.items self.new.kept.items }
+        ensures adds { AddsNoFilter self.old.kept.items self.new.kept.items }
+        ensures limit { KeepsLimit self.old → KeepsLimit self.new }
     {
         if self.is_at(place, segment) || self.kept.len() < place {
             return;
@@ -121,6 +139,7 @@ impl SegmentFilters {
         ensures adds { AddsNoFilter self.old.kept.items self.new.kept.items }
         ensures within { IfSome result
             (λ at. (from ≤ at) × (at < vec_len self.new.kept)) }
+        ensures limit { KeepsLimit self.old → KeepsLimit self.new }
     {
         let end = self.kept.len();
         for at in from..end {
@@ -139,13 +158,13 @@ impl SegmentFilters {
         Some(end)
     }
 
-    // How many bytes the filters take.
-    fn total(&self) -> usize {
+    // How many bytes the filters take; at 2^64 - 1 it stays.
+    fn total(&self) -> usize
+        ensures { result ≡ min (bytes_in self.now.kept.items) (2 ^ 64 - 1) }
+    {
         let mut bytes: usize = 0;
         for kept in &self.kept {
-            if let Some(filter) = &kept.filter {
-                bytes = bytes.saturating_add(filter.bytes());
-            }
+            bytes = bytes.saturating_add(kept.bytes());
         }
         bytes
     }
@@ -161,6 +180,7 @@ impl SegmentFilters {
     ) -> Result<(), ReadFault>
         ensures adds { AddsFilterOf S.honest (S.content source.old) opened.now self.old.kept.items
             self.new.kept.items }
+        ensures limit { KeepsLimit self.old → KeepsLimit self.new }
         ensures fault { IfErr result (λ e. e ≡ ReadFault.Disk) }
         ensures left { ReadsSource S.ByteSource CountsReads result source.old source.new }
     {
@@ -188,8 +208,8 @@ impl SegmentFilters {
         looks >= FEWEST_LOOKS.max(bytes / BYTES_A_LOOK) && self.read < MOST_READ_AT_ONCE
     }
 
-    // The filter of the words of a dictionary that lies there: none where it would be too long, the
-    // dictionary is damaged, or memory is wanting.
+    // The filter of the words of a dictionary that lies there, which is counted: none where it would
+    // be too long, the dictionary is damaged, or memory is wanting.
     #[cold]
     fn filter_of<S: ByteSource>(
         &mut self,
@@ -201,6 +221,10 @@ impl SegmentFilters {
             → lies ≡ dictionary_place docs
             → IfOk result (λ made. IfSome made (HasAll (items_of docs))) }
         ensures kept { self.new.kept ≡ self.old.kept }
+        ensures bytes { MatchResult result
+            (λ made. self.new.bytes ≡ self.old.bytes + bytes_of made)
+            (λ _. self.new.bytes ≡ self.old.bytes) }
+        ensures within { self.old.bytes ≤ MOST_FILTER_BYTES → self.new.bytes ≤ MOST_FILTER_BYTES }
         ensures fault { IfErr result (λ e. e ≡ ReadFault.Disk) }
         ensures left { ReadsSource S.ByteSource CountsReads result source.old source.new }
     {

@@ -20,12 +20,14 @@ pub struct FindTables {
 
 impl FindTables {
     ghost use Rattle.std.specs.Prelude.{◌≡◌, []};
+    ghost use Rattle.pk_search.specs.FilterBytes.{KeepsLimit};
     ghost use Rattle.pk_search.specs.Filtered.{filters_of};
     ghost use Rattle.pk_search.specs.Rooms.{IsSmall};
 
     /// No table and no filter yet. Their memory is taken as segments are searched.
     pub fn new(alloc: Global) -> FindTables
         ensures filters { filters_of result ≡ [] }
+        ensures limit { KeepsLimit result.filters }
         ensures room { IsSmall result.room }
     {
         FindTables {

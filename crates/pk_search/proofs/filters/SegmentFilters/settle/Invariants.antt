@@ -1,6 +1,10 @@
--- Nothing is kept that has a filter and was not kept before.
+-- Nothing is kept that has a filter and was not kept before, and the limit is kept.
+use Rattle.pk_search.specs.FilterBytes.{KeepsLimit}
 use Rattle.pk_search.specs.Filtered.{AddsNoFilter}
 use Rattle.pk_search.proofs.filters.SegmentFilters.settle.Given as goal
 
 abbrev pub invariant-loop-place : goal.invariant-loop-place
-invariant-loop-place l = AddsNoFilter l.fn.self.kept.items l.self.kept.items
+invariant-loop-place l = record {
+  adds : AddsNoFilter l.fn.self.kept.items l.self.kept.items;
+  limit : KeepsLimit l.fn.self → KeepsLimit l.self;
+}
