@@ -1,5 +1,6 @@
 -- The lemma pages.
 pub mod CallerLemmas
 pub mod GapLemmas
+mod JoinLemmas
 pub mod PlaceLemmas
 pub mod Placing

@@ -1,8 +1,8 @@
 //! Runs of free units, and the first that fits.
-ghost use Rattle.std.specs.Prelude.{◌≡◌, ◌≤◌, true, IfOk};
-ghost use Rattle.std.specs.List.{list_all};
+ghost use Rattle.std.specs.Prelude.{◌≡◌, ◌≤◌, ℕ, true, IfOk};
+ghost use Rattle.std.specs.List.{list_all, list_any};
 ghost use Rattle.pk_disk.specs.Units.{first_unit, lies_within};
-ghost use Rattle.pk_space.specs.Free.{IsPlace};
+ghost use Rattle.pk_space.specs.Free.{IsPlace, has_unit};
 ghost use Rattle.pk_space.specs.Runs.{are_spaced, gaps, is_in_run};
 
 use pk_disk::{Extent, FIRST_UNIT};
@@ -24,6 +24,33 @@ pub struct Full {
     pub need: u32,
     /// The units of the longest free run.
     pub largest: u32,
+}
+
+/// The same units, in fewer extents: one that begins where the one before ends goes with it. Of segments
+/// that were written one behind the other few are left to be sorted.
+pub fn joined(alloc: Global, extents: &[Extent]) -> Result<Vec<Extent>, AllocError>
+    requires { list_all (lies_within 4294967295) extents.now ≡ true }
+    ensures within { IfOk result (λ v. (units : ℕ)
+        → list_all (lies_within units) extents.now ≡ true
+        → list_all (lies_within units) v.items ≡ true) }
+    ensures units { IfOk result (λ v. (u : ℕ)
+        → list_any (has_unit u) v.items ≡ list_any (has_unit u) extents.now) }
+{
+    let mut joined = Vec::new(alloc);
+    let Some((first, rest)) = extents.split_first() else {
+        return Ok(joined);
+    };
+    let mut last = *first;
+    for e in rest {
+        if last.first + last.units == e.first {
+            last.units += e.units;
+        } else {
+            joined.push(last)?;
+            last = *e;
+        }
+    }
+    joined.push(last)?;
+    Ok(joined)
 }
 
 /// The runs between extents that rise by their first units, up to `units`.

@@ -2,7 +2,7 @@
 ghost use Rattle.std.specs.Prelude.{◌≡◌, true};
 ghost use Rattle.pk_space.specs.Runs.{are_spaced};
 
-use crate::runs::{Full, Run, runs_between, take_first};
+use crate::runs::{Full, Run, joined, runs_between, take_first};
 use pk_disk::Extent;
 use std::alloc::{AllocError, Global};
 
@@ -27,7 +27,7 @@ impl Space {
         requires { list_all (lies_within units) extents.now ≡ true }
         ensures { IfOk result (λ space. (u : ℕ) → is_free space u ≡ free_at units extents.now u) }
     {
-        let mut sorted = Vec::from_slice(alloc, extents)?;
+        let mut sorted = joined(alloc, extents)?;
         sorted.sort_by_key(|e| e.first)?;
         let runs = runs_between(alloc, &sorted, units)?;
         Ok(Space { runs })
