@@ -452,6 +452,9 @@ class CallsOfAReader(WithAStore, NotedTest):
         wanted = 0, b"\n".join(self.REPLIES) + b"\n", b""
         came_to, notes = self.noted("read", "s", lines=self.LINES, MOST=1000)
         self.assertEqual(came_to, wanted)
+        self.assertEqual(self.noted("read", "s", lines=self.LINES, MOST=100)[0], wanted)
+        # Eight bytes of a generation are of one moment: seven of them are none.
+        self.assertEqual(self.noted("read", "s", lines=self.LINES, MOST=7)[0], DISK)
         for number, call in enumerate(self.counted(notes), 1):
             if call.startswith("read"):
                 came_to, _ = self.noted("read", "s", lines=self.LINES, FAIL_CALL=number,

@@ -1,6 +1,6 @@
 //! A file in memory that changes once.
 
-ghost use Rattle.std.specs.Prelude.{◌≡◌, ◌≤◌, true, false, length, take, drop, if◌then◌else◌};
+ghost use Rattle.std.specs.Prelude.{◌≡◌, ◌≤◌, ◌<◌, ◌+◌, true, false, length, take, drop, if◌then◌else◌};
 ghost use Rattle.pk_changingfile.specs.Going.{MayGo};
 
 use pk_filedisk::CallFault;
@@ -44,6 +44,9 @@ impl ChangingFile {
         ensures after { self.new.after ≡ self.old.after }
         ensures marked { self.new.marked_after ≡ self.old.marked_after }
         ensures stays { self.old.has_changed ≡ true → self.new.has_changed ≡ true }
+        ensures due { self.old.left ≡ 0 → self.new.has_changed ≡ true }
+        ensures early { 0 < self.old.left → (self.new.left + 1 ≡ self.old.left)
+            × (self.new.has_changed ≡ self.old.has_changed) }
     {
         if self.left == 0 {
             self.has_changed = true;

@@ -1,6 +1,6 @@
 //! A file in memory that goes through contents that were recorded.
 
-ghost use Rattle.std.specs.Prelude.{◌≡◌, []};
+ghost use Rattle.std.specs.Prelude.{◌≡◌, ◌<◌, ◌+◌, ◌-◌, ℕ, [], false, length, min, true};
 
 use pk_filedisk::CallFault;
 use pk_snapshot::{HeldFile, SharedFile};
@@ -55,7 +55,15 @@ impl<'a> RecordedFile<'a> {
     }
 
     // A call was made.
-    fn pass(&mut self) {
+    fn pass(&mut self)
+        ensures last { (count : ℕ) → self.old.course ≡ Course.By count → self.old.is_held ≡ false
+            → self.old.left ≡ 0 → self.new.place
+            ≡ min (self.old.place + count) (length self.old.contents.now - 1) }
+        ensures other { (place : ℕ) → self.old.course ≡ Course.To place
+            → self.old.is_held ≡ false → self.old.left ≡ 0 → self.new.place ≡ place }
+        ensures early { 0 < self.old.left → self.new.place ≡ self.old.place }
+        ensures held { self.old.is_held ≡ true → self.new.place ≡ self.old.place }
+    {
         self.calls = self.calls.saturating_add(1);
         if self.is_held {
             return;

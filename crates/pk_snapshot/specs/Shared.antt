@@ -53,6 +53,12 @@ pub record SawShut (old new : List ℕ) (half : Half) : Type 0 where
   pub until : Evolves moment new
   pub shut : has_open_gate moment half ≡ false
 
+-- Another generation than this was seen: its gate read as shut, or behind it is another one.
+abbrev pub SawOther : List ℕ → List ℕ → Half → ℕ → Type 0
+SawOther old new half generation =
+    SawShut old new half
+    ⊎ ((seen : ℕ) × (seen ≡ generation → ⊥) × Confirms old new half seen)
+
 -- A half that is no newer was seen: its gate was shut, or behind it no greater generation.
 pub record SawNoGreater (old new : List ℕ) (half : Half) (generation : ℕ) : Type 0 where
   pub seen : ℕ

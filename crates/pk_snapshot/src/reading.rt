@@ -1,9 +1,9 @@
 //! Reads of a file that changes meanwhile: whole ranges, and a gate with the generation behind it.
 
-ghost use Rattle.std.specs.Prelude.{◌≡◌, ◌<◌, ◌≤◌, ◌+◌, ◌%◌, ◌^◌, length, IfNone, IfOk, IfSome, IsTrue, OnOk};
+ghost use Rattle.std.specs.Prelude.{◌≡◌, ◌<◌, ◌≤◌, ◌+◌, ◌%◌, ◌^◌, false, length, IfNone, IfOk, IfSome, IsTrue, OnOk};
 ghost use Rattle.pk_manifest.specs.Evolves.{Evolves};
 ghost use Rattle.pk_snapshot.specs.Seen.{SawStamp};
-ghost use Rattle.pk_snapshot.specs.Shared.{AreSeen, Confirms, SawShut, SeenAtOnce};
+ghost use Rattle.pk_snapshot.specs.Shared.{AreSeen, Confirms, SawOther, SawShut, SeenAtOnce};
 
 use crate::shared::SharedFile;
 use pk_disk::DiskFault;
@@ -88,6 +88,8 @@ pub fn stamp_behind<F: SharedFile>(file: &mut F, half: Half) -> Result<Option<u6
 pub fn is_still<F: SharedFile>(file: &mut F, half: Half, generation: u64) -> Result<bool, DiskFault>
     ensures given { F.honest → IfOk result (λ is. IsTrue is
         → Confirms (F.content file.old) (F.content file.new) half generation) }
+    ensures other { F.honest → IfOk result (λ is. is ≡ false
+        → SawOther (F.content file.old) (F.content file.new) half generation) }
     ensures evolves { F.honest → Evolves (F.content file.old) (F.content file.new) }
     ensures marked { F.honest → F.marked file.new ≡ F.marked file.old }
 {
