@@ -9,12 +9,14 @@ ghost use Rattle.std.specs.Prelude.{
   List,
   length,
   All,
+  IfOk,
   IfSome,
   IsErrOf,
   IsUtf8,
   MatchResult,
   OnOk,
   Some,
+  string_bytes,
   slice_index,
   true,
 };
@@ -27,10 +29,12 @@ ghost use Rattle.pk_posting.specs.Frames.{ReadsSource};
 ghost use Rattle.pk_search.specs.Hits.{IsNext, IsSearchIn, IsTextFor, KeepsHits};
 ghost use Rattle.pk_search.specs.Lent.{LiesAs};
 ghost use Rattle.pk_search.specs.Matching.{PutsAs};
+ghost use Rattle.pk_search.specs.Said.{DirectoryRead, HasText, HaveTexts, LiesSaid, SearchRead};
 ghost use Rattle.pk_search.specs.Spans.{IsSpanOf};
 ghost use Rattle.pk_segment.specs.Directory.{IsDirectoryOf};
-ghost use Rattle.pk_segment.specs.Opened.{IsSegmentOf};
+ghost use Rattle.pk_segment.specs.Opened.{IsSegmentOf, count_of};
 ghost use Rattle.pk_segment.specs.Reading.{CountsReads, IsNoDamage, TextAs, text_of};
+ghost use Rattle.pk_segment.specs.Texts.{TextSaid};
 ghost use Rattle.pk_segment.specs.Spelling.{SegmentSpells};
 ghost use Rattle.pk_sets.specs.Sets.{has, intersection};
 ghost use Rattle.pk_words.specs.Rows.{texts};
@@ -104,6 +108,11 @@ pub(crate) fn keep_in_row<S: ByteSource>(
         → IsSegmentOf segment.now docs → (o : Operation) → numbers.old.items ≡ found o docs
         → PutsAs (found (Both o (InRow (texts row.now.words.now))) docs) numbers.new.items result }
     ensures rising { OnOk result (IsStrictlyIncreasing numbers.new.items) }
+
+    // Of any bytes: no number is passed over.
+    ensures read { S.honest → OnOk result (HaveTexts (S.content source.old) segment.now
+        numbers.old.items 0 (length numbers.old.items)) }
+
     ensures left { ReadsSource S.ByteSource CountsReads result source.old source.new }
 {
     let kept = those_in_row(alloc, source, segment, row, numbers)?;
@@ -127,6 +136,8 @@ fn those_in_row<S: ByteSource>(
         → IsSegmentOf segment.now docs → All (λ n. has (numbers_of docs) n ≡ true) numbers.now
         → MatchResult result (λ kept. kept.items
         ≡ intersection numbers.now (answer (Phrase (texts row.now.words.now)) docs)) IsNoDamage }
+    ensures read { S.honest → OnOk result (HaveTexts (S.content source.old) segment.now
+        numbers.now 0 (length numbers.now)) }
     ensures left { ReadsSource S.ByteSource CountsReads result source.old source.new }
 {
     let table = row_table(alloc, row.words)?;
@@ -167,6 +178,9 @@ fn found_in_row<S: ByteSource>(
         → IsSearchIn (S.content source.old) docs search.now
         → MatchResult result (λ kept. kept.items ≡ intersection search.now.numbers.now
         (answer (Phrase (texts search.now.row.now.words.now)) docs)) IsNoDamage }
+    ensures read { S.honest → SearchRead (S.content source.old) search.now
+        → OnOk result (HaveTexts (S.content source.old) search.now.segment.now
+        search.now.numbers.now 0 (length search.now.numbers.now)) }
     ensures left { ReadsSource S.ByteSource CountsReads result source.old source.new }
 {
     let mut hits = RowHits {
@@ -192,6 +206,7 @@ fn directory_for<S: ByteSource>(
         → IsSegmentOf segment.now docs
         → MatchResult result (λ directory. IfSome directory (λ d. IsDirectoryOf d docs 2))
         IsNoDamage }
+    ensures read { S.honest → IfOk result (DirectoryRead (S.content source.old) segment.now) }
     ensures left { ReadsSource S.ByteSource CountsReads result source.old source.new }
 {
     if numbers < segment.count() as usize / ENTRIES_PER_NUMBER {
@@ -238,6 +253,9 @@ fn text_at<S: ByteSource>(
         → IsSegmentOf search.now.segment.now docs
         → IfSome search.now.directory.now (λ d. IsDirectoryOf d docs 2)
         → TextAs docs candidate.number result }
+    ensures said { S.honest → SearchRead (S.content source.old) search.now
+        → IfOk result (λ found. IfSome found (λ text. TextSaid (S.content source.old)
+        search.now.segment.now candidate.number (string_bytes text))) }
     ensures left { ReadsSource S.ByteSource CountsReads result source.old source.new }
 {
     let Candidate { number, at } = candidate;
@@ -252,8 +270,7 @@ fn text_at<S: ByteSource>(
 
 // Where a text of a segment begins, by its offset among the texts.
 fn text_start(segment: &Segment, offset: u32) -> u64
-    ensures { (docs : List Doc) → IsSegmentOf segment.now docs
-        → result ≡ 24 + 12 * length docs + offset }
+    ensures { result ≡ 24 + 12 * count_of segment.now + offset }
 {
     24 + 12 * u64::from(segment.count()) + u64::from(offset)
 }
@@ -266,6 +283,8 @@ fn lent_place(search: &RowSearch, candidate: Candidate) -> Option<(u32, u32)>
         → IsSegmentOf search.now.segment.now docs
         → IfSome search.now.directory.now (λ d. IsDirectoryOf d docs 2)
         → IfSome result (LiesAs bytes docs candidate.number) }
+    ensures said { (bytes : List ℕ) → SearchRead bytes search.now
+        → IfSome result (LiesSaid bytes search.now.segment.now candidate.number) }
 {
     let Candidate { number, at } = candidate;
     let Some(directory) = search.directory else {
@@ -349,6 +368,8 @@ fn note_alone<S: ByteSource>(
     ensures kept { S.honest → (docs : List Doc)
         → IsSearchIn (S.content source.old) docs search.now → KeepsHits docs search.now hits.old
         → MatchResult result (λ _. KeepsHits docs search.now hits.new) IsNoDamage }
+    ensures read { S.honest → SearchRead (S.content source.old) search.now
+        → OnOk result (HasText (S.content source.old) search.now.segment.now candidate.number) }
     ensures next { OnOk result (hits.new.next ≡ hits.old.next + 1) }
     ensures left { ReadsSource S.ByteSource CountsReads result source.old source.new }
 {
@@ -362,9 +383,12 @@ fn note_alone<S: ByteSource>(
 
 // The text of the candidate's document, where it lies in the span.
 fn text_within<'a>(search: &RowSearch, span: &'a Span, candidate: Candidate) -> Option<&'a [u8]>
-    ensures { (bytes : List ℕ) (docs : List Doc) → IsSearchIn bytes docs search.now
+    ensures text { (bytes : List ℕ) (docs : List Doc) → IsSearchIn bytes docs search.now
         → IsSpanOf bytes span.now
         → IfSome result (λ text. IsTextFor docs candidate.number text.now) }
+    ensures said { (bytes : List ℕ) → SearchRead bytes search.now → IsSpanOf bytes span.now
+        → IfSome result (λ text. IsUtf8 text.now
+        → TextSaid bytes search.now.segment.now candidate.number text.now) }
 {
     let Some((start, len)) = lent_place(search, candidate) else {
         return None;
@@ -377,6 +401,9 @@ fn note_within(search: &RowSearch, hits: &mut RowHits, span: &Span) -> Result<()
     ensures kept { (bytes : List ℕ) (docs : List Doc) → IsSearchIn bytes docs search.now
         → IsSpanOf bytes span.now → KeepsHits docs search.now hits.old
         → MatchResult result (λ _. KeepsHits docs search.now hits.new) IsNoDamage }
+    ensures read { (bytes : List ℕ) → SearchRead bytes search.now → IsSpanOf bytes span.now
+        → OnOk result (HaveTexts bytes search.now.segment.now search.now.numbers.now
+        hits.old.next hits.new.next) }
     ensures next { OnOk result (hits.old.next ≤ hits.new.next) }
     ensures no_disk { IsErrOf result ReadFault.Disk → ⊥ }
 {
@@ -422,6 +449,10 @@ fn note_near<S: ByteSource>(
         → LiesAs (S.content source.old) docs candidate.number place
         → KeepsHits docs search.now hits.old
         → MatchResult result (λ _. KeepsHits docs search.now hits.new) IsNoDamage }
+    ensures read { S.honest → SearchRead (S.content source.old) search.now
+        → LiesSaid (S.content source.old) search.now.segment.now candidate.number place
+        → OnOk result (HaveTexts (S.content source.old) search.now.segment.now
+        search.now.numbers.now hits.old.next hits.new.next) }
     ensures next { OnOk result (hits.old.next < hits.new.next) }
     ensures left { ReadsSource S.ByteSource CountsReads result source.old source.new }
 {
@@ -443,6 +474,9 @@ fn note_next<S: ByteSource>(
     ensures kept { S.honest → (docs : List Doc)
         → IsSearchIn (S.content source.old) docs search.now → KeepsHits docs search.now hits.old
         → MatchResult result (λ _. KeepsHits docs search.now hits.new) IsNoDamage }
+    ensures read { S.honest → SearchRead (S.content source.old) search.now
+        → OnOk result (HaveTexts (S.content source.old) search.now.segment.now
+        search.now.numbers.now hits.old.next hits.new.next) }
     ensures next { OnOk result (hits.old.next < hits.new.next) }
     ensures left { ReadsSource S.ByteSource CountsReads result source.old source.new }
 {

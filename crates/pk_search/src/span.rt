@@ -14,6 +14,7 @@ impl<'a> Span<'a> {
     pub(crate) fn part(&self, start: u32, len: u32) -> Option<&[u8]>
         ensures value { (bytes : List ℕ) → IsSpanOf bytes self.now
             → IfSome result (λ part. part.now ≡ take len (drop start bytes)) }
+        ensures long { IfSome result (λ part. length part.now ≡ len) }
         ensures some { self.now.start ≤ start
             → start + len ≤ self.now.start + length self.now.bytes.now → IsSome result }
     {

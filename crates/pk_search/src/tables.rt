@@ -31,7 +31,7 @@ impl FindTables {
         ensures room { IsSmall result.room }
     {
         FindTables {
-            pivots: PivotTables::new(),
+            pivots: PivotTables::new(alloc),
             filters: SegmentFilters::new(alloc),
             room: Room::new(alloc),
         }

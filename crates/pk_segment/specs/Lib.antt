@@ -12,3 +12,4 @@ pub mod Planning
 pub mod Reading
 pub mod Said
 pub mod Spelling
+pub mod Texts

@@ -4,6 +4,7 @@ use Rattle.pk_model.specs.Collection.{Doc}
 use Rattle.pk_posting.specs.Frames.{ReadsSource}
 use Rattle.pk_segment.specs.Reading.{CountsReads}
 use Rattle.pk_search.specs.Hits.{IsSearchIn, KeepsHits}
+use Rattle.pk_search.specs.Said.{HaveTexts, SearchRead}
 use Rattle.pk_search.proofs.in_row.found_in_row.Given as goal
 
 abbrev pub invariant-numbers : goal.invariant-numbers
@@ -13,6 +14,8 @@ invariant-numbers g l =
       left : ReadsSource g.S.ByteSource CountsReads (Ok (tt {0})) l.fn.source l.source;
       kept : g.S.ByteSource.honest → (docs : List Doc) → IsSearchIn (content l.fn.source) docs l.search
           → KeepsHits docs l.search l.hits;
+      read : g.S.ByteSource.honest → SearchRead (content l.fn.source) l.search
+          → HaveTexts (content l.fn.source) l.search.segment.now l.search.numbers.now 0 l.hits.next;
     }
 
 abbrev pub decreases-numbers : goal.decreases-numbers

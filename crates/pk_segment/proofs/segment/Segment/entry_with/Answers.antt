@@ -1,5 +1,5 @@
 -- The halving keeps what it knows of both sides.
-use Rattle.std.proofs.Common.{subst, arith, rules, List, ℕ, ◌+◌, ◌<◌, ◌-◌, ◌/◌, length}
+use Rattle.std.proofs.Common.{sym, subst, arith, rules, List, ℕ, ◌+◌, ◌<◌, ◌-◌, ◌/◌, length}
 use Rattle.pk_segment.specs.Fields.{IsEntry, entry_field}
 use Rattle.pk_segment.proofs.DirectoryLemmas.{says}
 use Rattle.pk_segment.proofs.ReadLemmas.{below_middle, above_middle, none_between, halved}
@@ -12,6 +12,12 @@ returns-then-entry-number-clause-found g c = λ honest docs kind is of.
     let lt : middle < length docs = omega (arith, of.count_is, c.loop-low.invariant.within, c.loop-low-test.true) in
     let at = subst (λ (x : List ℕ). IsEntry (entry_field x middle) c.in_ok-entry.entry) (c.loop-low.invariant.left.same honest) (c.in_ok-entry.ensures.value honest) in
     (middle, lt, c.if-entry-number.true, says (content c.args.source.now) docs kind middle c.in_ok-entry.entry is lt at)
+
+pub returns-then-entry-number-clause-said : goal.returns-then-entry-number-clause-said
+returns-then-entry-number-clause-said g c = λ honest.
+    let middle = c.loop-low.low + (c.loop-low.high - c.loop-low.low) / 2 in
+    let at = subst (λ (x : List ℕ). IsEntry (entry_field x middle) c.in_ok-entry.entry) (c.loop-low.invariant.left.same honest) (c.in_ok-entry.ensures.value honest) in
+    (middle, omega (arith, c.loop-low.invariant.within, c.loop-low-test.true), sym c.if-entry-number.true, at)
 
 pub loop-low-preserved-then-entry-number-2 : goal.loop-low-preserved-then-entry-number-2
 loop-low-preserved-then-entry-number-2 g c =
