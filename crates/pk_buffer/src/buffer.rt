@@ -83,16 +83,30 @@ fn doc_numbers(alloc: Global, numbers: &[u32]) -> Result<Vec<DocNo>, AllocError>
     Ok(found)
 }
 
+/// Takes each word out of an index of no document: words of documents that are gone stand in it.
+fn forget_words_of_none(documents: &[Document], index: &mut Index)
+    ensures keeps { Keeps index.old (map doc_of documents.now)
+        → Keeps index.new (map doc_of documents.now) }
+    ensures empty { map doc_of documents.now ≡ [] → index.new ≡ [] }
+{
+    if documents.is_empty() {
+        index.clear();
+    }
+}
+
 impl Buffer {
     /// A buffer without a document. Its later calls take their memory from `alloc`.
     pub fn new(alloc: Global) -> Self
         ensures { result ≡ [] }
     {
+        // A new index is one of no document, and a cleared one has no word besides.
+        let mut index = Index::new(alloc);
+        index.clear();
         Buffer {
             alloc,
             documents: Vec::new(alloc),
             numbers: Vec::new(alloc),
-            index: Index::new(alloc),
+            index,
             bytes: 0,
         }
     }
@@ -107,18 +121,19 @@ impl Buffer {
     {
         let copy = String::from_str(self.alloc, text)?;
         let len = copy.len();
-        self.index.add(self.alloc, number.0, text)?;
         self.numbers.push(number.0)?;
-        match self.documents.push(Document { number, text: copy }) {
-            Ok(()) => {
-                self.bytes += len as u128;
-                Ok(())
-            }
-            Err(failed) => {
-                let _ = self.numbers.pop();
-                Err(failed.into())
-            }
+        if let Err(failed) = self.documents.push(Document { number, text: copy }) {
+            let _ = self.numbers.pop();
+            return Err(failed.into());
         }
+        if let Err(refused) = self.index.add(self.alloc, number.0, text) {
+            let _ = self.numbers.pop();
+            let _ = self.documents.pop();
+            forget_words_of_none(&self.documents, &mut self.index);
+            return Err(refused);
+        }
+        self.bytes += len as u128;
+        Ok(())
     }
 
     /// The index of the document of this number, by halving.
@@ -140,6 +155,7 @@ impl Buffer {
             Some(index) => {
                 let document = self.documents.remove(index);
                 let _ = self.numbers.remove(index);
+                forget_words_of_none(&self.documents, &mut self.index);
                 self.bytes -= document.text.len() as u128;
                 true
             }
@@ -193,9 +209,11 @@ impl Buffer {
         &self.documents
     }
 
-    /// The index of the documents' words. Numbers of others may stand in it.
+    /// The index of the documents' words. Numbers of others may stand in it, but not of a buffer
+    /// without a document.
     pub fn index(&self) -> &Index
         ensures keeps { Keeps result.now self.now }
+        ensures empty { self.now ≡ [] → result.now ≡ [] }
         ensures rising { IsStrictlyIncreasing (numbers_of self.now) }
     {
         &self.index

@@ -1,6 +1,6 @@
 -- What is read of a file that changes once.
-use Rattle.std.proofs.Common.{◌≡◌, ℕ, Bool, true, List, length, get_or, take, drop, sym, ◌∙◌, ap, subst, arith}
-use Rattle.std.proofs.lemmas.List.{get_or-drop, get_or-take, take_all}
+use Rattle.std.proofs.Common.{◌≡◌, ◌≤◌, ℕ, Bool, true, List, length, get_or, take, drop, sym, ◌∙◌, ap, subst}
+use Rattle.std.proofs.lemmas.List.{get_or-drop, get_or-take, length-take-le}
 use Rattle.pk_manifest.specs.Evolves.{Evolves}
 use Rattle.pk_snapshot.specs.Shared.{AreSeen, SeenAtOnce}
 use Rattle.pk_manifest.proofs.Evolving.{evolves_here}
@@ -18,10 +18,10 @@ seen_here old new out at n goes are i lt = record {
   is = sym (get_or-take n out i 0 lt) ∙ ap (λ (l : List ℕ). get_or l i 0) are ∙ get_or-take n (drop at old) i 0 lt ∙ get_or-drop at old i 0;
 }
 
-pub once_here : (old new out : List ℕ) (at n : ℕ) → Evolves old new → n ≡ length out → take n out ≡ take n (drop at old) → SeenAtOnce old new at out
+pub once_here : (old new out : List ℕ) (at n : ℕ) → Evolves old new → n ≤ length out → take n out ≡ take n (drop at old) → SeenAtOnce old new at (take n out)
 once_here old new out at n goes long are = record {
   moment = old;
   since = evolves_here old;
   until = goes;
-  are = sym (take_all n out (omega (arith, long))) ∙ are ∙ ap (λ (k : ℕ). take k (drop at old)) long;
+  are = are ∙ ap (λ (k : ℕ). take k (drop at old)) (sym (length-take-le n out long));
 }

@@ -2,6 +2,8 @@
 
 ghost use Rattle.std.specs.Prelude.{◌≡◌, ◌≤◌, ◌<◌, ◌+◌, true, false, length, take, drop, if◌then◌else◌};
 ghost use Rattle.pk_changingfile.specs.Going.{MayGo};
+ghost use Rattle.pk_filedisk.specs.Raw.{refusals_to_move};
+ghost use Rattle.pk_snapshot.specs.Counted.{count_after};
 
 use pk_filedisk::CallFault;
 use pk_snapshot::{HeldFile, SharedFile};
@@ -16,8 +18,21 @@ pub struct ChangingFile {
     has_changed: bool,
     // Whether the bytes were marked since.
     marked_after: bool,
+    // How many reads failed: those past the end.
+    failed: u64,
     ghost goes: { MayGo before.items after.items },
     ghost order: { marked_after ≡ true → has_changed ≡ true },
+}
+
+// How many failures a read adds: one where it gave none of the bytes that were asked for.
+fn failures_of(asked: usize, given: usize) -> u64
+    ensures { result ≡ refusals_to_move asked given }
+{
+    match (asked, given) {
+        (0, _) => 0,
+        (_, 0) => 1,
+        _ => 0,
+    }
 }
 
 impl ChangingFile {
@@ -35,19 +50,22 @@ impl ChangingFile {
             left,
             has_changed: false,
             marked_after: false,
+            failed: 0,
         }
     }
 
-    // A call was made.
-    fn pass(&mut self)
+    // A read was made, which adds so many failures.
+    fn pass(&mut self, failures: u64)
         ensures before { self.new.before ≡ self.old.before }
         ensures after { self.new.after ≡ self.old.after }
         ensures marked { self.new.marked_after ≡ self.old.marked_after }
+        ensures failed { self.new.failed ≡ count_after self.old.failed failures }
         ensures stays { self.old.has_changed ≡ true → self.new.has_changed ≡ true }
         ensures due { self.old.left ≡ 0 → self.new.has_changed ≡ true }
         ensures early { 0 < self.old.left → (self.new.left + 1 ≡ self.old.left)
             × (self.new.has_changed ≡ self.old.has_changed) }
     {
+        self.failed = self.failed.saturating_add(failures);
         if self.left == 0 {
             self.has_changed = true;
         } else {
@@ -92,30 +110,31 @@ impl SharedFile for ChangingFile {
 
     ghost marked = { λ f. content_of f.marked_after f.before.items f.after.items };
 
+    ghost failed = { λ f. f.failed };
+
+    ghost interrupted = { λ _. 0 };
+
     ghost honest = { Unit {0} };
 
     fn mark(&mut self) {
         self.marked_after = self.has_changed;
     }
 
-    fn len(&self) -> Result<u64, CallFault> {
+    fn len(&mut self) -> Result<u64, CallFault> {
         Ok(self.bytes().len() as u64)
     }
 
     fn read_at(&mut self, at: u64, out: &mut [u8]) -> Result<usize, CallFault> {
         let n = self.copy(at, out);
-        self.pass();
+        self.pass(failures_of(out.len(), n));
         Ok(n)
     }
 
-    fn read_at_once(&mut self, at: u64, out: &mut [u8]) -> Result<(), CallFault> {
+    fn read_at_once(&mut self, at: u64, out: &mut [u8]) -> Result<usize, CallFault> {
         let n = self.copy(at, out);
-        self.pass();
-        if n == out.len() {
-            Ok(())
-        } else {
-            Err(CallFault::Failed)
-        }
+        let is_short = n < out.len();
+        self.pass(u64::from(is_short));
+        Ok(n)
     }
 
     ghost marked_before = { λ f honest. marked_evolves f.marked_after f.has_changed f.before.items f.after.items f.goes f.order };

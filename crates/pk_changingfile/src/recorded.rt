@@ -105,11 +105,15 @@ impl<'a> SharedFile for RecordedFile<'a> {
 
     ghost marked = { λ _. [] };
 
+    ghost failed = { λ _. 0 };
+
+    ghost interrupted = { λ _. 0 };
+
     ghost honest = { ⊥ };
 
     fn mark(&mut self) {}
 
-    fn len(&self) -> Result<u64, CallFault> {
+    fn len(&mut self) -> Result<u64, CallFault> {
         Ok(self.bytes().len() as u64)
     }
 
@@ -121,12 +125,8 @@ impl<'a> SharedFile for RecordedFile<'a> {
         Ok(n)
     }
 
-    fn read_at_once(&mut self, at: u64, out: &mut [u8]) -> Result<(), CallFault> {
-        if self.read_at(at, out)? == out.len() {
-            Ok(())
-        } else {
-            Err(CallFault::Failed)
-        }
+    fn read_at_once(&mut self, at: u64, out: &mut [u8]) -> Result<usize, CallFault> {
+        self.read_at(at, out)
     }
 
     ghost marked_before = { λ file honest. absurd honest };

@@ -1,5 +1,4 @@
--- Lemmas of the program: its command line, and what it tells.
-mod CommandLineFacts
-mod CommandLineLemmas
+-- Lemmas of the program: its sessions, and what it tells.
+mod RefusalLemmas
 mod ReportLemmas
 mod SessionLemmas

@@ -1,14 +1,14 @@
 -- What a command line came to, over any disk and any file.
 use Rattle.std.specs.Prelude.{◌≡◌, ◌⊎◌, ℕ, List, Option}
-use Rattle.clap.specs.Words.{Text}
+use Rattle.pk_arguments.specs.CommandLine.{WordsAsk}
+use Rattle.pk_arguments.specs.Sizes.{HasSize}
+use Rattle.pk_arguments.specs.declared.asked.Asked.{Asked}
+use Rattle.pk_arguments.specs.declared.asked.Asked.TheVariants.{Check, Create, Grow, Read, Run}
 use Rattle.pk_disk.specs.declared.disk.Disk.{Ghosts}
 use Rattle.pk_filedisk.specs.declared.raw.RawFile as raw
-use Rattle.pk_command.specs.CommandLine.{WordsAsk}
 use Rattle.pk_command.specs.Endings.{FileCheckOutcome, FileCreationOutcome, FileGrowthOutcome}
-use Rattle.pk_command.specs.Endings.{FileSessionOutcome, HasSize, NoCommandOutcome}
+use Rattle.pk_command.specs.Endings.{FileSessionOutcome, NoCommandOutcome}
 use Rattle.pk_command.specs.Reading.{ReadOutcome}
-use Rattle.pk_command.specs.declared.command_line.Asked.{Asked}
-use Rattle.pk_command.specs.declared.command_line.Asked.TheVariants.{Check, Create, Grow, Read, Run}
 use Rattle.pk_command.specs.declared.left.Left.{Left}
 use Rattle.pk_command.specs.declared.left.Left.TheVariants.{Nothing}
 use Rattle.pk_shell.specs.Asked.{Asked as Line}
@@ -36,7 +36,7 @@ CarriedOut c s d f shown below file_of may_hold Replies Begins (Check path) r r'
 -- file is in hand.
 abbrev pub CommandOutcome : {C S D F T : Type 0} → Ghosts C → Ghosts S → Ghosts D → raw.Ghosts F
     → (S → C) → (D → C) → (C → F) → (List ℕ → List ℕ → Type 0)
-    → (T → Line → List ℕ → T → Type 0) → (List ℕ → T → Type 0) → List Text → Option (List ℕ)
+    → (T → Line → List ℕ → T → Type 0) → (List ℕ → T → Type 0) → List (List ℕ) → Option (List ℕ)
     → Option (List ℕ) → Option (List ℕ) → Option (List ℕ) → Option (List ℕ) → Option (List ℕ) → ℕ
     → Left F C → Type 0
 CommandOutcome c s d f shown below file_of may_hold Replies Begins words r r' w w' e e' status left =

@@ -1,10 +1,10 @@
 -- What a command came to, by its status, over any disk.
-use Rattle.std.specs.Prelude.{◌≡◌, ◌≢◌, ◌≤◌, ◌*◌, ◌⊎◌, ℕ, List, [], ◌++◌, length, codes, decimal}
+use Rattle.std.specs.Prelude.{◌≡◌, ◌≤◌, ◌*◌, ◌⊎◌, ℕ, List, [], ◌++◌, length, codes, decimal}
 use Rattle.std.specs.Prelude.{IsTrue, Option, Result, Ok, Err, replicate}
 use Rattle.std.specs.Io.KnownBytes.{Appends}
-use Rattle.clap.specs.Words.{Text}
-use Rattle.clap.specs.declared.error.kind.ErrorKind.{ErrorKind}
-use Rattle.clap.specs.declared.error.kind.ErrorKind.TheVariants.{OutOfMemory}
+use Rattle.pk_arguments.specs.CommandLine.{AreRefused, WordsAskHelp}
+use Rattle.pk_arguments.specs.declared.unasked.Unasked.{Unasked}
+use Rattle.pk_arguments.specs.declared.unasked.Unasked.TheVariants as unasked
 use Rattle.pk_disk.specs.Disk.{Rose, nowhere}
 use Rattle.pk_disk.specs.Frames.{KeepsDisk}
 use Rattle.pk_disk.specs.Sizes.{least_units, most_units}
@@ -13,13 +13,10 @@ use Rattle.pk_filedisk.specs.File.{IsDiskLength, IsOfMake, IsOfOpening}
 use Rattle.pk_filedisk.specs.Found.{IsFound, IsLeftByMaking, IsLeftByOpening, IsNewAt}
 use Rattle.pk_filedisk.specs.declared.fault.FileFault.{FileFault}
 use Rattle.pk_filedisk.specs.declared.raw.RawFile as raw
-use Rattle.pk_command.specs.CommandLine.{AreRefused, IsHelp, WordsAskHelp}
 use Rattle.pk_command.specs.Growing.{growing_words, growth_line}
 use Rattle.pk_command.specs.Left.{left_of}
 use Rattle.pk_command.specs.Reasons.{checking_words, creating_words, file_words, memory_words}
 use Rattle.pk_command.specs.Reasons.{disk_words, opening_words, output_words, session_words}
-use Rattle.pk_command.specs.declared.command_line.Asked.{Asked}
-use Rattle.pk_command.specs.declared.command_line.Asked.TheVariants.{Check, Create, Grow, Read, Run}
 use Rattle.pk_command.specs.declared.left.Left.{Left}
 use Rattle.pk_command.specs.declared.left.Left.TheVariants as in_hand
 use Rattle.pk_check.specs.Holding.{HoldsNone}
@@ -57,18 +54,6 @@ failed = 1
 
 abbrev pub refused : ℕ
 refused = 2
-
--- as many units as a store may have
-abbrev pub IsOfSize : ℕ → Type 0
-IsOfSize units = (least_units ≤ units) × (units ≤ most_units)
-
--- a store to be made has such a size
-abbrev pub HasSize : Asked → Type 0
-HasSize (Create path units) = IsOfSize units
-HasSize (Grow path units) = IsOfSize units
-HasSize (Run path) = Unit {0}
-HasSize (Read path) = Unit {0}
-HasSize (Check path) = Unit {0}
 
 -- the era of a store that was opened on the disk, or made on it, and closed after these calls
 abbrev pub era_of : {D : Type 0} → (D → Work D → Era D) → D → StoreView D → List (Call D) → Era D
@@ -372,18 +357,18 @@ abbrev pub HelpOutcome : Option (List ℕ) → Option (List ℕ) → ℕ → Typ
 HelpOutcome e e' status =
     ((status ≡ done) × (e' ≡ e)) ⊎ ((status ≡ failed) × IsTold e e' output_words)
 
--- A command line that the argument parser refused, by the kind of its error: want of memory and a
--- fault write nothing to the output.
-abbrev pub RefusalOutcome : ErrorKind → Option (List ℕ) → Option (List ℕ) → Option (List ℕ)
+-- A command line that asks for no command, by why: want of memory and a fault write nothing to the
+-- output.
+abbrev pub RefusalOutcome : Unasked → Option (List ℕ) → Option (List ℕ) → Option (List ℕ)
     → Option (List ℕ) → ℕ → Type 0
-RefusalOutcome kind w w' e e' status =
-    ((kind ≡ OutOfMemory) × (status ≡ failed) × IsTold e e' memory_words × (w' ≡ w))
-    ⊎ ((kind ≢ OutOfMemory) × ((IsHelp kind × HelpOutcome e e' status)
-    ⊎ ((IsHelp kind → ⊥) × (status ≡ refused) × (w' ≡ w))))
+RefusalOutcome (unasked.Help error) w w' e e' status = HelpOutcome e e' status
+RefusalOutcome (unasked.Refused error) w w' e e' status = (status ≡ refused) × (w' ≡ w)
+RefusalOutcome unasked.Memory w w' e e' status =
+    (status ≡ failed) × IsTold e e' memory_words × (w' ≡ w)
 
 -- A command line of which no command was carried out: help was told or could not be, it was refused,
 -- or memory was. Nothing was read.
-abbrev pub NoCommandOutcome : List Text → Option (List ℕ) → Option (List ℕ) → Option (List ℕ)
+abbrev pub NoCommandOutcome : List (List ℕ) → Option (List ℕ) → Option (List ℕ) → Option (List ℕ)
     → Option (List ℕ) → Option (List ℕ) → Option (List ℕ) → ℕ → Type 0
 NoCommandOutcome words r r' w w' e e' status =
     (WordsAskHelp words × (r' ≡ r) × HelpOutcome e e' status)

@@ -1,7 +1,8 @@
 //! A new store.
 
 ghost use Rattle.std.specs.Prelude.{◌≡◌, ◌+◌};
-ghost use Rattle.pk_command.specs.Endings.{CreationOutcome, FileCreationOutcome, IsOfSize};
+ghost use Rattle.pk_arguments.specs.Sizes.{IsOfSize};
+ghost use Rattle.pk_command.specs.Endings.{CreationOutcome, FileCreationOutcome};
 ghost use Rattle.pk_command.specs.Left.{files_in_hand};
 
 use crate::left::{Left, left_of};

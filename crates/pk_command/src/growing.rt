@@ -1,7 +1,8 @@
 //! A store that grows.
 
 ghost use Rattle.std.specs.Prelude.{◌≡◌, ◌≤◌, ◌+◌};
-ghost use Rattle.pk_command.specs.Endings.{FileGrowthOutcome, GrowthOutcome, IsOfSize};
+ghost use Rattle.pk_arguments.specs.Sizes.{IsOfSize};
+ghost use Rattle.pk_command.specs.Endings.{FileGrowthOutcome, GrowthOutcome};
 ghost use Rattle.pk_command.specs.Left.{files_in_hand};
 ghost use Rattle.pk_disk.specs.Disk.{nowhere};
 ghost use Rattle.pk_disk.specs.Sizes.{least_units};

@@ -39,7 +39,6 @@
 #![tactic(auto)]
 
 mod checking;
-mod command_line;
 mod creating;
 mod growing;
 mod left;
@@ -56,10 +55,10 @@ ghost use Rattle.pk_command.specs.Reading.{IsBegun};
 ghost use Rattle.pk_reader.specs.Held.{file_bytes};
 
 use checking::check;
-use command_line::{Asked, asked_by, program};
 use creating::create;
 use growing::grow;
 pub use left::Left;
+use pk_arguments::{Asked, asked_by_words};
 use pk_disk::Disk;
 use pk_filedisk::{FileDisk, FileSystem, RawFile};
 use pk_pages::PageCache;
@@ -68,8 +67,8 @@ use pk_shell::Engine;
 use pk_snapshot::HeldFile;
 use pk_within::Shortened;
 use reading::read;
+use reporting::refuse;
 pub use reporting::refuse_words;
-use reporting::{MEMORY, fail, refuse};
 use running::run;
 use std::alloc::Global;
 use std::io::{Read, Write};
@@ -103,22 +102,15 @@ where
     // No file is opened but the one in hand.
     ensures opened { F.honest → S.opened rt.new ≡ S.opened rt.old + files_in_hand result.1 }
 {
-    let Ok(program) = program(alloc) else {
-        return (fail(faults, MEMORY), Left::Nothing);
-    };
-    let matches = match program.try_get_matches_from(words) {
-        Ok(matches) => matches,
-        Err(error) => return (refuse(output, faults, &error), Left::Nothing),
-    };
-    match asked_by(&matches) {
-        Some(Asked::Create { path, units }) => create(rt, alloc, path, units, output, faults),
-        Some(Asked::Grow { path, units }) => grow(rt, alloc, path, units, output, faults),
-        Some(Asked::Run { path }) => run(rt, alloc, path, input, output, faults),
-        Some(Asked::Read { path }) => {
+    match asked_by_words(alloc, words) {
+        Ok(Asked::Create { path, units }) => create(rt, alloc, path, units, output, faults),
+        Ok(Asked::Grow { path, units }) => grow(rt, alloc, path, units, output, faults),
+        Ok(Asked::Run { path }) => run(rt, alloc, path, input, output, faults),
+        Ok(Asked::Read { path }) => {
             let status = read(rt, alloc, path, input, output, faults);
             (status, Left::Nothing)
         }
-        Some(Asked::Check { path }) => check(rt, alloc, path, output, faults),
-        None => (fail(faults, MEMORY), Left::Nothing),
+        Ok(Asked::Check { path }) => check(rt, alloc, path, output, faults),
+        Err(unasked) => (refuse(output, faults, &unasked), Left::Nothing),
     }
 }

@@ -1,15 +1,13 @@
 //! Statuses, and the lines on standard error.
 
 ghost use Rattle.std.specs.Prelude.{◌≡◌};
-ghost use Rattle.clap.specs.Words.{kind_of};
 ghost use Rattle.pk_command.specs.Endings.{IsTold, RefusalOutcome};
 ghost use Rattle.pk_command.specs.Reasons.{checking_words, creating_words, file_words};
 ghost use Rattle.pk_command.specs.Growing.{growing_words};
 ghost use Rattle.pk_command.specs.Reasons.{opening_words, session_words};
 ghost use Rattle.pk_command.specs.Unread.{UnreadOutcome};
 
-use clap::Error;
-use clap::error::ErrorKind;
+use pk_arguments::Unasked;
 use pk_filedisk::FileFault;
 use pk_grow::GrowFault;
 use pk_manifest::ManifestFault;
@@ -69,20 +67,20 @@ pub fn refuse_words<E: Write>(kind: io::ErrorKind, faults: &mut E) -> u8
 }
 
 /// Tells why the command line was refused, or the help that was asked for.
-pub fn refuse<W: Write, E: Write>(output: &mut W, faults: &mut E, error: &Error) -> u8
-    ensures { RefusalOutcome (kind_of error.now) (W.contents output.old) (W.contents output.new)
+pub fn refuse<W: Write, E: Write>(output: &mut W, faults: &mut E, unasked: &Unasked) -> u8
+    ensures { RefusalOutcome unasked.now (W.contents output.old) (W.contents output.new)
         (E.contents faults.old) (E.contents faults.new) result }
 {
-    if error.kind() == ErrorKind::OutOfMemory {
-        return fail(faults, MEMORY);
-    }
-    if error.use_stderr() {
-        let _ = write!(faults, "{error}");
-        return REFUSED;
-    }
-    match write!(output, "{error}") {
-        Ok(()) => DONE,
-        Err(_) => fail(faults, OUTPUT),
+    match unasked {
+        Unasked::Help(text) => match write!(output, "{text}") {
+            Ok(()) => DONE,
+            Err(_) => fail(faults, OUTPUT),
+        },
+        Unasked::Refused(text) => {
+            let _ = write!(faults, "{text}");
+            REFUSED
+        }
+        Unasked::Memory => fail(faults, MEMORY),
     }
 }
 

@@ -1,12 +1,10 @@
 -- What first terms of groups say of a search, for any bytes.
-use Rattle.std.proofs.Common.{arith, refl, sym, subst, ◌∙◌, ◌≡◌, ◌≤◌, ◌<◌, ◌+◌, ◌-◌, ◌*◌, ℕ, zero, suc, List, length, Ok, Err, Option, Result, inl, inr}
-use Rattle.std.specs.Prelude.{IfOk, IsOk}
-use Rattle.std.proofs.lemmas.Bool.{cases_lt, le-ltb, lt-ltb}
+use Rattle.std.proofs.Common.{arith, refl, sym, subst, ◌∙◌, ◌≡◌, ◌≤◌, ◌<◌, ◌+◌, ◌-◌, ◌*◌, ℕ, zero, suc, List, Ok, Err, Option, Result, inl, inr}
+use Rattle.std.specs.Prelude.{IfOk}
+use Rattle.std.proofs.lemmas.Bool.{cases_lt, lt-ltb}
 use Rattle.pk_keys.specs.declared.pivots.Bounds.{Bounds}
 use Rattle.pk_keys.specs.Keys.{decided, pivot_at}
 use Rattle.pk_posting.specs.declared.source.SourceFault.{SourceFault}
-use Rattle.pk_posting.specs.declared.source.SourceFault.TheVariants as faults
-use Rattle.pk_dict.specs.declared.entry.DictPlace.{DictPlace}
 use Rattle.pk_dict.specs.declared.entry.Entry.{Entry}
 use Rattle.pk_dict.specs.declared.head.Between.{Between}
 use Rattle.pk_dict.specs.declared.head.Search.{Search}
@@ -15,8 +13,7 @@ use Rattle.pk_dict.specs.declared.head.Standing.{Standing}
 use Rattle.pk_dict.specs.declared.head.Step.{Step}
 use Rattle.pk_dict.specs.declared.head.Step.TheVariants.{Less, Found, Past}
 use Rattle.pk_dict.specs.Dictionary.{group_count}
-use Rattle.pk_dict.specs.LookUp.{AreTold, IsSaid, IsToldAt, halved, look_up_at, look_up_of, narrow_at, scanned, standing_at}
-use Rattle.pk_dict.specs.Place.{bytes_at}
+use Rattle.pk_dict.specs.LookUp.{AreTold, IsSaid, IsToldAt, halved, narrow_at, scanned, standing_at}
 use Rattle.pk_dict.specs.Reading.{◌>>=◌, Gives, group_at}
 use Rattle.pk_dict.proofs.Narrowing.{middle_of, narrow_by, narrow_done}
 
@@ -28,11 +25,6 @@ told_none bytes terms term groups matched next e = record { under = λ h. absurd
 abbrev Tells : ℕ → List ℕ → ℕ → List ℕ → Type 0
 Tells n bytes terms term =
     (low high matched next : ℕ) (s : Standing) → AreTold bytes terms term low high matched next → low ≤ high → high ≤ group_count terms → high - low ≤ n → narrow_at n bytes (4 * group_count terms) term low high matched next ≡ Ok s → IsToldAt bytes terms term s
-
-gives_itself : (r : Result Standing SourceFault) → Gives r r
-gives_itself (Ok s) = refl
-gives_itself (Err faults.Damaged) = refl
-gives_itself (Err faults.Disk) = tt
 
 same_standing : (x y : Standing) (r : Result Standing SourceFault) → r ≡ Ok x → r ≡ Ok y → x ≡ y
 same_standing x y r a b = cc
@@ -76,23 +68,13 @@ pub answer_said : (bytes : List ℕ) (terms : ℕ) (term : List ℕ) (s : Standi
 answer_said bytes terms term s (Ok x) t is = record { standing = s; told = t; said = is }
 answer_said bytes terms term s (Err e) t is = tt
 
-said_at : (bytes : List ℕ) (terms : ℕ) (term : List ℕ) (stood : Result Standing SourceFault) (x : Option Entry) → IfOk stood (IsToldAt bytes terms term) → (stood >>= scanned bytes terms term) ≡ Ok x → IsSaid bytes terms term x
-said_at bytes terms term (Ok s) x t is = record { standing = s; told = t; said = is }
-said_at bytes terms term (Err e) x t is = absurd cc
-
-all_told : (bytes : List ℕ) (terms : ℕ) (term : List ℕ) → IfOk (standing_at bytes terms term) (IsToldAt bytes terms term)
-all_told bytes terms term =
+-- where the search among all groups ends is told
+pub all_told : (bytes : List ℕ) (terms : ℕ) (term : List ℕ) (r : Result Standing SourceFault) → Gives r (standing_at bytes terms term) → IfOk r (IsToldAt bytes terms term)
+all_told bytes terms term r gives =
     let n : ℕ = group_count terms in
     let whole : n ≡ n - 0 = omega arith in
-    stands_told bytes terms term 0 n 0 0 (standing_at bytes terms term) (told_none bytes terms term n 0 0 refl) (omega arith) (omega arith)
-    (subst (λ (k : ℕ). Gives (standing_at bytes terms term) (narrow_at k bytes (4 * n) term 0 n 0 0)) whole (gives_itself (standing_at bytes terms term)))
-
--- a look-up's answer is said
-pub look_up_said : (content : List ℕ) (place : DictPlace) (term : List ℕ) (r : Result (Option Entry) SourceFault) → (IsOk r → place.at + place.bytes ≤ length content) → Gives r (look_up_of content place term) → IfOk r (IsSaid (bytes_at content place) place.terms term)
-unfolding look_up_of look_up_at
-look_up_said content place term (Ok x) inside is =
-    said_at (bytes_at content place) place.terms term _ x (all_told (bytes_at content place) place.terms term) (rw (le-ltb (length content) (place.at + place.bytes) (inside refl)) at is)
-look_up_said content place term (Err e) inside is = tt
+    stands_told bytes terms term 0 n 0 0 r (told_none bytes terms term n 0 0 refl) (omega arith) (omega arith)
+    (subst (λ (k : ℕ). Gives r (narrow_at k bytes (4 * n) term 0 n 0 0)) whole gives)
 
 -- where the key in the middle of all words is not known, all of them are left
 pub all_left : (words : ℕ) (pivots : List ℕ) (key : ℕ) (b : Bounds) → b ≡ decided words pivots key 0 words 1 → pivot_at pivots 1 ≡ 0 → (b.low ≡ 0) × (b.high ≡ words)

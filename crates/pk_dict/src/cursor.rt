@@ -190,7 +190,15 @@ impl TermCursor {
 
     /// Goes to the first word that is not less than another, forward or back, and says whether
     /// there is one; if not, all words are passed. After a fault it answers that fault.
-    pub fn seek<S: ByteSource>(&mut self, source: &mut S, word: &[u8]) -> Result<bool, ReadFault>
+    ///
+    /// `pivots` is a table for this dictionary as `look_up_near` takes it, or empty: no number in it
+    /// is believed.
+    pub fn seek<S: ByteSource>(
+        &mut self,
+        source: &mut S,
+        pivots: &mut [u64],
+        word: &[u8],
+    ) -> Result<bool, ReadFault>
         requires lies { LiesIn self.old.place (length (S.content source.old)) }
         ensures at { S.honest → (es : List Item) (n : ℕ)
             → StandsAt (bytes_at (S.content source.old) self.old.place) self.old es n
@@ -217,12 +225,12 @@ impl TermCursor {
             → OnOk result ((k m : ℕ) → group_count self.old.place.terms ≤ 2 ^ k
             → AllByRecursion (λ (e : Item). asks_for (length e.term) ≤ m) es
             → S.asked source.new ≤ S.asked source.old
-            + (k + 1) * (6 + asks_for (length word.now)) + 1 + 17 * (6 + m)) }
+            + (k + 3) * (6 + asks_for (length word.now)) + 1 + 17 * (6 + m)) }
     {
         if let Some(fault) = self.fault {
             return Err(fault);
         }
-        match self.find(source, word) {
+        match self.find(source, pivots, word) {
             Ok(more) => Ok(more),
             Err(fault) => {
                 self.fault = Some(fault);
@@ -232,7 +240,12 @@ impl TermCursor {
     }
 
     // Goes to the first word that is not less than another.
-    fn find<S: ByteSource>(&mut self, source: &mut S, word: &[u8]) -> Result<bool, ReadFault>
+    fn find<S: ByteSource>(
+        &mut self,
+        source: &mut S,
+        pivots: &mut [u64],
+        word: &[u8],
+    ) -> Result<bool, ReadFault>
         requires lies { LiesIn self.old.place (length (S.content source.old)) }
         ensures at { S.honest → (es : List Item) (n : ℕ)
             → Comes (bytes_at (S.content source.old) self.old.place) self.old es n
@@ -251,12 +264,12 @@ impl TermCursor {
             → OnOk result ((k m : ℕ) → group_count self.old.place.terms ≤ 2 ^ k
             → AllByRecursion (λ (e : Item). asks_for (length e.term) ≤ m) es
             → S.asked source.new ≤ S.asked source.old
-            + (k + 1) * (6 + asks_for (length word.now)) + 1 + 17 * (6 + m)) }
+            + (k + 3) * (6 + asks_for (length word.now)) + 1 + 17 * (6 + m)) }
     {
         if self.place.terms == 0 {
             return Ok(false);
         }
-        let start = first_start(source, self.place, word)?;
+        let start = first_start(source, self.place, pivots, word)?;
         self.begin(start);
         while self.read < self.place.terms {
             self.advance(source)?;

@@ -24,12 +24,14 @@
 //! a dictionary of one list at most, and a list has one spelling ([`laws`]).
 //!
 //! - [`DictWriter`] takes the terms one by one and gives the bytes.
-//! - [`Dict`] reads a dictionary in memory; [`look_up_in`] and [`entries_in`] read one that lies
-//!   in a source, by short stretches. Both go by the same steps: a slice is a source that lends
-//!   itself.
+//! - [`look_up_near`] looks a term up in one that lies in a source, by short stretches, from the
+//!   range on that a table of pivots tells. [`look_up_in`] does so without a table, [`entries_in`]
+//!   gives the terms that begin with a prefix, and [`Dict`] asks both of bytes in memory, by the same
+//!   steps: a slice is a source that lends itself. Crates above call none of these three but in tests.
 //! - [`TermCursor`] goes through the words of one that lies in a source, each with its entry, and
 //!   [`PrefixCursor`] through those that begin with a prefix. Each holds one word and as many bytes
-//!   as its caller lets it read ahead, and is handed the source at each call.
+//!   as its caller lets it read ahead, is handed the source at each call, and seeks by a table of
+//!   pivots of pk_keys, as [`look_up_near`] looks a term up.
 //! - [`Windows`] are a source over a source with two buffers, one for the offsets and one for the
 //!   groups. They read 128 bytes at once, so few of the stretches of a look-up reach what lies
 //!   below.

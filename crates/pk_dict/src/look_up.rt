@@ -100,9 +100,6 @@ pub fn look_up_near<S: ByteSource>(
     ensures most { S.asked source.new
         ≤ S.asked source.old + 44 * (6 + asks_for (length term.now)) }
 {
-    if groups_of(place.terms) > MOST_GROUPS {
-        return look_up_in(source, place, term);
-    }
     if u64::from(source.len()) < u64::from(place.at) + u64::from(place.bytes) {
         return Err(SourceFault::Damaged);
     }
@@ -265,11 +262,12 @@ fn probe<S: ByteSource>(
     }
 }
 
-// Where a term stands among the first terms of the groups: the groups at both ends of the range in
-// which the table has it are read first, the lesser one last, since a scan goes on behind its first
-// term, where a window still has what follows. Before the first group there is none: the number
-// that stands for it is past all groups.
-fn stand_near<S: ByteSource>(
+// Where a term stands among the first terms of the groups, by the table where the dictionary is one
+// of which keys are kept: the groups at both ends of the range in which the table has it are read
+// first, the lesser one last, since a scan goes on behind its first term, where a window still has
+// what follows. Before the first group there is none: the number that stands for it is past all
+// groups.
+pub(crate) fn stand_near<S: ByteSource>(
     source: &mut S,
     place: DictPlace,
     pivots: &mut [u64],
@@ -288,8 +286,13 @@ fn stand_near<S: ByteSource>(
     ensures left { ReadsSource S.ByteSource CountsFaults result source.old source.new }
     ensures asks { (k : ℕ) → group_count place.terms ≤ 2 ^ k → S.asked source.new
         ≤ S.asked source.old + (k + 3) * (6 + asks_for (length term.now)) }
+    ensures most { S.asked source.new
+        ≤ S.asked source.old + 29 * (6 + asks_for (length term.now)) }
 {
     let groups = groups_of(place.terms);
+    if groups > MOST_GROUPS {
+        return narrow(source, place, term);
+    }
     let bounds = around(pivots, groups, key(term));
     let search = Search::Open(Between {
         low: 0,

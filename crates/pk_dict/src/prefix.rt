@@ -56,8 +56,12 @@ impl<'a> PrefixCursor<'a> {
     }
 
     /// The entry of the next word that begins with the prefix; None where there is none. After a
-    /// fault it answers that fault.
-    pub fn next<S: ByteSource>(&mut self, source: &mut S) -> Result<Option<Entry>, ReadFault>
+    /// fault it answers that fault. It seeks the first word by `pivots`, as `TermCursor::seek` says.
+    pub fn next<S: ByteSource>(
+        &mut self,
+        source: &mut S,
+        pivots: &mut [u64],
+    ) -> Result<Option<Entry>, ReadFault>
         requires lies { LiesIn self.old.cursor.place (length (S.content source.old)) }
         ensures gives { S.honest → (es rest : List Item)
             → HasLeft (bytes_at (S.content source.old) self.old.cursor.place) self.old es rest
@@ -92,12 +96,12 @@ impl<'a> PrefixCursor<'a> {
             → group_count self.old.cursor.place.terms ≤ 2 ^ k
             → AllByRecursion (λ (e : Item). asks_for (length e.term) ≤ m) es
             → S.asked source.new ≤ S.asked source.old
-            + (k + 1) * (6 + asks_for (length self.old.prefix.now)) + 1 + 17 * (6 + m)) }
+            + (k + 3) * (6 + asks_for (length self.old.prefix.now)) + 1 + 17 * (6 + m)) }
     {
         if self.ended {
             return Ok(None);
         }
-        let more = self.go(source)?;
+        let more = self.go(source, pivots)?;
         if more && self.word().starts_with(self.prefix) {
             return Ok(Some(self.cursor.entry()));
         }
@@ -106,7 +110,7 @@ impl<'a> PrefixCursor<'a> {
     }
 
     // Goes to the next word that may begin with the prefix.
-    fn go<S: ByteSource>(&mut self, source: &mut S) -> Result<bool, ReadFault>
+    fn go<S: ByteSource>(&mut self, source: &mut S, pivots: &mut [u64]) -> Result<bool, ReadFault>
         requires lies { LiesIn self.old.cursor.place (length (S.content source.old)) }
         requires on { self.old.ended ≡ false }
         ensures at { S.honest → (es rest : List Item)
@@ -137,12 +141,12 @@ impl<'a> PrefixCursor<'a> {
             → group_count self.old.cursor.place.terms ≤ 2 ^ k
             → AllByRecursion (λ (e : Item). asks_for (length e.term) ≤ m) es
             → S.asked source.new ≤ S.asked source.old
-            + (k + 1) * (6 + asks_for (length self.old.prefix.now)) + 1 + 17 * (6 + m)) }
+            + (k + 3) * (6 + asks_for (length self.old.prefix.now)) + 1 + 17 * (6 + m)) }
     {
         if self.begun {
             return self.cursor.next(source);
         }
         self.begun = true;
-        self.cursor.seek(source, self.prefix)
+        self.cursor.seek(source, pivots, self.prefix)
     }
 }

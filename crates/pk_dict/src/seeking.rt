@@ -12,13 +12,14 @@ ghost use Rattle.pk_posting.specs.Source.{CountsFaults};
 use crate::entries::{first_group, group_start};
 use crate::entry::DictPlace;
 use crate::head::GroupStart;
-use crate::look_up::narrow;
+use crate::look_up::stand_near;
 use pk_posting::{ByteSource, SourceFault};
 
 // Where the group begins in which the first word may stand that is not less than another.
 pub(crate) fn first_start<S: ByteSource>(
     source: &mut S,
     place: DictPlace,
+    pivots: &mut [u64],
     word: &[u8],
 ) -> Result<GroupStart, SourceFault>
     requires lies { LiesIn place (length (S.content source.old)) }
@@ -30,10 +31,10 @@ pub(crate) fn first_start<S: ByteSource>(
         (λ e. e ≡ SourceFault.Disk) }
     ensures some { IfOk result (λ s. 16 * s.group < place.terms) }
     ensures asks { (k : ℕ) → group_count place.terms ≤ 2 ^ k → S.asked source.new
-        ≤ S.asked source.old + (k + 1) * (6 + asks_for (length word.now)) + 1 }
+        ≤ S.asked source.old + (k + 3) * (6 + asks_for (length word.now)) + 1 }
     ensures left { ReadsSource S.ByteSource CountsFaults result source.old source.new }
 {
-    let standing = narrow(source, place, word)?;
+    let standing = stand_near(source, place, pivots, word)?;
     let group = first_group(standing);
     let at = group_start(source, place, group)?;
     Ok(GroupStart { group, at })

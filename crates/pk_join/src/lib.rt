@@ -19,13 +19,13 @@
 //! | `Input` | an input of a walk: its words with their lists, and how far the walk has come |
 //! | `Walk` | goes through the words that the inputs leave, each with its numbers |
 //!
-//! Of an input of kind 2 a cursor goes through the dictionary: one word of it is in memory, and
-//! 4,096 bytes that were read at once. So the memory of a walk goes by its inputs, not by their
-//! words. A word's place stays where it was passed, and the next one is read when the walk goes on:
-//! so the word where it has gone is still there. A list is read when its word comes, and with it
-//! what stands behind: a `Walk` holds 32,768 bytes of each input of kind 2, and lends lists of them
-//! as long as they last, since they lie in the order of their words. A longer list is read beside,
-//! block by block. Of an input of kind 1 there is an index of the texts, in memory. Of the lists
+//! Of an input of kind 2 a cursor goes through the dictionary: one word of it is in memory, and a
+//! sixteenth of it that was read at once, from 256 to 4,096 bytes. So the memory of a walk goes by
+//! its inputs, not by their words. A word's place stays where it was passed, and the next one is read
+//! when the walk goes on: so the word where it has gone is still there. A list is read when its word
+//! comes, and with it what stands behind: a `Walk` holds 32,768 bytes of each input of kind 2, past
+//! 32 of them its share of 1 MiB, and lends lists of them as long as they last, since they lie in the
+//! order of their words. A longer list is read beside, block by block. Of an input of kind 1 there is an index of the texts, in memory. Of the lists
 //! that are joined one word's is in memory at a time. After `read_lists`, `Input::new` and
 //! `Walk::new` a step takes memory only for a word that is longer than those before it; and a walk
 //! that has passed all and begins anew takes room for the longest of each input, so then none.

@@ -38,9 +38,9 @@ use std::alloc::{AllocError, Global};
 /// How many bytes of an input are read at once; where there are many, fewer.
 pub const READ_AHEAD: usize = 32_768;
 
-// How many bytes of all inputs are read ahead at most: where they are more than 2,048, of each
-// fewer than of one alone.
-const ALL_AHEAD: usize = 67_108_864;
+// How many bytes of all inputs are read ahead at most: where they are more than 32, of each fewer
+// than of one alone.
+const ALL_AHEAD: usize = 1_048_576;
 
 /// The key of an input whose next word is to be read.
 pub(crate) const UNREAD: u64 = 0;
@@ -71,7 +71,7 @@ impl Input {
     ghost use Rattle.pk_join.specs.Whole.{HeadIsWhole};
 
     /// One of so many inputs, before its first word. Nothing is read of it yet, and where its lists
-    /// are on the disk there is memory to read ahead 32,768 bytes, or its share of 67,108,864.
+    /// are on the disk there is memory to read ahead 32,768 bytes, or its share of 1,048,576.
     pub fn new(
         alloc: Global,
         extent: Extent,

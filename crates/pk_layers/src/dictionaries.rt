@@ -1,8 +1,5 @@
 //! Dictionaries of terms, by every way of reading.
 
-ghost use Rattle.std.specs.Prelude.{◌≤◌};
-ghost use Rattle.pk_posting.specs.Limits.{most_lent};
-
 use crate::failing::Failing;
 use crate::told::{Fault, Told};
 use crate::words::{Words, bytes_of, halves, number};
@@ -139,23 +136,23 @@ fn tell_prefix_in<S: ByteSource>(
     Ok(())
 }
 
-/// The entries of a prefix in a source, one by one by a cursor that reads so many bytes ahead.
+/// The entries of a prefix in a source, one by one by a cursor that reads so many bytes ahead and
+/// seeks by a table of pivots, which is filled.
 fn passed<S: ByteSource>(
-    alloc: Global,
     source: &mut S,
     place: DictPlace,
-    ahead: u32,
-    prefix: &[u8],
-) -> Result<Vec<(Vec<u8>, Entry)>, ReadFault>
-    requires { ahead ≤ most_lent }
-{
+    pivots: &mut [u64],
+    words: &mut Words<'_>,
+) -> Result<Vec<(Vec<u8>, Entry)>, ReadFault> {
     if u64::from(source.len()) < u64::from(place.at) + u64::from(place.bytes) {
         return Err(ReadFault::Damaged);
     }
-    let mut cursor = PrefixCursor::open(alloc, place, ahead, prefix);
-    let mut found = Vec::new(alloc);
-    'entries: while let Some(entry) = cursor.next(source)? {
-        let word = Vec::from_slice(alloc, cursor.word())?;
+    let ahead = words.number().min(MOST_LENT as u32);
+    let prefix = words.bytes()?;
+    let mut cursor = PrefixCursor::open(words.alloc(), place, ahead, &prefix);
+    let mut found = Vec::new(words.alloc());
+    'entries: while let Some(entry) = cursor.next(source, pivots)? {
+        let word = Vec::from_slice(words.alloc(), cursor.word())?;
         let Ok(()) = found.push((word, entry)) else {
             return Err(ReadFault::Memory);
         };
@@ -167,11 +164,11 @@ fn passed<S: ByteSource>(
 fn tell_passed<S: ByteSource>(
     source: &mut S,
     place: DictPlace,
+    pivots: &mut [u64],
     words: &mut Words<'_>,
     told: &mut Told,
 ) -> Result<(), AllocError> {
-    let ahead = words.number().min(MOST_LENT as u32);
-    match passed(words.alloc(), source, place, ahead, &words.bytes()?) {
+    match passed(source, place, pivots, words) {
         Ok(entries) => told.entries(&entries),
         Err(ReadFault::Memory) => return Err(AllocError),
         Err(fault) => told.fault(Fault::from(fault)),
@@ -192,7 +189,7 @@ pub(crate) fn tell_in(
     match name {
         "look-in" => tell_each(&mut source, place, *words, told)?,
         "near-in" => tell_each_near(&mut source, place, pivots, *words, told)?,
-        "passed-in" => tell_passed(&mut source, place, words, told)?,
+        "passed-in" => tell_passed(&mut source, place, pivots, words, told)?,
         "prefix-in" => tell_prefix_in(&mut source, place, words, told)?,
         _ => tell_by_windows(name, &mut source, place, pivots, words, told)?,
     }

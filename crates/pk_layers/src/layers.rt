@@ -17,7 +17,7 @@ use crate::told::{Fault, Told};
 use crate::words::Words;
 use std::alloc::{AllocError, Global};
 
-/// The bytes that lines are about, the pivots of look-ups, and a disk.
+/// The bytes that lines are about, the pivots of searches, and a disk.
 #[derive(Drop)]
 pub struct Layers {
     alloc: Global,

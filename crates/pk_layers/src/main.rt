@@ -39,10 +39,10 @@
 //!   pivots
 //! - `prefix-in PASSES AT BYTES TERMS PREFIX`: those of a prefix
 //! - `passed-in PASSES AT BYTES TERMS AHEAD PREFIX`: the same by a cursor that reads so many bytes
-//!   ahead
+//!   ahead, and seeks by pivots
 //! - `look-windows ..`, `near-windows ..`, `prefix-windows ..`: the same by windows, and how often
 //!   these were asked
-//! - `pivots KEYS`: the table that look-ups by pivots go by and fill
+//! - `pivots KEYS`: the table that searches by pivots go by and fill
 //! - `window AT:N ..`: how often the source was asked behind each stretch that windows lend, and
 //!   its bytes
 //! - `build KIND N M TEXT TEXT`: the length and the bytes of a segment of two documents

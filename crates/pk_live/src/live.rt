@@ -14,8 +14,9 @@ ghost use Rattle.pk_sets.specs.Sets.{intersection};
 use crate::in_row::keep_in_row;
 use crate::prefix::put_with_prefix;
 use pk_index::{Index, both_into};
-use pk_match::{Lists, asked_prefix, asked_row, keep_both};
+use pk_match::{Lists, asked_prefix, asked_row};
 use pk_model::Document;
+use pk_union::keep_both;
 use std::alloc::{AllocError, Global};
 
 /// An index, the documents of which it is asked with their numbers, and the words of a query.

@@ -9,7 +9,7 @@ ghost use Rattle.pk_sets.specs.Sets.{intersection, union};
 
 use crate::live::put_live;
 use pk_index::Index;
-use pk_match::UnionBuilder;
+use pk_union::UnionBuilder;
 use std::alloc::{AllocError, Global};
 
 /// Puts the live numbers of the lists of all words that begin so into `out`, by one walk over the

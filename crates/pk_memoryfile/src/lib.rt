@@ -12,7 +12,8 @@
 //!
 //! Its images follow from a record of the calls that changed its bytes or its length (specs/
 //! `Record`). A call whose record finds no memory answers `Failed`, and changes nothing. Refusals are
-//! counted; past 2^64 - 1 of them a call is interrupted in place of being refused.
+//! counted; past 2^64 - 1 of them a call is interrupted in place of being refused. So are interrupted
+//! transfers, up to 2^64 - 1.
 #![tactic(auto)]
 
 pub mod laws;

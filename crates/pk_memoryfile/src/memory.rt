@@ -4,6 +4,7 @@ ghost use Rattle.std.specs.Prelude.{◌≡◌, ◌+◌, [], length, string_bytes
 ghost use Rattle.std.specs.Prelude.{IfOk, IsTrue, false, true};
 ghost use Rattle.pk_disk.specs.Since.{IsOnlyRead};
 ghost use Rattle.pk_filedisk.specs.Raw.{IsSameFile, refusals, refusals_by, transfer_refusals};
+ghost use Rattle.pk_filedisk.specs.Tries.{CountsUp, interruptions};
 ghost use Rattle.pk_memoryfile.specs.Record.{ImageSince, moment_of, open_in};
 ghost use Rattle.pk_memoryfile.specs.Record.{fewer_left, image_before, image_now, only_image_now};
 
@@ -37,8 +38,7 @@ pub struct MemoryFile {
     memory: Recorded,
     // The steps to come, the next one last.
     script: Vec<Step>,
-    // How many calls were refused so far.
-    refused: u64,
+    counts: Counts,
     is_locked: bool,
     is_settled: bool,
     is_named: bool,
@@ -68,7 +68,10 @@ impl MemoryFile {
             is_new: false,
             memory: Recorded::of_bytes(alloc, bytes),
             script,
-            refused: 0,
+            counts: Counts {
+                refused: 0,
+                interrupted: 0,
+            },
             is_locked: false,
             is_settled: false,
             is_named: false,
@@ -86,6 +89,8 @@ impl MemoryFile {
             self.old self.new }
         ensures refused { ⟦<MemoryFile as RawFile>⟧.refused self.new
             ≡ ⟦<MemoryFile as RawFile>⟧.refused self.old }
+        ensures interrupted { ⟦<MemoryFile as RawFile>⟧.interrupted self.new
+            ≡ ⟦<MemoryFile as RawFile>⟧.interrupted self.old }
         ensures read { IsOnlyRead ⟦<MemoryFile as RawFile>⟧.content
             ⟦<MemoryFile as RawFile>⟧.is_open ⟦<MemoryFile as RawFile>⟧.moment
             ⟦<MemoryFile as RawFile>⟧.images_since self.old self.new }
@@ -105,46 +110,65 @@ fn next_step(script: &mut Vec<Step>) -> Step {
     }
 }
 
-// A refusal, which is counted; past the greatest count it is told as an interruption.
-fn refusal(refused: &mut u64) -> CallFault
-    ensures { refused.new ≡ refused.old + refusals_by result }
-{
-    if *refused == u64::MAX {
-        return CallFault::Interrupted;
-    }
-    *refused += 1;
-    CallFault::Failed
+// How many calls were refused so far, and how many transfers were interrupted.
+#[derive(Drop)]
+struct Counts {
+    refused: u64,
+    interrupted: u64,
 }
 
-// How the next call ends, which moves no bytes.
-fn next_ending(script: &mut Vec<Step>, refused: &mut u64) -> Result<(), CallFault>
-    ensures { refused.new ≡ refused.old + refusals result }
-{
-    match next_step(script).ending {
-        Ending::Told => Ok(()),
-        Ending::Interrupted => Err(CallFault::Interrupted),
-        Ending::Failed => Err(refusal(refused)),
-    }
-}
-
-// How a transfer ends that moved so many bytes of those it was asked for.
-fn transfer_ending(
-    ending: Ending,
-    asked: usize,
-    moved: usize,
-    refused: &mut u64,
-) -> Result<usize, CallFault>
-    ensures count { IfOk result (λ n. n ≡ moved) }
-    ensures refused { refused.new ≡ refused.old + transfer_refusals asked result }
-{
-    match ending {
-        Ending::Told if moved > 0 || asked == 0 => Ok(moved),
-        Ending::Told if *refused < u64::MAX => {
-            *refused += 1;
-            Ok(moved)
+impl Counts {
+    // A refusal, which is counted; past the greatest count it is told as an interruption.
+    fn refuse(&mut self) -> CallFault
+        ensures refused { self.new.refused ≡ self.old.refused + refusals_by result }
+        ensures interrupted { self.new.interrupted ≡ self.old.interrupted }
+    {
+        if self.refused == u64::MAX {
+            return CallFault::Interrupted;
         }
-        Ending::Failed => Err(refusal(refused)),
-        _ => Err(CallFault::Interrupted),
+        self.refused += 1;
+        CallFault::Failed
+    }
+
+    // How a call ends that is no transfer.
+    fn end(&mut self, ending: Ending) -> Result<(), CallFault>
+        ensures refused { self.new.refused ≡ self.old.refused + refusals result }
+        ensures interrupted { self.new.interrupted ≡ self.old.interrupted }
+    {
+        match ending {
+            Ending::Told => Ok(()),
+            Ending::Interrupted => Err(CallFault::Interrupted),
+            Ending::Failed => Err(self.refuse()),
+        }
+    }
+
+    // How a transfer ends that moved so many bytes of those it was asked for.
+    fn end_transfer(
+        &mut self,
+        ending: Ending,
+        asked: usize,
+        moved: usize,
+    ) -> Result<usize, CallFault>
+        ensures count { IfOk result (λ n. n ≡ moved) }
+        ensures refused { self.new.refused ≡ self.old.refused + transfer_refusals asked result }
+        ensures interrupted { CountsUp (interruptions result)
+            self.old.interrupted self.new.interrupted }
+    {
+        match ending {
+            Ending::Told if moved > 0 || asked == 0 => Ok(moved),
+            Ending::Told if self.refused < u64::MAX => {
+                self.refused += 1;
+                Ok(moved)
+            }
+            Ending::Failed if self.refused < u64::MAX => {
+                self.refused += 1;
+                Err(CallFault::Failed)
+            }
+            _ => {
+                self.interrupted = self.interrupted.saturating_add(1);
+                Err(CallFault::Interrupted)
+            }
+        }
     }
 }
 
@@ -161,7 +185,9 @@ impl RawFile for MemoryFile {
 
     ghost path = { λ m. string_bytes m.path };
 
-    ghost refused = { λ m. m.refused };
+    ghost refused = { λ m. m.counts.refused };
+
+    ghost interrupted = { λ m. m.counts.interrupted };
 
     ghost is_locked = { λ m. m.is_locked };
 
@@ -175,7 +201,7 @@ impl RawFile for MemoryFile {
 
     // A call that is interrupted finds the lock held.
     fn try_lock(&mut self) -> Result<(), LockFault> {
-        match next_ending(&mut self.script, &mut self.refused) {
+        match self.counts.end(next_step(&mut self.script).ending) {
             Ok(()) => {
                 self.is_locked = true;
                 Ok(())
@@ -191,10 +217,10 @@ impl RawFile for MemoryFile {
 
     fn set_len(&mut self, len: u64) -> Result<(), CallFault> {
         self.is_settled = false;
-        next_ending(&mut self.script, &mut self.refused)?;
+        self.counts.end(next_step(&mut self.script).ending)?;
         match self.memory.set_len(len as usize) {
             Ok(()) => Ok(()),
-            Err(_) => Err(refusal(&mut self.refused)),
+            Err(_) => Err(self.counts.refuse()),
         }
     }
 
@@ -202,45 +228,45 @@ impl RawFile for MemoryFile {
         let step = next_step(&mut self.script);
         let size = self.memory.bytes.len() as u64;
         if at > size {
-            return transfer_ending(step.ending, out.len(), 0, &mut self.refused);
+            return self.counts.end_transfer(step.ending, out.len(), 0);
         }
         let left = (size - at) as usize;
         let n = out.len().min(step.most).min(left);
         let start = at as usize;
         out[..n].copy_from_slice(&self.memory.bytes[start..start + n]);
-        transfer_ending(step.ending, out.len(), n, &mut self.refused)
+        self.counts.end_transfer(step.ending, out.len(), n)
     }
 
     fn write_at(&mut self, at: u64, bytes: &[u8]) -> Result<usize, CallFault> {
         let step = next_step(&mut self.script);
         let size = self.memory.bytes.len() as u64;
         if at > size {
-            return transfer_ending(step.ending, bytes.len(), 0, &mut self.refused);
+            return self.counts.end_transfer(step.ending, bytes.len(), 0);
         }
         let left = (size - at) as usize;
         let n = bytes.len().min(step.most).min(left);
         let Ok(()) = self.memory.write(at, &bytes[..n]) else {
-            return Err(refusal(&mut self.refused));
+            return self.counts.end_transfer(Ending::Failed, bytes.len(), 0);
         };
-        transfer_ending(step.ending, bytes.len(), n, &mut self.refused)
+        self.counts.end_transfer(step.ending, bytes.len(), n)
     }
 
     fn sync_data(&mut self) -> Result<(), CallFault> {
-        next_ending(&mut self.script, &mut self.refused)?;
+        self.counts.end(next_step(&mut self.script).ending)?;
         match self.memory.sync() {
             Ok(()) => Ok(()),
-            Err(_) => Err(refusal(&mut self.refused)),
+            Err(_) => Err(self.counts.refuse()),
         }
     }
 
     fn sync_all(&mut self) -> Result<(), CallFault> {
-        next_ending(&mut self.script, &mut self.refused)?;
+        self.counts.end(next_step(&mut self.script).ending)?;
         match self.memory.sync() {
             Ok(()) => {
                 self.is_settled = true;
                 Ok(())
             }
-            Err(_) => Err(refusal(&mut self.refused)),
+            Err(_) => Err(self.counts.refuse()),
         }
     }
 

@@ -46,8 +46,8 @@
 //! |---|---|
 //! | each document left | 16 bytes for its place, 12 in the directory, 4 in the list of one word |
 //! | an input of kind 1 | the index of its texts, and its words |
-//! | an input of kind 2 | its longest word, twice, and 4,096 bytes of its dictionary |
-//! | of its lists | 32,768 bytes to read ahead, past 2,048 inputs its share of 64 MiB |
+//! | an input of kind 2 | its longest word, twice; of its dictionary at most 4,096 bytes |
+//! | of its lists | 32,768 bytes to read ahead, past 32 inputs its share of 1 MiB |
 //! | each deleted number | 4 bytes, and one for each number up to the next one, at most 64 |
 //! | the dictionary | its bytes |
 //! | the posting lists, up to 67,108,864 bytes of them | their bytes, and up to as many to grow |

@@ -1,3 +1,4 @@
 -- The lemma pages.
+pub mod MissLemmas
 pub mod PageLemmas
 pub mod ReadLemmas

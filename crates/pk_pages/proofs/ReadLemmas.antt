@@ -38,8 +38,8 @@ again_one succeeded slots at n some within is_true is = record {
       is);
 }
 
--- where there are two slots, neighbours are in different ones
-neighbours_apart : (p m : ℕ) → 2 ≤ m → p % m ≡ (p + 1) % m → ⊥
+-- where there are two slots or places, neighbours have different ones
+pub neighbours_apart : (p m : ℕ) → 2 ≤ m → p % m ≡ (p + 1) % m → ⊥
 neighbours_apart p m two same =
     let r = p % m in
     let next : r ≡ suc r % m = same ∙ ap (λ (k : ℕ). k % m) (add-one p) ∙ suc-mod p m in
@@ -50,6 +50,15 @@ neighbours_apart p m two same =
     omega (arith, next ∙ mod-eq_of_lt lt))
     (cases_eq (suc r) m)
 
+-- a page that was kept stays so as one is read that has another slot
+pub kept_beside : (slots slots' : List Slot) (p q n : ℕ) → KeepsOthers slots slots' p → (q % length slots ≡ p % length slots → ⊥) → IsKept slots q n → IsKept slots' q n
+kept_beside slots slots' p q n others apart kept = (
+  omega (arith, others.count, kept.0),
+  λ d.
+      let same : slot_for slots q d ≡ slot_for slots' q d = sym (others.same q d apart) in
+      (subst (λ (s : Slot). IsIn s q) same (kept.1 d).0, subst (λ (s : Slot). n ≤ length s.bytes.items) same (kept.1 d).1),
+)
+
 -- a page that was kept stays so as the next one is read, but where there is one slot alone
 still_kept : (slots slots' : List Slot) (p m before end : ℕ) → KeepsOthers slots slots' (p + 1) → page_bytes ≤ m → before ≤ page_bytes * p + page_bytes → page_bytes * p + page_bytes < end → IsKept slots p m ⊎ IsUnkept slots p before → IsKept slots' p (min page_bytes (end - page_bytes * p)) ⊎ IsUnkept slots' p end
 still_kept slots slots' p m before end others whole within goes_on is = ⊎_elim
@@ -57,14 +66,8 @@ still_kept slots slots' p m before end others whole within goes_on is = ⊎_elim
     (λ other. ⊎_elim
     (λ kept.
     let two : 2 ≤ length slots = omega (arith, other, kept.0) in
-    inl (
-      omega (arith, others.count, kept.0),
-      λ d.
-          let same : slot_for slots' p d ≡ slot_for slots p d = others.same p d (neighbours_apart p (length slots) two) in
-          let was = kept.1 d in
-          let long : min page_bytes (end - page_bytes * p) ≤ length (slot_for slots p d).bytes.items = omega (arith, was.1, whole) in
-          (subst (λ (s : Slot). IsIn s p) (sym same) was.0, subst (λ (s : Slot). min page_bytes (end - page_bytes * p) ≤ length s.bytes.items) (sym same) long),
-    ))
+    let stays = kept_beside slots slots' (p + 1) p m others (neighbours_apart p (length slots) two) kept in
+    inl (stays.0, λ d. let is = stays.1 d in (is.0, omega (arith, is.1, whole))))
     (λ unkept. ⊎_elim
     (λ wanting. inr (inl (λ d some.
     let any : 0 < length slots = omega (arith, some, others.count) in

@@ -1,2 +1,3 @@
 -- The definitions that contracts of kept pages cite.
+pub mod Missed
 pub mod Pages

@@ -9,6 +9,7 @@ ghost use Rattle.std.specs.Prelude.{
   ◌*◌,
   ◌/◌,
   ◌%◌,
+  ◌↔◌,
   length,
   min,
   slice_range,
@@ -23,9 +24,12 @@ ghost use Rattle.std.specs.Prelude.{
 ghost use Rattle.pk_disk.specs.Disk.{IsCounted, full_count};
 ghost use Rattle.pk_disk.specs.Frames.{KeepsDisk};
 ghost use Rattle.pk_disk.specs.Since.{NoneNew, StayKnown};
+ghost use Rattle.pk_pages.specs.Missed.{AreKeptOrNoted, AreToBeKept, AreUnnoted};
+ghost use Rattle.pk_pages.specs.Missed.{IsKeptOrNoted, IsNoted, KeepsNotes, most_noted};
 ghost use Rattle.pk_pages.specs.Pages.{AreClear, ArePagesOf, HasNoRoom, IsGone, IsHit};
 ghost use Rattle.pk_pages.specs.Pages.{IsKept, IsReadAgain, KeepsOthers, page_bytes, page_of};
 
+use crate::misses::{no_misses, note};
 use crate::slots::{PAGE, Slot, empty_slots, fill, forget, kept};
 use pk_disk::{Disk, DiskFault};
 use pk_watch::Watched;
@@ -36,24 +40,31 @@ use std::alloc::Global;
 pub struct PageCache<D: Disk> {
     disk: D,
     slots: Vec<Slot>,
+    // The numbers of pages that were missed, each at its place.
+    missed: Vec<u64>,
     // Whether the last read below succeeded. Only then does a kept page answer: the count of
     // failed reads is not full then.
     last_succeeded: bool,
     ghost kept: { D.honest → ArePagesOf (D.content disk) slots.items },
     ghost not_full: { IsTrue last_succeeded → D.failed_reads disk < full_count },
+    ghost places: { 0 < length missed.items → length missed.items ≡ most_noted },
 }
 
 impl<D: Disk> PageCache<D> {
-    /// A disk over that one, which keeps at most `pages` pages, and none so far. Where there is no
-    /// memory for so many slots, it has fewer.
+    /// A disk over that one, which keeps at most `pages` pages. So far none is kept, none noted.
+    /// Where there is no memory for so many slots, it has fewer; where there is none for notes,
+    /// each page counts as noted.
     pub fn new(alloc: Global, disk: D, pages: usize) -> PageCache<D>
         ensures disk { result.disk ≡ disk }
         ensures pages { length result.slots.items ≤ pages }
         ensures empty { (p : ℕ) → IsGone result.slots.items p }
+        ensures unnoted { (p : ℕ) → p < u64.MAX → 0 < length result.missed.items
+            → IsNoted result.missed.items p → ⊥ }
     {
         PageCache {
             disk,
             slots: empty_slots(alloc, pages),
+            missed: no_misses(alloc),
             last_succeeded: false,
         }
     }
@@ -75,6 +86,7 @@ impl<D: Disk> PageCache<D> {
         ensures reads { IsCounted (D.failed_reads self.old.disk) (D.failed_reads self.new.disk)
             result }
         ensures slots { self.new.slots ≡ self.old.slots }
+        ensures missed { self.new.missed ≡ self.old.missed }
         ensures succeeded { OnOk result (IsTrue self.new.last_succeeded) }
     {
         let read = self.disk.read(at, out);
@@ -82,7 +94,8 @@ impl<D: Disk> PageCache<D> {
         read
     }
 
-    // Reads within one page, which it keeps where there is memory for it.
+    // Reads within one page. Where it was missed before, it is read whole and kept, if there is
+    // memory for it.
     #[tactic(auto, using(crate::proofs::PageLemmas::part_of_page))]
     fn read_within(&mut self, at: u64, out: &mut [u8]) -> Result<(), DiskFault>
         requires some { 0 < length out.old }
@@ -96,14 +109,24 @@ impl<D: Disk> PageCache<D> {
         ensures keeps { KeepsDisk D.Disk self.old.disk self.new.disk }
         ensures reads { IsCounted (D.failed_reads self.old.disk) (D.failed_reads self.new.disk)
             result }
-        ensures again { OnOk result
+        ensures again { IsKeptOrNoted self.old.slots.items self.old.missed.items
+            (at / page_bytes) (at % page_bytes + length out.old) → OnOk result
             (IsReadAgain self.new.last_succeeded self.new.slots.items at (length out.old)) }
+        ensures noted { IsKeptOrNoted self.new.slots.items self.new.missed.items
+            (at / page_bytes) (at % page_bytes + length out.old) }
+        ensures once { (IsNoted self.old.missed.items (at / page_bytes) → ⊥)
+            → self.new.slots ≡ self.old.slots }
+        ensures notes { KeepsNotes self.old.missed.items self.new.missed.items
+            (at / page_bytes) }
         ensures others { KeepsOthers self.old.slots.items self.new.slots.items (at / page_bytes) }
     {
         let number = at / PAGE;
         let from = (at % PAGE) as usize;
         if self.last_succeeded && copy_kept(&self.slots, number, from, out) {
             return Ok(());
+        }
+        if !self.note_miss(number) {
+            return self.read_below(at, out);
         }
         let Some(loaded) = self.load(number) else {
             return self.read_below(at, out);
@@ -112,6 +135,18 @@ impl<D: Disk> PageCache<D> {
         let copied = copy_kept(&self.slots, number, from, out);
         prove!(copied);
         Ok(())
+    }
+
+    // Notes a page that is not kept. Whether it was noted before.
+    fn note_miss(&mut self, number: u64) -> bool
+        ensures disk { self.new.disk ≡ self.old.disk }
+        ensures slots { self.new.slots ≡ self.old.slots }
+        ensures succeeded { self.new.last_succeeded ≡ self.old.last_succeeded }
+        ensures found { IsTrue result ↔ IsNoted self.old.missed.items number }
+        ensures noted { IsNoted self.new.missed.items number }
+        ensures notes { KeepsNotes self.old.missed.items self.new.missed.items number }
+    {
+        note(&mut self.missed, number)
     }
 
     // Reads a page, and keeps it. None where there is no memory for it: then nothing is asked.
@@ -126,6 +161,7 @@ impl<D: Disk> PageCache<D> {
             (min page_bytes (length (D.content self.old.disk) - page_bytes * number)))) }
         ensures succeeded { IfSome result (λ read. OnOk read (IsTrue self.new.last_succeeded)) }
         ensures memory { IfNone result (HasNoRoom self.new.slots.items number) }
+        ensures missed { self.new.missed ≡ self.old.missed }
         ensures others { KeepsOthers self.old.slots.items self.new.slots.items number }
     {
         if self.slots.is_empty() {
@@ -201,8 +237,14 @@ impl<D: Disk> Disk for PageCache<D> {
         requires { at + length out.old ≤ length (D.content self.old.disk) }
         ensures hit { IsHit self.old.last_succeeded self.old.slots.items at (length out.old)
             → (IsOk result) × (self.new ≡ self.old) }
-        ensures again { 0 < length out.old → length out.old ≤ page_bytes → OnOk result
+        ensures again { 0 < length out.old → length out.old ≤ page_bytes
+            → AreToBeKept self.old.slots.items self.old.missed.items at (length out.old)
+            → OnOk result
             (IsReadAgain self.new.last_succeeded self.new.slots.items at (length out.old)) }
+        ensures noted { 0 < length out.old → length out.old ≤ page_bytes → OnOk result
+            (AreKeptOrNoted self.new.slots.items self.new.missed.items at (length out.old)) }
+        ensures once { AreUnnoted self.old.missed.items at (length out.old)
+            → self.new.slots ≡ self.old.slots }
 
         // The clauses of the trait.
         ensures given { D.honest → OnOk result

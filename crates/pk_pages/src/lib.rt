@@ -4,14 +4,21 @@
 //!
 //! A `PageCache` is a disk: its bytes, open positions, moments, images and counts of failures are
 //! those of the disk below, and it is honest where that one is. A read of pages that are kept is a
-//! look-up and a copy, and makes no call below (`read`'s clause `hit`). A read that succeeded
-//! leaves its pages kept, as far as there is memory for them (its clause `again`).
+//! look-up and a copy, and makes no call below (`read`'s clause `hit`).
+//!
+//! A page is kept at its second miss, since most are missed once alone. At the first the bytes that
+//! are asked for are read, nothing is kept (`once`), and the page is noted (`noted`). A read of
+//! noted pages leaves them kept, as far as there is memory for them (`again`). So a third read of
+//! the same bytes makes no call below, but where they lie in two pages and there is one slot
+//! (`laws`).
 //!
 //! | what | how |
 //! |---|---|
 //! | a page | 4,096 bytes from a multiple of 4,096 on; the last of a disk may be shorter |
 //! | a slot | a place for one page: page `p` can be in slot `p` modulo the number of slots alone |
-//! | a read of 1 to 4,096 bytes | from its one or two pages; one that is not kept is read whole |
+//! | a read of 1 to 4,096 bytes | from its one or two pages; one that is not kept is missed |
+//! | a miss | the bytes alone are read, or all of a page that is noted; it is noted from then on |
+//! | a note | a page's number, in place of the last: page `p` has place `p` modulo 4,096 alone |
 //! | a longer read, an empty one | goes below as it is |
 //! | a write | forgets the pages that it touches, then goes below, whatever comes of it |
 //! | a sync | goes below |
@@ -29,12 +36,15 @@
 //!
 //! # Memory
 //!
-//! `new` takes 40 bytes a slot, and a slot takes 4,096 bytes as it first keeps a page. Where there
-//! is no memory for the slots or for a page, reads go below: that is no fault. With too few slots
-//! reads become slower than without, since what is not kept is read by whole pages.
+//! `new` takes 40 bytes a slot and 32,768 for notes, and a slot takes 4,096 bytes as it first keeps
+//! a page. Where there is no memory for the slots or for a page, reads go below, and where there is
+//! none for notes each page counts as noted: that is no fault. With too few slots reads become
+//! slower than without, since what is noted is read by whole pages.
 #![tactic(auto)]
 
 mod cache;
+pub mod laws;
+mod misses;
 mod slots;
 
 pub use cache::PageCache;

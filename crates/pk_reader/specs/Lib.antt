@@ -4,3 +4,4 @@ pub mod Faults
 pub mod Reading
 pub mod Held
 pub mod Replies
+pub mod Without

@@ -27,7 +27,7 @@
 //! | `Damaged` | bytes of that body are no spelling of what should stand there |
 //! | `Disk` | a read failed, there is no store in the file any more, or each try was outdated, the last ones for a second beside a writer |
 //!
-//! After `Damaged` and `Disk` the next question opens anew.
+//! After `Disk`, and where there was no store to ask, the next question opens anew.
 //!
 //! # The file
 //!

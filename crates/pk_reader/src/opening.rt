@@ -1,6 +1,6 @@
 //! One opening of a file.
 
-ghost use Rattle.std.specs.Prelude.{◌≡◌, ◌≤◌, IfErr, IfOk};
+ghost use Rattle.std.specs.Prelude.{◌≡◌, ◌≤◌, IfErr, IfOk, cond};
 ghost use Rattle.pk_manifest.specs.Evolves.{in_force};
 ghost use Rattle.pk_reader.specs.Faults.{showing_fault};
 
@@ -38,7 +38,8 @@ fn fault_of(why: OpenFault) -> SnapshotFault
 
 // The file below, and why there is no store over it. Where what was shown is outdated, that is why.
 fn hand_back<F: SharedFile>(disk: PageCache<SnapshotDisk<F>>, why: SnapshotFault) -> Refused<F>
-    ensures { result.file ≡ disk.disk.file }
+    ensures file { result.file ≡ disk.disk.file }
+    ensures why { result.why ≡ cond disk.disk.outdated SnapshotFault.Changed why }
 {
     let disk = disk.into_inner();
     let why = if disk.is_outdated() {

@@ -1,11 +1,12 @@
 //! A question, asked once of the newest that is in force.
 
-ghost use Rattle.std.specs.Prelude.{◌≡◌, ◌≤◌, IfErr, IfOk, IfSome};
+ghost use Rattle.std.specs.Prelude.{◌≡◌, ◌≤◌, Err, None, IfErr, IfOk, IfSome, IsSomeAnd, MatchOption};
 ghost use Rattle.pk_manifest.specs.Evolves.{in_force};
 ghost use Rattle.pk_model.specs.Views.{reply_of};
 ghost use Rattle.pk_reader.specs.Asking.{request_of};
 ghost use Rattle.pk_reader.specs.Held.{held_bytes};
 ghost use Rattle.pk_reader.specs.Reading.{IsFailure, ReadStep};
+ghost use Rattle.pk_reader.specs.Without.{refusal_without};
 
 use crate::opening::{Caches, Open, close, open_file};
 use crate::question::Question;
@@ -70,7 +71,9 @@ fn renewed<F: SharedFile + Drop>(
 // What is told where there is no store: nothing where another body took the place meanwhile, or
 // where both gates were seen shut one after the other.
 fn reply_without(why: SnapshotFault) -> Option<Reply>
-    ensures { IfSome result (λ reply. IsFailure (reply_of reply)) }
+    ensures failed { IfSome result (λ reply. IsFailure (reply_of reply)) }
+    ensures told { MatchOption result (refusal_without why ≡ None)
+        (λ reply. IsSomeAnd (refusal_without why) (λ it. reply_of reply ≡ Err it)) }
 {
     match why {
         SnapshotFault::Changed | SnapshotFault::NotAStore => None,

@@ -8,6 +8,7 @@ pub mod OnlyReadLemmas
 pub mod OpeningLemmas
 pub mod PlacedLemmas
 pub mod PlanLemmas
+pub mod PutsLemmas
 pub mod SegmentLemmas
 pub mod ReadLemmas
 pub mod Window

@@ -9,6 +9,7 @@ pub mod OnlyRead
 pub mod Opened
 pub mod Placed
 pub mod Planning
+pub mod Puts
 pub mod Reading
 pub mod Said
 pub mod Spelling

@@ -1,8 +1,10 @@
 -- For crates above: members, order and sizes of intersections, unions and differences.
-use Rattle.std.proofs.Common.{◌≡◌, ℕ, zero, suc, ◌<◌, ◌≤◌, ◌+◌, List, [], ◌∷◌, length, Bool, true, false, cond, ◌||◌, ◌&&◌, not, nat_eq, nat_lt, arith, refl, sym, ap, ap₂, ◌∙◌, inl, inr}
+use Rattle.std.proofs.Common.{◌≡◌, ℕ, zero, suc, ◌<◌, ◌≤◌, ◌+◌, List, [], ◌∷◌, ◌++◌, length, slice_index, take, Bool, true, false, cond, ◌||◌, ◌&&◌, not, nat_eq, nat_lt, add-one, arith, refl, sym, subst, ap, ap₂, ◌∙◌, inl, inr}
 use Rattle.std.specs.List.{filter}
 use Rattle.std.specs.List.Sorted.{IsStrictlyIncreasing}
 use Rattle.std.proofs.lemmas.Bool.{cases_lt}
+use Rattle.std.proofs.lemmas.List.Elements.{filter-append}
+use Rattle.std.proofs.lemmas.List.Kept.{IsStrictlyIncreasing-filter}
 use Rattle.pk_sets.specs.Sets.{has, intersection, union, difference, with_number}
 use Rattle.pk_sets.proofs.IntersectionLemmas.{Rising, eq_true, eq_false_turned, none_above}
 use Rattle.pk_sets.proofs.PartLemmas.{rising_all, eq_same}
@@ -185,3 +187,20 @@ union_size (x ∷ xs) ys h k =
     let same = ap one_if once in
     let met = length_case x (intersection xs ys) (has ys x) in
     omega (arith, more, same, met, union_size xs ys h.1 k)
+
+-- THE FIRST OF A LIST, and what they have in common with another
+
+pub intersection_rises : (xs ys ns : List ℕ) → IsStrictlyIncreasing xs → ns ≡ intersection xs ys → IsStrictlyIncreasing ns
+intersection_rises xs ys ns h e = subst IsStrictlyIncreasing (sym e) (IsStrictlyIncreasing-filter (has ys) xs h)
+
+take_more : (xs : List ℕ) (i x : ℕ) → i < length xs → x ≡ slice_index xs i → take (suc i) xs ≡ take i xs ++ x ∷ []
+take_more [] i x lt at = absurd (omega arith)
+take_more (y ∷ ys) zero x lt at = ap (λ z. z ∷ []) (sym at)
+take_more (y ∷ ys) (suc i) x lt at = ap (λ zs. y ∷ zs) (take_more ys i x (omega arith) at)
+
+-- one number more, which the other has or has not
+pub intersection_more : (xs old : List ℕ) (i x : ℕ) (b : Bool) → i < length old → x ≡ slice_index old i → has xs x ≡ b
+    → intersection (take (i + 1) old) xs ≡ intersection (take i old) xs ++ cond b (x ∷ []) []
+intersection_more xs old i x b lt at e =
+    ap (filter (has xs)) (rw add-one (take_more old i x lt at)) ∙ filter-append (has xs) (take i old) (x ∷ [])
+    ∙ ap (λ c. filter (has xs) (take i old) ++ cond c (x ∷ []) []) e

@@ -1,4 +1,5 @@
 -- The lemma pages.
+pub mod CallLemmas
 pub mod ConfirmLemmas
 pub mod SeenLemmas
 pub mod FillLemmas

@@ -1,5 +1,6 @@
 -- The definitions that contracts of shared files and of snapshots cite.
 pub mod Shared
+pub mod Counted
 pub mod Seen
 pub mod Shown
 pub mod Images

@@ -1,8 +1,9 @@
 //! A disk that shows a file as it was, while another program may write it.
 
-ghost use Rattle.std.specs.Prelude.{◌≡◌, ◌≤◌, false, IfErr, IfOk};
+ghost use Rattle.std.specs.Prelude.{◌≡◌, ◌≤◌, ◌+◌, ◌^◌, false, IfErr, IfOk};
 ghost use Rattle.pk_disk.specs.Disk.{nowhere};
 ghost use Rattle.pk_manifest.specs.Evolves.{Evolves, in_force};
+ghost use Rattle.pk_snapshot.specs.Counted.{FailsByCalls, is_disk};
 ghost use Rattle.pk_snapshot.specs.Found.{RefusedAs};
 ghost use Rattle.pk_snapshot.specs.Latest.{IsSnapshot};
 ghost use Rattle.pk_snapshot.specs.Shown.{ShowsBody, shown_bytes};
@@ -30,6 +31,8 @@ pub struct SnapshotDisk<F: SharedFile> {
     failed_reads: u64,
     failed_writes: u64,
     ghost snapshot: { F.honest → IsSnapshot (F.marked file) half generation len shown.extents.items },
+    ghost by_calls: { F.honest → outdated ≡ false
+        → failed_reads ≤ F.failed file + F.interrupted file },
 }
 
 impl<F: SharedFile + Drop> SnapshotDisk<F> {
@@ -39,7 +42,7 @@ impl<F: SharedFile + Drop> SnapshotDisk<F> {
     /// `TooSmall` where the file has fewer than 64 units, `NotAStore` where both gates read as shut,
     /// one after the other, `Damaged` where no body stands behind the gate that is sound for the units
     /// that it says, from 64 to the file's, `Changed` where another body took the place of the one that
-    /// was read, `Disk` where a read failed, or `Memory`.
+    /// was read, `Disk` where a call of the file failed, or `Memory`.
     pub fn open(alloc: Global, mut file: F) -> Result<SnapshotDisk<F>, Refused<F>>
         ensures fresh { F.honest → IfOk result
             (λ d. in_force (F.content file) ≤ d.generation) }
@@ -49,6 +52,10 @@ impl<F: SharedFile + Drop> SnapshotDisk<F> {
             (F.content r.file) (F.marked r.file) r.why) }
         ensures later { F.honest → IfErr result
             (λ r. Evolves (F.content file) (F.content r.file)) }
+        ensures fails { F.honest → IfErr result (λ r. FailsByCalls F.failed F.interrupted (2 ^ 32)
+            (is_disk r.why) file r.file) }
+        ensures opens { F.honest → IfOk result
+            (λ d. FailsByCalls F.failed F.interrupted (2 ^ 32) false file d.file) }
         ensures reads { IfOk result (λ d. d.failed_reads ≡ 0) }
         ensures writes { IfOk result (λ d. d.failed_writes ≡ 0) }
         ensures begins { IfOk result (λ d. d.outdated ≡ false) }
@@ -121,7 +128,11 @@ impl<F: SharedFile> Disk for SnapshotDisk<F> {
         if self.failed_reads == u64::MAX {
             return Err(DiskFault);
         }
-        if self.outdated || self.shown.fill(&mut self.file, at, out).is_err() {
+        if self.outdated {
+            self.failed_reads += 1;
+            return Err(DiskFault);
+        }
+        if self.shown.fill(&mut self.file, at, out).is_err() {
             self.failed_reads += 1;
             return Err(DiskFault);
         }

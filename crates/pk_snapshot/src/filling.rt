@@ -1,7 +1,8 @@
 //! Bytes of a file where it is looked at, and zeros beside.
 
-ghost use Rattle.std.specs.Prelude.{◌≡◌, ◌<◌, ◌+◌, ◌^◌, length, OnOk};
+ghost use Rattle.std.specs.Prelude.{◌≡◌, ◌<◌, ◌+◌, ◌^◌, length, OnOk, is_err};
 ghost use Rattle.pk_manifest.specs.Evolves.{Evolves};
+ghost use Rattle.pk_snapshot.specs.Counted.{FailsByCalls};
 ghost use Rattle.pk_snapshot.specs.Order.{stop_of};
 ghost use Rattle.pk_snapshot.specs.Shared.{IsFilled, IsPartFilled};
 
@@ -28,6 +29,8 @@ fn fill_part<F: SharedFile>(
         (F.content file.new) extent at out.old out.new) }
     ensures evolves { F.honest → Evolves (F.content file.old) (F.content file.new) }
     ensures marked { F.honest → F.marked file.new ≡ F.marked file.old }
+    ensures fails { F.honest
+        → FailsByCalls F.failed F.interrupted (length out.old) (is_err result) file.old file.new }
 {
     let from = extent.start().max(at);
     let to = stop_of(extent).min(at + out.len() as u64);
@@ -53,6 +56,8 @@ pub fn fill<F: SharedFile>(
         shown.now at out.new) }
     ensures evolves { F.honest → Evolves (F.content file.old) (F.content file.new) }
     ensures marked { F.honest → F.marked file.new ≡ F.marked file.old }
+    ensures fails { F.honest
+        → FailsByCalls F.failed F.interrupted (length out.old) (is_err result) file.old file.new }
 {
     out.fill(0);
     for extent in shown {

@@ -1,18 +1,24 @@
 //! The files of the system that are only read. What they do, no clause says.
 
-ghost use Rattle.std.specs.Prelude.{[], false};
+ghost use Rattle.std.specs.Prelude.{◌≡◌, [], false};
+ghost use Rattle.std.specs.IoError.{error_kind};
 
 use crate::held::HeldFile;
 use crate::shared::SharedFile;
 use pk_filedisk::CallFault;
 use std::fs::File;
-use std::io;
+use std::io::{self, ErrorKind};
 use std::os::unix::fs::FileExt;
 
-// Why a call did not do what was asked.
-fn fault_of(error: &io::Error) -> CallFault {
+// Why a call did not do what was asked: interrupted by a signal where the error says so.
+fn fault_of(error: &io::Error) -> CallFault
+    ensures interrupted { error_kind error.now ≡ ErrorKind.Interrupted
+        → result ≡ CallFault.Interrupted }
+    ensures failed { (error_kind error.now ≡ ErrorKind.Interrupted → ⊥)
+        → result ≡ CallFault.Failed }
+{
     match error.kind() {
-        io::ErrorKind::Interrupted => CallFault::Interrupted,
+        ErrorKind::Interrupted => CallFault::Interrupted,
         _ => CallFault::Failed,
     }
 }
@@ -23,11 +29,15 @@ impl SharedFile for File {
 
     ghost marked = { λ _. [] };
 
+    ghost failed = { λ _. 0 };
+
+    ghost interrupted = { λ _. 0 };
+
     ghost honest = { ⊥ };
 
     fn mark(&mut self) {}
 
-    fn len(&self) -> Result<u64, CallFault> {
+    fn len(&mut self) -> Result<u64, CallFault> {
         match File::metadata(self) {
             Ok(metadata) => Ok(metadata.len()),
             Err(error) => Err(fault_of(&error)),
@@ -41,12 +51,8 @@ impl SharedFile for File {
         }
     }
 
-    fn read_at_once(&mut self, at: u64, out: &mut [u8]) -> Result<(), CallFault> {
-        match FileExt::read_at(self, out, at) {
-            Ok(n) if n == out.len() => Ok(()),
-            Ok(_) => Err(CallFault::Failed),
-            Err(error) => Err(fault_of(&error)),
-        }
+    fn read_at_once(&mut self, at: u64, out: &mut [u8]) -> Result<usize, CallFault> {
+        SharedFile::read_at(self, at, out)
     }
 
     ghost marked_before = { λ file honest. absurd honest };

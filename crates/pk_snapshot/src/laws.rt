@@ -1,4 +1,6 @@
-//! A law of snapshots, the contract of a function with nothing to do.
+//! Laws of snapshots, each the contract of a function with nothing to do.
+
+ghost use Rattle.std.specs.Prelude.{◌≡◌, ◌≤◌, ◌+◌, false};
 
 use crate::disk::SnapshotDisk;
 use crate::shared::SharedFile;
@@ -7,4 +9,12 @@ use pk_disk::Disk;
 /// A snapshot of an honest file is an honest disk.
 pub fn a_snapshot_of_an_honest_file_is_honest<F: SharedFile>()
     ensures { F.honest → ⟦<SnapshotDisk<F> as Disk>⟧.honest }
+{}
+
+/// While a snapshot of an honest file is not outdated, no more reads of it failed than calls of the
+/// file failed or were interrupted.
+pub fn a_snapshot_fails_by_its_file<F: SharedFile>(disk: &SnapshotDisk<F>)
+    ensures { F.honest → disk.now.outdated ≡ false
+        → ⟦<SnapshotDisk<F> as Disk>⟧.failed_reads disk.now
+        ≤ F.failed disk.now.file + F.interrupted disk.now.file }
 {}

@@ -65,7 +65,10 @@
 //!
 //! # What is refused
 //!
-//! `open` hands the file back with a `SnapshotFault`. What it shows may be a body whose commit isn't
+//! `open` hands the file back with a `SnapshotFault`. A call of the file that a signal interrupts is
+//! made again, and a read that came short is gone on with. So over an honest file `open` tells `Disk`,
+//! and a read of what isn't outdated fails, only where a call failed, or 2^63 were interrupted
+//! (`FailsByCalls`, `laws::a_snapshot_fails_by_its_file`). What `open` shows may be a body whose commit isn't
 //! acknowledged yet, and which a loss of power may still take away: a reader syncs nothing.
 #![tactic(auto)]
 

@@ -1,6 +1,6 @@
 //! The body that is to be shown: chosen, read and confirmed.
 
-ghost use Rattle.std.specs.Prelude.{◌≡◌, ◌≤◌, ℕ, length, IfErr, IfNone, IfOk, IfSome, IsTrue, OnOk};
+ghost use Rattle.std.specs.Prelude.{◌≡◌, ◌≤◌, ◌^◌, ℕ, length, IfErr, IfNone, IfOk, IfSome, IsTrue, OnOk, is_err};
 ghost use Rattle.pk_manifest.specs.Bodies.{bodies_end, body_size};
 ghost use Rattle.pk_disk.specs.declared.units.Extent.{Extent};
 ghost use Rattle.pk_manifest.specs.Current.{units_of_disk};
@@ -8,13 +8,14 @@ ghost use Rattle.pk_manifest.specs.Sound.{IsBody};
 ghost use Rattle.pk_manifest.specs.Spelling.{view};
 ghost use Rattle.pk_manifest.specs.Evolves.{Evolves, in_force};
 ghost use Rattle.pk_manifest.specs.Found.{IsFound};
+ghost use Rattle.pk_snapshot.specs.Counted.{FailsByCalls, is_disk_err};
 ghost use Rattle.pk_snapshot.specs.Found.{IsOfBody, IsOfConfirm, RefusedAs, SaysPlace};
 ghost use Rattle.pk_snapshot.specs.Latest.{IsSnapshot};
 ghost use Rattle.pk_snapshot.specs.Shared.{Confirms, IsChosen, SawShut};
 ghost use Rattle.pk_snapshot.specs.Shown.{ShowsBody, shown_bytes};
 
 use crate::fault::SnapshotFault;
-use crate::reading::{is_still, read_whole, stamp_behind, stamp_of};
+use crate::reading::{is_still, length_of, read_whole, stamp_behind, stamp_of};
 use crate::shared::SharedFile;
 use crate::shown::Shown;
 use pk_disk::{DiskFault, Extent, LEAST_UNITS, UNIT, units_in};
@@ -40,6 +41,8 @@ pub fn choose<F: SharedFile>(file: &mut F) -> Result<Option<Chosen>, DiskFault>
         × SawShut (F.content file.old) (F.content file.new) Half.B)) }
     ensures evolves { F.honest → Evolves (F.content file.old) (F.content file.new) }
     ensures marked { F.honest → F.marked file.new ≡ F.marked file.old }
+    ensures fails { F.honest
+        → FailsByCalls F.failed F.interrupted 0 (is_err result) file.old file.new }
 {
     let first = stamp_behind(file, Half::A)?;
     let second = stamp_behind(file, Half::B)?;
@@ -81,6 +84,8 @@ pub fn is_latest<F: SharedFile>(
         (λ is. IsTrue is → in_force (F.content file.old) ≤ generation) }
     ensures evolves { F.honest → Evolves (F.content file.old) (F.content file.new) }
     ensures marked { F.honest → F.marked file.new ≡ F.marked file.old }
+    ensures fails { F.honest
+        → FailsByCalls F.failed F.interrupted 0 (is_err result) file.old file.new }
 {
     let beside = stamp_of(file, half.other())?;
     if beside <= generation {
@@ -103,6 +108,8 @@ pub fn confirm<F: SharedFile>(
     ensures fault { IfErr result IsOfConfirm }
     ensures evolves { F.honest → Evolves (F.content file.old) (F.content file.new) }
     ensures marked { F.honest → F.marked file.new ≡ F.marked file.old }
+    ensures fails { F.honest
+        → FailsByCalls F.failed F.interrupted 0 (is_disk_err result) file.old file.new }
 {
     match is_still(file, half, generation) {
         Ok(true) => Ok(()),
@@ -151,6 +158,8 @@ pub fn read_manifest<F: SharedFile>(
         (IsOfBody (F.content file.old) half generation) }
     ensures sound { IfOk result (λ m. IsBody (view m).units (view m)) }
     ensures marked { F.honest → F.marked file.new ≡ F.marked file.old }
+    ensures fails { F.honest
+        → FailsByCalls F.failed F.interrupted (2 ^ 32) (is_disk_err result) file.old file.new }
 {
     let mut bytes = [0u8; BODY_SIZE];
     let Ok(()) = read_whole(file, half.body(), &mut bytes) else {
@@ -197,8 +206,10 @@ pub fn look<F: SharedFile>(alloc: Global, file: &mut F) -> Result<Looked, Snapsh
     ensures refused { F.honest → IfErr result
         (RefusedAs (F.content file.old) (F.content file.new) (F.marked file.new)) }
     ensures evolves { F.honest → Evolves (F.content file.old) (F.content file.new) }
+    ensures fails { F.honest
+        → FailsByCalls F.failed F.interrupted (2 ^ 32) (is_disk_err result) file.old file.new }
 {
-    let Ok(len) = file.len() else {
+    let Ok(len) = length_of(file) else {
         return Err(SnapshotFault::Disk);
     };
     if units_in(len) < LEAST_UNITS {
@@ -212,7 +223,7 @@ pub fn look<F: SharedFile>(alloc: Global, file: &mut F) -> Result<Looked, Snapsh
     };
     confirm(file, half, generation)?;
     file.mark();
-    let Ok(len) = file.len() else {
+    let Ok(len) = length_of(file) else {
         return Err(SnapshotFault::Disk);
     };
     let manifest = read_manifest(alloc, file, half, generation, units_in(len))?;

@@ -1,7 +1,8 @@
 //! Reads of a file that changes meanwhile: whole ranges, and a gate with the generation behind it.
 
-ghost use Rattle.std.specs.Prelude.{◌≡◌, ◌<◌, ◌≤◌, ◌+◌, ◌%◌, ◌^◌, false, length, IfNone, IfOk, IfSome, IsTrue, OnOk};
+ghost use Rattle.std.specs.Prelude.{◌≡◌, ◌<◌, ◌≤◌, ◌+◌, ◌%◌, ◌^◌, false, length, IfNone, IfOk, IfSome, IsTrue, OnOk, is_err};
 ghost use Rattle.pk_manifest.specs.Evolves.{Evolves};
+ghost use Rattle.pk_snapshot.specs.Counted.{FailsByCalls};
 ghost use Rattle.pk_snapshot.specs.Seen.{SawStamp};
 ghost use Rattle.pk_snapshot.specs.Shared.{AreSeen, Confirms, SawOther, SawShut, SeenAtOnce};
 
@@ -13,6 +14,24 @@ use pk_manifest::{Half, OPEN, u64_at};
 // How often a call is made again before it counts as failed.
 const TRIES: u64 = u64::MAX;
 
+// The number of bytes of a file.
+pub fn length_of<F: SharedFile>(file: &mut F) -> Result<u64, DiskFault>
+    ensures given { F.honest → IfOk result (λ n. n ≡ length (F.content file.new)) }
+    ensures bytes { F.honest → F.content file.new ≡ F.content file.old }
+    ensures marked { F.honest → F.marked file.new ≡ F.marked file.old }
+    ensures fails { F.honest
+        → FailsByCalls F.failed F.interrupted 0 (is_err result) file.old file.new }
+{
+    'tries: for _ in 0..TRIES {
+        match file.len() {
+            Ok(len) => return Ok(len),
+            Err(CallFault::Interrupted) => {}
+            Err(CallFault::Failed) => return Err(DiskFault),
+        }
+    }
+    Err(DiskFault)
+}
+
 // Fills `out` with the bytes from a position on.
 pub fn read_whole<F: SharedFile>(file: &mut F, at: u64, out: &mut [u8]) -> Result<(), DiskFault>
     requires { at + length out.old < 2 ^ 64 }
@@ -20,6 +39,8 @@ pub fn read_whole<F: SharedFile>(file: &mut F, at: u64, out: &mut [u8]) -> Resul
         (AreSeen (F.content file.old) (F.content file.new) at (length out.old) out.new) }
     ensures evolves { F.honest → Evolves (F.content file.old) (F.content file.new) }
     ensures marked { F.honest → F.marked file.new ≡ F.marked file.old }
+    ensures fails { F.honest
+        → FailsByCalls F.failed F.interrupted (length out.old) (is_err result) file.old file.new }
 {
     let mut done = 0;
     'parts: for _ in 0..TRIES {
@@ -43,10 +64,13 @@ fn read_once<F: SharedFile>(file: &mut F, at: u64, out: &mut [u8]) -> Result<(),
         (SeenAtOnce (F.content file.old) (F.content file.new) at out.new) }
     ensures evolves { F.honest → Evolves (F.content file.old) (F.content file.new) }
     ensures marked { F.honest → F.marked file.new ≡ F.marked file.old }
+    ensures fails { F.honest
+        → FailsByCalls F.failed F.interrupted 0 (is_err result) file.old file.new }
 {
     'tries: for _ in 0..TRIES {
         match file.read_at_once(at, out) {
-            Ok(()) => return Ok(()),
+            Ok(got) if got == out.len() => return Ok(()),
+            Ok(_) => return Err(DiskFault),
             Err(CallFault::Interrupted) => {}
             Err(CallFault::Failed) => return Err(DiskFault),
         }
@@ -60,6 +84,8 @@ pub fn stamp_of<F: SharedFile>(file: &mut F, half: Half) -> Result<u64, DiskFaul
         (SawStamp (F.content file.old) (F.content file.new) half) }
     ensures evolves { F.honest → Evolves (F.content file.old) (F.content file.new) }
     ensures marked { F.honest → F.marked file.new ≡ F.marked file.old }
+    ensures fails { F.honest
+        → FailsByCalls F.failed F.interrupted 0 (is_err result) file.old file.new }
 {
     let mut field = [0u8; 8];
     read_once(file, half.body() + 8, &mut field)?;
@@ -74,6 +100,8 @@ pub fn stamp_behind<F: SharedFile>(file: &mut F, half: Half) -> Result<Option<u6
         (SawShut (F.content file.old) (F.content file.new) half)) }
     ensures evolves { F.honest → Evolves (F.content file.old) (F.content file.new) }
     ensures marked { F.honest → F.marked file.new ≡ F.marked file.old }
+    ensures fails { F.honest
+        → FailsByCalls F.failed F.interrupted 0 (is_err result) file.old file.new }
 {
     let mut gate = [0u8];
     read_once(file, half.gate(), &mut gate)?;
@@ -92,6 +120,8 @@ pub fn is_still<F: SharedFile>(file: &mut F, half: Half, generation: u64) -> Res
         → SawOther (F.content file.old) (F.content file.new) half generation) }
     ensures evolves { F.honest → Evolves (F.content file.old) (F.content file.new) }
     ensures marked { F.honest → F.marked file.new ≡ F.marked file.old }
+    ensures fails { F.honest
+        → FailsByCalls F.failed F.interrupted 0 (is_err result) file.old file.new }
 {
     match stamp_behind(file, half)? {
         Some(stamp) => Ok(stamp == generation),

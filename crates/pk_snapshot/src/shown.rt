@@ -1,10 +1,11 @@
 //! The extents that are looked at, in the order of their places.
 
-ghost use Rattle.std.specs.Prelude.{◌≡◌, ◌<◌, ◌+◌, ◌++◌, ◌^◌, length, IfOk, OnOk};
+ghost use Rattle.std.specs.Prelude.{◌≡◌, ◌<◌, ◌+◌, ◌++◌, ◌^◌, length, IfOk, OnOk, is_err};
 ghost use Rattle.std.specs.List.Sorted.{IsPermutation};
 ghost use Rattle.pk_manifest.specs.Evolves.{Evolves};
 ghost use Rattle.pk_manifest.specs.Sound.{IsBody, named};
 ghost use Rattle.pk_manifest.specs.Spelling.{view};
+ghost use Rattle.pk_snapshot.specs.Counted.{FailsByCalls};
 ghost use Rattle.pk_snapshot.specs.Order.{AreMet, IsRising};
 ghost use Rattle.pk_snapshot.specs.Shared.{IsFilled};
 ghost use Rattle.pk_snapshot.specs.Shown.{own_extents};
@@ -82,6 +83,8 @@ impl Shown {
             (F.content file.new) self.now.extents.items at out.new) }
         ensures evolves { F.honest → Evolves (F.content file.old) (F.content file.new) }
         ensures marked { F.honest → F.marked file.new ≡ F.marked file.old }
+        ensures fails { F.honest → FailsByCalls F.failed F.interrupted (length out.old)
+            (is_err result) file.old file.new }
     {
         let met = self.meeting(at, at + out.len() as u64);
         fill(file, met, at, out)

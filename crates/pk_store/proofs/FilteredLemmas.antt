@@ -19,11 +19,11 @@ use Rattle.pk_open.proofs.PlaceLemmas.{entries_many, entry_there}
 use Rattle.pk_replace.specs.Claims.{Claim, Each, IsUntouched}
 use Rattle.pk_replace.specs.Course.{touched_by}
 use Rattle.pk_replace.specs.Held.{IsHeld, IsNext}
-use Rattle.pk_search.specs.declared.filters.SegmentFilter.{SegmentFilter}
+use Rattle.pk_lookup.specs.declared.filters.SegmentFilter.{SegmentFilter}
 use Rattle.pk_search.specs.declared.tables.FindTables.{FindTables}
-use Rattle.pk_search.specs.Filtered.{FiltersAgree, FiltersAgreeAt, FiltersBelow, IsFilterFor, filters_of}
-use Rattle.pk_search.proofs.FilterLemmas.{agree_at, some_so}
-use Rattle.pk_search.proofs.FindingLemmas.{any_or}
+use Rattle.pk_lookup.specs.Filtered.{FiltersAgree, FiltersAgreeAt, FiltersBelow, IsFilterFor, filters_of}
+use Rattle.pk_lookup.proofs.FilterLemmas.{agree_at, some_so}
+use Rattle.pk_lookup.proofs.EntryLemmas.{any_or}
 use Rattle.pk_segment.specs.Placed.{IsIndexedOf}
 use Rattle.pk_segment.specs.Spelling.{IndexSpells}
 use Rattle.pk_segment.specs.declared.segment.Segment.{Segment}
@@ -38,7 +38,7 @@ abbrev Below : ℕ → SegmentFilter → Type 0
 Below n k = IfSome k.filter (λ _. k.segment < n)
 
 -- ---- where there is none
-pub filtered_none : {D : Type 0} (d : Ghosts D) (v : VolumeView D) (tables : FindTables) → filters_of tables ≡ [] → IsFiltered d v tables
+pub filtered_none : {D : Type 0} (d : Ghosts D) (v : VolumeView D) (tables : FindTables) → filters_of tables.words ≡ [] → IsFiltered d v tables
 filtered_none d v tables none = record {
   below = subst (FiltersBelow v.body.next_segment) (sym none) (All-nil (Below v.body.next_segment));
   agrees = λ h clear. subst (λ (fs : List SegmentFilter). FiltersAgree (d.content v.disk) fs v.opened) (sym none) (λ i o lt. All-nil (IsFilterFor (extent_bytes (d.content v.disk) (get_or v.opened i o).entry.extent) (get_or v.opened i o)));
@@ -48,16 +48,16 @@ filtered_none d v tables none = record {
 pub filtered_read : {D : Type 0} (d : Ghosts D) (v : VolumeView D) (disk : D) (tables : FindTables) → KeepsDisk d v.disk disk → IsFiltered d v tables → IsFiltered d (with_disk v disk) tables
 filtered_read d v disk tables keeps is = record {
   below = is.below;
-  agrees = λ h clear. subst (λ (bytes : List ℕ). FiltersAgree bytes (filters_of tables) v.opened) (sym (keeps.read h).bytes) (is.agrees h clear);
+  agrees = λ h clear. subst (λ (bytes : List ℕ). FiltersAgree bytes (filters_of tables.words) v.opened) (sym (keeps.read h).bytes) (is.agrees h clear);
 }
 
 -- ---- and after a find, that makes others
 pub filtered_found : {D : Type 0} (d : Ghosts D) (v : VolumeView D) (disk : D) (blocks : ℕ) (tables now : FindTables) → IsReady d v → KeepsDisk d v.disk disk → IsFiltered d v tables
-    → ((next : ℕ) → All (λ (o : OpenSegment). o.entry.segment < next) v.opened → FiltersBelow next (filters_of tables) → FiltersBelow next (filters_of now))
-    → (d.honest → FiltersAgree (d.content v.disk) (filters_of tables) v.opened → FiltersAgree (d.content v.disk) (filters_of now) v.opened) → IsFiltered d (with_blocks (with_disk v disk) blocks) now
+    → ((next : ℕ) → All (λ (o : OpenSegment). o.entry.segment < next) v.opened → FiltersBelow next (filters_of tables.words) → FiltersBelow next (filters_of now.words))
+    → (d.honest → FiltersAgree (d.content v.disk) (filters_of tables.words) v.opened → FiltersAgree (d.content v.disk) (filters_of now.words) v.opened) → IsFiltered d (with_blocks (with_disk v disk) blocks) now
 filtered_found d v disk blocks tables now ready keeps is below agrees = record {
   below = below v.body.next_segment (opened_below d v ready) is.below;
-  agrees = λ h clear. subst (λ (bytes : List ℕ). FiltersAgree bytes (filters_of now) v.opened) (sym (keeps.read h).bytes) (agrees h (is.agrees h clear));
+  agrees = λ h clear. subst (λ (bytes : List ℕ). FiltersAgree bytes (filters_of now.words) v.opened) (sym (keeps.read h).bytes) (agrees h (is.agrees h clear));
 }
 
 -- ---- once a disk has to be opened again
@@ -71,7 +71,7 @@ agree_deleted bytes filters (o ∷ os) zero n all = All-cons (FiltersAgreeAt byt
 agree_deleted bytes filters (o ∷ os) (suc i) n all = All-cons (FiltersAgreeAt bytes filters) o (deleted_at os i n) (All-head (FiltersAgreeAt bytes filters) o os all) (agree_deleted bytes filters os i n (All-tail (FiltersAgreeAt bytes filters) o os all))
 
 pub filtered_deleted : {D : Type 0} (d : Ghosts D) (v : VolumeView D) (tables : FindTables) (i n : ℕ) → IsFiltered d v tables → IsFiltered d (with_opened v (deleted_at v.opened i n)) tables
-filtered_deleted d v tables i n is = record { below = is.below; agrees = λ h clear. agree_deleted (d.content v.disk) (filters_of tables) v.opened i n (is.agrees h clear) }
+filtered_deleted d v tables i n is = record { below = is.below; agrees = λ h clear. agree_deleted (d.content v.disk) (filters_of tables.words) v.opened i n (is.agrees h clear) }
 
 -- ---- open segments whose bytes are the same
 same_words : (old new : List ℕ) (o : OpenSegment) (filters : List SegmentFilter) → Same old new o.entry.extent → FiltersAgreeAt old filters o → FiltersAgreeAt new filters o
@@ -111,8 +111,8 @@ module _ {D : Type 0} (d : Ghosts D) (v : VolumeView D) (p : Plan) (cache : Opti
   pub filtered_done : (disk : D) (body : List ℕ) → (d.honest → (old_body : List ℕ) (cs new_claims : List Claim) → IsHeld (d.content v.disk) (d.is_open v.disk) v.spare old_body cs
       → IsNext v.spare touched promised cs new_claims → IsHeld (d.content disk) (d.is_open disk) (other v.spare) body new_claims) → IsFiltered d (carried v p disk) tables
   filtered_done disk body keeps = record {
-    below = All-weaker (Below v.body.next_segment) (Below (carried v p disk).body.next_segment) (λ k. some_so k.filter (λ filter low. (let more = goes.ids in omega (arith, low, more)))) (filters_of tables) is.below;
-    agrees = λ h flag. taken_agree old (d.content disk) (filters_of tables) v.body.next_segment v.opened (changed p.change v.opened) is.below (is.agrees h clear)
+    below = All-weaker (Below v.body.next_segment) (Below (carried v p disk).body.next_segment) (λ k. some_so k.filter (λ filter low. (let more = goes.ids in omega (arith, low, more)))) (filters_of tables.words) is.below;
+    agrees = λ h flag. taken_agree old (d.content disk) (filters_of tables.words) v.body.next_segment v.opened (changed p.change v.opened) is.below (is.agrees h clear)
         (same_bytes d v p cache ready cached clear touched promised goes (d.content disk) (d.is_open disk) (keeps h (spelling v.body) there there (held d v p cache ready cached clear touched promised goes h) (next d v p cache ready cached clear touched promised goes)).stands) goes.taken;
   }
 
@@ -121,6 +121,6 @@ module _ {D : Type 0} (d : Ghosts D) (v : VolumeView D) (p : Plan) (cache : Opti
       → Each (IsUntouched (touched_by v.spare touched)) cs → IsHeld (d.content disk) (d.is_open disk) v.spare old_body cs) → IsFiltered d (with_disk v disk) tables
   filtered_kept disk keeps = record {
     below = is.below;
-    agrees = λ h flag. agree_same old (d.content disk) (filters_of tables) v.opened (is.agrees h clear)
+    agrees = λ h flag. agree_same old (d.content disk) (filters_of tables.words) v.opened (is.agrees h clear)
         (same_bytes d v p cache ready cached clear touched promised goes (d.content disk) (d.is_open disk) (keeps h (spelling v.body) there (held d v p cache ready cached clear touched promised goes h) (named_untouched d v p cache ready cached clear touched promised goes)).stands);
   }

@@ -1,7 +1,7 @@
 //! Disks in files: over a system that notes its calls and fails one of them, over files whose calls
 //! are short, and in a real file.
 
-ghost use Rattle.std.specs.Prelude.{◌≡◌, ◌+◌, [], length, IfOk};
+ghost use Rattle.std.specs.Prelude.{◌≡◌, ◌+◌, [], length, IfErr, IfOk};
 ghost use Rattle.pk_filedisk.specs.Raw.{refusals};
 
 use pk_disk::{Disk, DiskFault};
@@ -89,15 +89,13 @@ struct NotedFile<'a, F: RawFile> {
     refused: u64,
 }
 
-// Counts a call that the system refused; past the greatest count it is told as interrupted.
+// Counts a call that the system refused; past the greatest count it is let through.
 fn count_refused(noted: Result<(), CallFault>, refused: &mut u64) -> Result<(), CallFault>
-    ensures { refused.new ≡ refused.old + refusals result }
+    ensures counted { refused.new ≡ refused.old + refusals result }
+    ensures told { IfErr result (λ fault. fault ≡ CallFault.Failed) }
 {
-    if noted.is_ok() {
+    if noted.is_ok() || *refused == u64::MAX {
         return Ok(());
-    }
-    if *refused == u64::MAX {
-        return Err(CallFault::Interrupted);
     }
     *refused += 1;
     Err(CallFault::Failed)
@@ -118,6 +116,8 @@ impl<'a, F: RawFile> RawFile for NotedFile<'a, F> {
 
     ghost refused = { λ f. F.refused f.file + f.refused };
 
+    ghost interrupted = { λ f. F.interrupted f.file };
+
     ghost is_locked = { λ f. F.is_locked f.file };
 
     ghost is_settled = { λ f. F.is_settled f.file };
@@ -131,8 +131,7 @@ impl<'a, F: RawFile> RawFile for NotedFile<'a, F> {
     fn try_lock(&mut self) -> Result<(), LockFault> {
         match count_refused(self.system.note("lock", "file"), &mut self.refused) {
             Ok(()) => self.file.try_lock(),
-            Err(CallFault::Interrupted) => Err(LockFault::Held),
-            Err(CallFault::Failed) => Err(LockFault::Failed),
+            Err(_) => Err(LockFault::Failed),
         }
     }
 

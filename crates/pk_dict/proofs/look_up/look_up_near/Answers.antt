@@ -1,17 +1,11 @@
 -- Where a term stands in a dictionary says its entry.
-use Rattle.std.proofs.Common.{arith, subst, List, ℕ}
+use Rattle.std.proofs.Common.{subst, List, ℕ}
 use Rattle.pk_dict.specs.LookUp.{scanned}
 use Rattle.pk_dict.specs.Place.{bytes_at}
 use Rattle.pk_dict.specs.Reading.{Gives}
 use Rattle.pk_dict.proofs.Probing.{says_entry}
-use Rattle.pk_dict.proofs.Told.{answer_said, look_up_said}
+use Rattle.pk_dict.proofs.Told.{answer_said}
 use Rattle.pk_dict.proofs.look_up.look_up_near.Goals as goal
-
-pub returns-then-groups_of-gt-MOST_GROUPS-clause-most : goal.returns-then-groups_of-gt-MOST_GROUPS-clause-most
-returns-then-groups_of-gt-MOST_GROUPS-clause-most g c = omega (arith, c.look_up_in.ensures.asks 28 (omega arith))
-
-pub returns-in_err-standing-clause-most : goal.returns-in_err-standing-clause-most
-returns-in_err-standing-clause-most g c = omega (arith, c.in_err-standing.ensures.asks 26 (omega (arith, c.groups_of.ensures)))
 
 pub returns-clause-found : goal.returns-clause-found
 returns-clause-found g c = λ h es lies d len.
@@ -21,13 +15,6 @@ returns-clause-found g c = λ h es lies d len.
     let same = c.in_ok-standing.ensures.left.same h in
     says_entry (bytes_at (g.S.ByteSource.content c.args.source.now) place) es term place.terms standing _ d len (c.in_ok-standing.ensures.stands h es d len)
     (subst (λ (l : List ℕ). Gives c.scan_after.result (scanned (bytes_at l place) place.terms term standing)) same (c.scan_after.ensures.value h))
-
-pub returns-clause-most : goal.returns-clause-most
-returns-clause-most g c = omega (arith, c.in_ok-standing.ensures.asks 26 (omega (arith, c.groups_of.ensures)), c.scan_after.ensures.left.asks)
-
-pub returns-then-groups_of-gt-MOST_GROUPS-clause-said : goal.returns-then-groups_of-gt-MOST_GROUPS-clause-said
-returns-then-groups_of-gt-MOST_GROUPS-clause-said g c = λ h.
-    look_up_said (g.S.ByteSource.content c.args.source.now) c.args.place c.args.term.now _ c.look_up_in.ensures.inside (c.look_up_in.ensures.value h)
 
 pub returns-clause-said : goal.returns-clause-said
 returns-clause-said g c = λ h.

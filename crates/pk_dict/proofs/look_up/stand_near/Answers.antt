@@ -6,8 +6,8 @@ use Rattle.pk_dict.specs.Place.{bytes_at}
 use Rattle.pk_dict.specs.Reading.{Gives}
 use Rattle.pk_dict.specs.Search.{Goes, IsKnown}
 use Rattle.pk_dict.proofs.Ends.{known_first}
-use Rattle.pk_dict.proofs.Probing.{goes_on_well}
-use Rattle.pk_dict.proofs.Told.{all_left, all_stand, same_between, same_search, stands_told, told_none}
+use Rattle.pk_dict.proofs.Probing.{ends_well, goes_on_well}
+use Rattle.pk_dict.proofs.Told.{all_left, all_stand, all_told, same_between, same_search, stands_told, told_none}
 use Rattle.pk_dict.proofs.look_up.stand_near.Goals as goal
 
 pub returns-in-Open-clause-stands : goal.returns-in-Open-clause-stands
@@ -25,6 +25,17 @@ returns-in-Open-clause-stands g c = λ h es d len.
     (subst (Goes (group_count place.terms) (length term)) c.in-Open.is c.in_ok-search-2.ensures.goes)
     (subst (IsKnown (bytes_at (g.S.ByteSource.content c.args.source.now) place) es term) c.in-Open.is (subst (λ (l : List ℕ). IsKnown (bytes_at l place) es term c.in_ok-search-2.search) below ends))
     (subst (λ (l : List ℕ). Gives c.narrow_from.result (narrow_at (b.high - b.low) (bytes_at l place) (4 * group_count place.terms) term b.low b.high b.matched b.next)) both (c.narrow_from.ensures.value h))
+
+pub returns-then-groups-gt-MOST_GROUPS-clause-stands : goal.returns-then-groups-gt-MOST_GROUPS-clause-stands
+returns-then-groups-gt-MOST_GROUPS-clause-stands g c = λ h es d len.
+    ends_well _ es c.args.term.now c.args.place.terms _ d len (c.narrow.ensures.value h)
+
+pub returns-then-groups-gt-MOST_GROUPS-clause-told : goal.returns-then-groups-gt-MOST_GROUPS-clause-told
+returns-then-groups-gt-MOST_GROUPS-clause-told g c = λ h.
+    all_told _ c.args.place.terms c.args.term.now _ (c.narrow.ensures.value h)
+
+pub returns-then-groups-gt-MOST_GROUPS-clause-most : goal.returns-then-groups-gt-MOST_GROUPS-clause-most
+returns-then-groups-gt-MOST_GROUPS-clause-most g c = c.narrow.ensures.asks 28 (omega arith)
 
 pub returns-in_err-search-clause-unknown : goal.returns-in_err-search-clause-unknown
 returns-in_err-search-clause-unknown g c = λ h e.
@@ -74,3 +85,8 @@ returns-in-Open-clause-told g c = λ h.
     stands_told here place.terms term b.low b.high b.matched b.next _
     (subst (IsToldIn here place.terms term) c.in-Open.is (subst (λ (l : List ℕ). IsToldIn (bytes_at l place) place.terms term c.in_ok-search-2.search) below ends)) amid.order amid.most
     (subst (λ (l : List ℕ). Gives c.narrow_from.result (narrow_at (b.high - b.low) (bytes_at l place) (4 * group_count place.terms) term b.low b.high b.matched b.next)) both (c.narrow_from.ensures.value h))
+
+pub returns-in-Open-clause-most : goal.returns-in-Open-clause-most
+returns-in-Open-clause-most g c =
+    let amid = subst (Goes (group_count c.args.place.terms) (length c.args.term.now)) c.in-Open.is c.in_ok-search-2.ensures.goes in
+    omega (arith, c.in_ok-search.ensures.left.asks, c.in_ok-search-2.ensures.left.asks, c.narrow_from.ensures.asks 26 (omega (arith, amid.order, amid.most, c.groups_of-groups.ensures)))

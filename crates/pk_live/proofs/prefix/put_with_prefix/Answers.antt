@@ -3,7 +3,7 @@ use Rattle.std.proofs.Common.{◌≡◌, ◌∙◌, ◌||◌, ◌&&◌, true, fa
 use Rattle.std.proofs.lemmas.List.{length-map, take_all}
 use Rattle.std.proofs.lemmas.Option.{get_or_from_slice_get, slice_get_within}
 use Rattle.std.specs.List.{list_any}
-use Rattle.pk_match.proofs.UnionLemmas.{any_more}
+use Rattle.pk_union.proofs.UnionLemmas.{any_more}
 use Rattle.pk_model.specs.Tree.{begins_with}
 use Rattle.pk_sets.proofs.CallerLemmas.{has_union}
 use Rattle.pk_sets.specs.Sets.{has, intersection}

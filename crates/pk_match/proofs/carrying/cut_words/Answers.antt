@@ -1,7 +1,8 @@
 -- One place more.
 use Rattle.std.proofs.Common.{◌∙◌, slice_index, List, take, map, sym, ap, arith}
 use Rattle.pk_plan.specs.Plans.{Both, Operation, both_all, found, word_at}
-use Rattle.pk_match.proofs.PlanLemmas.{cut_none, cut_one, number_at, one_more}
+use Rattle.pk_match.proofs.PlanLemmas.{cut_none, cut_one, one_more}
+use Rattle.pk_union.proofs.PlaceLemmas.{number_at}
 use Rattle.pk_match.proofs.PutsLemmas.{puts_passed, left_passed}
 use Rattle.pk_match.proofs.carrying.cut_words.Goals as goal
 

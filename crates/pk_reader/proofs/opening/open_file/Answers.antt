@@ -20,5 +20,5 @@ returns-in-Err-open-clause-later g c = λ h.
     let left = c.in-Err-open.refused.disk.disk in
     let same = c.in-Err-open.ensures.refused h ∙ ap (λ x. shown_bytes x.len x.shown.extents.items (f.marked x.file)) c.new-disk.ensures.disk in
     let low = shown_low (f.marked left.file) (f.content left.file) left.half left.generation left.len left.shown.extents.items (left.snapshot h) (g.met.F.SharedFile.marked_before left.file h) in
-    subst (λ x. in_force (f.content c.args.file) ≤ in_force (f.content x)) (sym c.hand_back.ensures)
+    subst (λ x. in_force (f.content c.args.file) ≤ in_force (f.content x)) (sym c.hand_back.ensures.file)
     (still_fresh _ _ _ _ (c.in-Ok.ensures.fresh h) (ap in_force same ∙ shown_force (f.marked d.file) d.half d.generation d.len d.shown.extents.items (d.snapshot h)) low)

@@ -1,6 +1,6 @@
 -- The hits without what is deleted.
 use Rattle.std.proofs.Common.{◌≡◌, ◌∙◌, List, ℕ, ap₂, refl, rules, subst, sym}
-use Rattle.pk_match.specs.Puts.{PutsAs}
+use Rattle.pk_sets.specs.Puts.{PutsAs}
 use Rattle.pk_open.specs.Opened.{with_deleted}
 use Rattle.pk_plan.specs.Texts.{reads_texts}
 use Rattle.pk_segment.specs.Reading.{IsNoDamage}
@@ -21,16 +21,16 @@ returns-clause-kept g c = λ h docs kept.
     let left = c.find_in.ensures.left in
     let to : _ ≡ c.find_in.new.lists.source.now = search (rules, sym, left.0) in
     let now : _ ≡ c.find_in.new.lists.cache.now = search (rules, sym, left.1) in
-    (leaves_at _ _ _ _ _ _ _ _ _ _ left.3 to now).served.served h _ docs kept
+    (leaves_at _ _ _ _ _ _ _ _ _ _ left.4 to now).served.served h _ docs kept
 
 pub returns-clause-adds : goal.returns-clause-adds
 returns-clause-adds g c =
     let left = c.find_in.ensures.left in
     let now : _ ≡ c.find_in.new.lists.cache.now = search (rules, sym, left.1) in
-    (leaves_at _ _ _ _ _ _ _ _ _ _ left.3 refl now).served.adds
+    (leaves_at _ _ _ _ _ _ _ _ _ _ left.4 refl now).served.adds
 
 pub returns-clause-left : goal.returns-clause-left
 returns-clause-left g c =
     let left = c.find_in.ensures.left in
     let to : _ ≡ c.find_in.new.lists.source.now = search (rules, sym, left.0) in
-    left_back c.find_in.result _ _ (leaves_at _ _ _ _ _ _ _ _ _ _ left.3 to refl).read
+    left_back c.find_in.result _ _ (leaves_at _ _ _ _ _ _ _ _ _ _ left.4 to refl).read

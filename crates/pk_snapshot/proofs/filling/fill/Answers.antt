@@ -1,7 +1,8 @@
 -- One more extent is filled in.
-use Rattle.std.proofs.Common.{◌∙◌}
+use Rattle.std.proofs.Common.{◌∙◌, length, arith}
 use Rattle.pk_disk.specs.declared.units.Extent.{Extent}
 use Rattle.pk_manifest.proofs.Evolving.{evolves_then}
+use Rattle.pk_snapshot.proofs.CallLemmas.{fails_then, fails_within}
 use Rattle.pk_snapshot.proofs.FillLemmas.{filled_more}
 use Rattle.pk_snapshot.proofs.filling.fill.Goals as goal
 
@@ -22,4 +23,7 @@ loop-extent-preserved g c =
           c.loop-extent-test.true c.fill_part.auto.out (c.loop-extent.invariant.evolves h) (c.fill_part.ensures.evolves h) (c.loop-extent.invariant.given h) (c.in_ok-fill_part.ensures.given h);
       evolves = λ h. evolves_then old mid new (c.loop-extent.invariant.evolves h) (c.fill_part.ensures.evolves h);
       marked = λ h. c.fill_part.ensures.marked h ∙ c.loop-extent.invariant.marked h;
+      fails = λ h.
+          let long = length c.fill_part.new.out in
+          fails_then f.failed f.interrupted long _ _ _ _ (fails_within f.failed f.interrupted _ long _ _ _ (omega arith) (c.loop-extent.invariant.fails h)) (fails_within f.failed f.interrupted _ long _ _ _ (omega arith) (c.in_ok-fill_part.ensures.fails h));
     }

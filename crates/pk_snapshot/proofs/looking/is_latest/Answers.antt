@@ -6,6 +6,7 @@ use Rattle.pk_manifest.specs.Bodies.{other}
 use Rattle.pk_manifest.proofs.Evolving.{evolves_then}
 use Rattle.pk_snapshot.specs.Seen.{SawStamp}
 use Rattle.pk_snapshot.specs.Shared.{SawShut}
+use Rattle.pk_snapshot.proofs.CallLemmas.{fails_then}
 use Rattle.pk_snapshot.proofs.LatestLemmas.{latest_alone, latest_by_stamps}
 use Rattle.pk_snapshot.proofs.SeenLemmas.{if_none}
 use Rattle.pk_snapshot.proofs.looking.is_latest.Goals as goal
@@ -47,3 +48,8 @@ returns-in-None-clause-evolves g c = λ h.
 
 pub returns-in-Some-clause-evolves : goal.returns-in-Some-clause-evolves
 returns-in-Some-clause-evolves g c = λ h. evolves_then _ _ _ (c.stamp_of.ensures.evolves h) (c.stamp_behind.ensures.evolves h)
+
+pub returns-in-None-clause-fails : goal.returns-in-None-clause-fails
+returns-in-None-clause-fails g c = λ h.
+    let f = g.F.SharedFile in
+    fails_then f.failed f.interrupted 0 _ _ _ _ (c.in_ok-beside.ensures.fails h) (fails_then f.failed f.interrupted 0 _ _ _ _ (c.in_ok-stamp_behind.ensures.fails h) (c.is_still.ensures.fails h))

@@ -1,5 +1,5 @@
 -- The generation was in force when the file was marked, so what is found stood there then.
-use Rattle.std.proofs.Common.{◌≡◌, ◌*◌, ◌≤◌, ◌∙◌, ◌++◌, List, ℕ, ap, subst, sym, arith}
+use Rattle.std.proofs.Common.{◌≡◌, ◌*◌, ◌^◌, ◌≤◌, ◌∙◌, ◌++◌, List, ℕ, ap, subst, sym, arith}
 use Rattle.std.proofs.lemmas.Result.{err_from_is_err_and}
 use Rattle.pk_manifest.specs.Sound.{named}
 use Rattle.pk_manifest.specs.Spelling.{view}
@@ -9,6 +9,7 @@ use Rattle.pk_snapshot.specs.Latest.{IsSnapshot}
 use Rattle.pk_snapshot.specs.Shared.{IsChosen}
 use Rattle.pk_snapshot.specs.Shown.{own_extents}
 use Rattle.pk_manifest.proofs.Evolving.{evolves_here, evolves_then}
+use Rattle.pk_snapshot.proofs.CallLemmas.{fails_then, fails_within, no_calls}
 use Rattle.pk_snapshot.proofs.ConfirmLemmas.{confirmed_again}
 use Rattle.pk_snapshot.proofs.FoundLemmas.{of_some}
 use Rattle.pk_snapshot.proofs.LatestLemmas.{evolves_marked, evolves_thrice, shows_of, snapshot_of}
@@ -18,32 +19,42 @@ use Rattle.pk_snapshot.proofs.looking.look.Given as given
 use Rattle.pk_snapshot.proofs.looking.look.Goals as goal
 use Rattle.pk_snapshot.proofs.looking.look.Goals.{After-from, After-read_manifest}
 
--- what was chosen, confirmed and marked
-module _ (g : given.Over) (c : goal.After-read_manifest g) (h : g.F.SharedFile.honest) where
-  chosen : IsChosen (g.F.SharedFile.content c.args.file.now) (g.F.SharedFile.content c.choose.new.file) c.in-Some.field-0.half c.in-Some.field-0.generation
-  chosen = of_some (λ (x : Chosen). IsChosen (g.F.SharedFile.content c.args.file.now) (g.F.SharedFile.content c.choose.new.file) x.half x.generation) c.in-Ok-choose.chosen c.in-Some.field-0 c.in-Some.is (c.in-Ok-choose.ensures.given h)
+-- a length that is asked for leaves the bytes
+evolves_from : {old mid new : List ℕ} → mid ≡ old → Evolves mid new → Evolves old new
+evolves_from {new = new} same evolves = subst (λ (l : List ℕ). Evolves l new) same evolves
 
-  low : c.in-Some.field-0.generation ≤ in_force (g.F.SharedFile.content c.mark.new.self)
+evolves_to : {old mid new : List ℕ} → new ≡ mid → Evolves old mid → Evolves old new
+evolves_to {old = old} same evolves = subst (λ (l : List ℕ). Evolves old l) (sym same) evolves
+
+-- what was chosen, confirmed and marked, and what was there as the length was asked for again
+module _ (g : given.Over) (c : goal.After-read_manifest g) (h : g.F.SharedFile.honest) where
+  chosen : IsChosen (g.F.SharedFile.content c.length_of.new.file) (g.F.SharedFile.content c.choose.new.file) c.in-Some.field-0.half c.in-Some.field-0.generation
+  chosen = of_some (λ (x : Chosen). IsChosen (g.F.SharedFile.content c.length_of.new.file) (g.F.SharedFile.content c.choose.new.file) x.half x.generation) c.in-Ok-choose.chosen c.in-Some.field-0 c.in-Some.is (c.in-Ok-choose.ensures.given h)
+
+  low : c.in-Some.field-0.generation ≤ in_force (g.F.SharedFile.content c.length_of-2.new.file)
   low =
       let f = g.F.SharedFile in
       let looked = f.content c.choose.new.file in
       let again = f.content c.confirm.new.file in
-      let there = confirmed_again (f.content c.args.file.now) looked looked again c.in-Some.field-0.half c.in-Some.field-0.generation chosen.confirms (evolves_here looked) (c.in_ok-confirm.ensures.given h) in
+      let there = confirmed_again (f.content c.length_of.new.file) looked looked again c.in-Some.field-0.half c.in-Some.field-0.generation chosen.confirms (evolves_here looked) (c.in_ok-confirm.ensures.given h) in
       let up : in_force again ≤ in_force (f.content c.mark.new.self) = (c.mark.ensures.evolves h).rises in
-      omega (arith, there, up)
+      omega (arith, there, up, ap in_force (c.length_of-2.ensures.bytes h))
 
-  same : g.F.SharedFile.content c.mark.new.self ≡ g.F.SharedFile.marked c.read_manifest.new.file
-  same = sym (c.read_manifest.ensures.marked h ∙ c.mark.ensures.marked h)
+  marks : g.F.SharedFile.marked c.read_manifest.new.file ≡ g.F.SharedFile.content c.mark.new.self
+  marks = c.read_manifest.ensures.marked h ∙ c.length_of-2.ensures.marked h ∙ c.mark.ensures.marked h
+
+  same : g.F.SharedFile.content c.length_of-2.new.file ≡ g.F.SharedFile.marked c.read_manifest.new.file
+  same = c.length_of-2.ensures.bytes h ∙ sym marks
 
   evolved : Evolves (g.F.SharedFile.content c.args.file.now) (g.F.SharedFile.content c.read_manifest.new.file)
   evolved =
       let f = g.F.SharedFile in
       evolves_marked (f.content c.args.file.now) (f.content c.choose.new.file) (f.content c.confirm.new.file) (f.content c.mark.new.self) (f.marked c.read_manifest.new.file) (f.content c.read_manifest.new.file)
-      (c.in-Ok-choose.ensures.evolves h) (c.in_ok-confirm.ensures.evolves h) (c.mark.ensures.evolves h) (c.read_manifest.ensures.marked h ∙ c.mark.ensures.marked h) (g.met.F.SharedFile.marked_before c.read_manifest.new.file h)
+      (evolves_from (c.length_of.ensures.bytes h) (c.in-Ok-choose.ensures.evolves h)) (c.in_ok-confirm.ensures.evolves h) (c.mark.ensures.evolves h) marks (g.met.F.SharedFile.marked_before c.read_manifest.new.file h)
 
 -- what is shown of it
-snapshot : (g : given.Over) (c : goal.After-from g) → g.F.SharedFile.honest → c.in-Some.field-0.generation ≤ in_force (g.F.SharedFile.content c.mark.new.self)
-    → g.F.SharedFile.content c.mark.new.self ≡ g.F.SharedFile.marked c.read_manifest.new.file
+snapshot : (g : given.Over) (c : goal.After-from g) → g.F.SharedFile.honest → c.in-Some.field-0.generation ≤ in_force (g.F.SharedFile.content c.length_of-2.new.file)
+    → g.F.SharedFile.content c.length_of-2.new.file ≡ g.F.SharedFile.marked c.read_manifest.new.file
     → IsSnapshot (g.F.SharedFile.marked c.read_manifest.new.file) c.in-Some.field-0.half c.in-Some.field-0.generation (512 * c.from.result) c.in-Ok-of.shown.extents.items
 snapshot g c h there is =
     let half = c.in-Some.field-0.half in
@@ -53,19 +64,20 @@ snapshot g c h there is =
     let len = 512 * c.from.result in
     let long : len ≡ 512 * c.in_ok-manifest.manifest.units = ap (λ (n : ℕ). 512 * n) c.from.ensures in
     subst (λ (l : List ℕ). IsSnapshot l half generation len shown) is
-    (snapshot_of (g.F.SharedFile.content c.mark.new.self) half generation body len shown (c.in_ok-manifest.ensures.found h there) long (covers_alike (named body ++ own_extents half) shown c.in-Ok-of.ensures))
+    (snapshot_of (g.F.SharedFile.content c.length_of-2.new.file) half generation body len shown (c.in_ok-manifest.ensures.found h there) long (covers_alike (named body ++ own_extents half) shown c.in-Ok-of.ensures))
 
 pub returns-clause-fresh : goal.returns-clause-fresh
 returns-clause-fresh g c = λ h.
     let f = g.F.SharedFile in
     let w = (goal.at.returns-clause-fresh g c).After-read_manifest in
-    let before = f.content c.args.file.now in
+    let before = f.content c.length_of.new.file in
     let looked = f.content c.choose.new.file in
-    let start = f.content c.mark.new.self in
+    let start = f.content c.length_of-2.new.file in
     let found = c.in_ok-manifest.ensures.found h (low g w h) in
-    let after : Evolves looked start = evolves_then looked (f.content c.confirm.new.file) start (c.in_ok-confirm.ensures.evolves h) (c.mark.ensures.evolves h) in
+    let after : Evolves looked start = evolves_to (c.length_of-2.ensures.bytes h) (evolves_then looked (f.content c.confirm.new.file) (f.content c.mark.new.self) (c.in_ok-confirm.ensures.evolves h) (c.mark.ensures.evolves h)) in
     let whole : Evolves before start = evolves_then before looked start (c.in-Ok-choose.ensures.evolves h) after in
-    fresh before looked start c.in-Some.field-0.half c.in-Some.field-0.generation (chosen g w h) after whole found.gate found.stamp_is
+    let rose = fresh before looked start c.in-Some.field-0.half c.in-Some.field-0.generation (chosen g w h) after whole found.gate found.stamp_is in
+    omega (arith, rose, ap in_force (c.length_of.ensures.bytes h))
 
 pub returns-clause-shows : goal.returns-clause-shows
 returns-clause-shows g c = λ h.
@@ -88,14 +100,16 @@ returns-in_err-manifest-clause-refused g c = λ h.
     let f = g.F.SharedFile in
     let w = (goal.at.returns-in_err-manifest-clause-refused g c).After-read_manifest in
     let p = err_from_is_err_and c.from_residual-in_err-manifest.result c.from_residual-in_err-manifest.ensures.1 in
-    rw (p.1, p.2) (body_refused (f.content c.args.file.now) (f.content c.read_manifest.new.file) (f.content c.mark.new.self) (f.marked c.read_manifest.new.file) c.in-Some.field-0.half c.in-Some.field-0.generation
+    rw (p.1, p.2) (body_refused (f.content c.args.file.now) (f.content c.read_manifest.new.file) (f.content c.length_of-2.new.file) (f.marked c.read_manifest.new.file) c.in-Some.field-0.half c.in-Some.field-0.generation
     c.in_err-manifest.field-0.0 (same g w h) (c.in_err-manifest.ensures.refused h (low g w h)))
 
 pub returns-in_err-confirm-clause-evolves : goal.returns-in_err-confirm-clause-evolves
-returns-in_err-confirm-clause-evolves g c = λ h. evolves_then _ _ _ (c.in-Ok-choose.ensures.evolves h) (c.in_err-confirm.ensures.evolves h)
+returns-in_err-confirm-clause-evolves g c = λ h. evolves_then _ _ _ (evolves_from (c.length_of.ensures.bytes h) (c.in-Ok-choose.ensures.evolves h)) (c.in_err-confirm.ensures.evolves h)
 
-pub returns-in_default-len-clause-evolves : goal.returns-in_default-len-clause-evolves
-returns-in_default-len-clause-evolves g c = λ h. evolves_thrice _ _ _ _ (c.in-Ok-choose.ensures.evolves h) (c.in_ok-confirm.ensures.evolves h) (c.mark.ensures.evolves h)
+pub returns-in_default-length_of-clause-evolves : goal.returns-in_default-length_of-clause-evolves
+returns-in_default-length_of-clause-evolves g c = λ h.
+    evolves_to (c.length_of-2.ensures.bytes h)
+    (evolves_thrice _ _ _ _ (evolves_from (c.length_of.ensures.bytes h) (c.in-Ok-choose.ensures.evolves h)) (c.in_ok-confirm.ensures.evolves h) (c.mark.ensures.evolves h))
 
 pub returns-in_err-manifest-clause-evolves : goal.returns-in_err-manifest-clause-evolves
 returns-in_err-manifest-clause-evolves g c = evolved g (goal.at.returns-in_err-manifest-clause-evolves g c).After-read_manifest
@@ -105,3 +119,13 @@ returns-in_default-of-clause-evolves g c = evolved g (goal.at.returns-in_default
 
 pub returns-clause-evolves : goal.returns-clause-evolves
 returns-clause-evolves g c = evolved g (goal.at.returns-clause-evolves g c).After-read_manifest
+
+pub returns-in_err-manifest-clause-fails : goal.returns-in_err-manifest-clause-fails
+returns-in_err-manifest-clause-fails g c = λ h.
+    let f = g.F.SharedFile in
+    let many = 2 ^ 32 in
+    let p = err_from_is_err_and c.from_residual-in_err-manifest.result c.from_residual-in_err-manifest.ensures.1 in
+    let first = fails_then f.failed f.interrupted 0 _ _ _ _ (c.in-Ok.ensures.fails h) (fails_then f.failed f.interrupted 0 _ _ _ _ (c.in-Ok-choose.ensures.fails h) (c.in_ok-confirm.ensures.fails h)) in
+    let second = fails_then f.failed f.interrupted 0 _ _ _ _ first (no_calls f.failed f.interrupted 0 _ _ (c.mark.ensures.failed h) (c.mark.ensures.interrupted h)) in
+    let third = fails_then f.failed f.interrupted 0 _ _ _ _ second (c.in-Ok-length_of.ensures.fails h) in
+    rw (p.1, p.2) (fails_then f.failed f.interrupted many _ _ _ _ (fails_within f.failed f.interrupted 0 many _ _ _ (omega arith) third) (c.in_err-manifest.ensures.fails h))

@@ -1,8 +1,10 @@
 -- What was read is confirmed.
-use Rattle.std.proofs.Common.{◌≡◌, length, drop, sym, ◌∙◌, refl, rules}
+use Rattle.std.proofs.Common.{◌≡◌, ◌≤◌, ◌^◌, true, false, length, drop, sym, ◌∙◌, refl, arith, rules}
+use Rattle.std.proofs.lemmas.Result.{err_from_is_err_and}
 use Rattle.pk_manifest.specs.declared.manifest.Manifest.{Manifest}
 use Rattle.pk_manifest.specs.Sound.{IsBody}
 use Rattle.pk_manifest.specs.Spelling.{spelling, table_of, view}
+use Rattle.pk_snapshot.proofs.CallLemmas.{fails_then, fails_within}
 use Rattle.pk_snapshot.proofs.FoundLemmas.{filled_vec, found, misplaced_body, of_none, of_some, seen_at, sound_own, undecoded}
 use Rattle.pk_snapshot.proofs.looking.read_manifest.Goals as goal
 
@@ -69,3 +71,22 @@ returns-clause-sound g c =
     let units = c.in-Some.field-0.units in
     let m = c.in-Some-decoded.manifest in
     sound_own units (view m) (of_some (λ (x : Manifest). IsBody units (view x)) c.in-Ok-decode.decoded m c.in-Some-decoded.is c.in-Ok-decode.ensures.found)
+
+pub returns-in_default-read_whole-clause-fails : goal.returns-in_default-read_whole-clause-fails
+returns-in_default-read_whole-clause-fails g c = λ h.
+    let f = g.F.SharedFile in
+    let size : length c.deref_mut.result.now ≡ c.in-Some.field-0.table.bytes = search rules in
+    let few : c.in-Some.field-0.table.bytes ≤ 2 ^ 32 = search rules in
+    fails_then f.failed f.interrupted (2 ^ 32) true _ _ _ (fails_within f.failed f.interrupted _ (2 ^ 32) false _ _ (omega arith) (c.in-Ok.ensures.fails h))
+    (fails_within f.failed f.interrupted _ (2 ^ 32) true _ _ (omega (arith, size, few)) (c.in_default-read_whole.ensures.fails h))
+
+pub returns-in_err-confirm-2-clause-fails : goal.returns-in_err-confirm-2-clause-fails
+returns-in_err-confirm-2-clause-fails g c = λ h.
+    let f = g.F.SharedFile in
+    let size : length c.deref_mut.result.now ≡ c.in-Some.field-0.table.bytes = search rules in
+    let few : c.in-Some.field-0.table.bytes ≤ 2 ^ 32 = search rules in
+    let p = err_from_is_err_and c.from_residual-in_err-confirm-2.result c.from_residual-in_err-confirm-2.ensures.1 in
+    rw (p.1, p.2)
+    (fails_then f.failed f.interrupted (2 ^ 32) _ _ _ _ (fails_within f.failed f.interrupted _ (2 ^ 32) false _ _ (omega arith) (c.in-Ok.ensures.fails h))
+    (fails_then f.failed f.interrupted (2 ^ 32) _ _ _ _ (fails_within f.failed f.interrupted _ (2 ^ 32) false _ _ (omega (arith, size, few)) (c.in-Ok-read_whole.ensures.fails h))
+    (fails_within f.failed f.interrupted 0 (2 ^ 32) _ _ _ (omega arith) (c.in_err-confirm-2.ensures.fails h))))

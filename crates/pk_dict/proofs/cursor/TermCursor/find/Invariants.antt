@@ -19,7 +19,7 @@ invariant-loop-self g l = record {
   at : g.S.ByteSource.honest → (es : List Item) (n : ℕ) → Comes (bytes_at (g.S.ByteSource.content l.fn.source) l.fn.self.place) l.fn.self es n
       → Passing (bytes_at (g.S.ByteSource.content l.fn.source) l.fn.self.place) l.self es l.word;
   asks : g.S.ByteSource.honest → (es : List Item) (n : ℕ) → Comes (bytes_at (g.S.ByteSource.content l.fn.source) l.fn.self.place) l.fn.self es n → (k m : ℕ) → group_count l.fn.self.place.terms ≤ 2 ^ k → Short m es
-      → Spent es l.word l.self (g.S.ByteSource.asked l.source) (g.S.ByteSource.asked l.fn.source + (k + 1) * (6 + asks_for (length l.word)) + 1) (6 + m);
+      → Spent es l.word l.self (g.S.ByteSource.asked l.source) (g.S.ByteSource.asked l.fn.source + (k + 3) * (6 + asks_for (length l.word)) + 1) (6 + m);
 }
 
 abbrev pub decreases-loop-self : goal.decreases-loop-self

@@ -8,5 +8,5 @@ pub returns-clause-wrote : goal.returns-clause-wrote
 returns-clause-wrote c = λ h fits.
     let le : c.min-n.result ≤ length c.args.bytes.now = omega arith in
     let e = c.in-Ok.ensures in
-    wrote_ending _ _ _ _ c.args.at c.args.bytes.now c.min-n.result c.transfer_ending-2.result _ _ c.transfer_ending-2.ensures.count
+    wrote_ending _ _ _ _ c.args.at c.args.bytes.now c.min-n.result c.end_transfer-2.result _ _ c.end_transfer-2.ensures.count
     (wrote_front _ _ _ _ c.args.at c.args.bytes.now c.min-n.result _ _ fits le e.bytes e.is_open (record { later = e.images.later; each = e.images.each }) e.known (λ image now. image_now _ _ _ _ now))

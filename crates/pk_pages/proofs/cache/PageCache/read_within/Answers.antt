@@ -6,14 +6,14 @@ use Rattle.pk_pages.proofs.ReadLemmas.{again_one}
 use Rattle.pk_pages.proofs.cache.PageCache.read_within.Goals as goal
 
 pub returns-then-copy_kept-clause-again : goal.returns-then-copy_kept-clause-again
-returns-then-copy_kept-clause-again g c =
+returns-then-copy_kept-clause-again g c was =
     let at = c.args.at in
     let n = length c.args.out.now in
     let kept = subst (λ (slots : List Slot). IsKept slots (at / page_bytes) (at % page_bytes + n)) c.deref.ensures.value (c.copy_kept.ensures.kept c.if-copy_kept.true) in
     again_one c.args.self.now.last_succeeded c.args.self.now.slots.items at n c.requires.some c.requires.within c.if-self.true (inl kept)
 
 pub returns-clause-again : goal.returns-clause-again
-returns-clause-again g c =
+returns-clause-again g c was =
     let at = c.args.at in
     let slots = c.load.new.self.slots.items in
     let long : length c.else-self.out ≡ length c.args.out.now = search rules in

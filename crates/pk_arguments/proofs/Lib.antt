@@ -1,0 +1,3 @@
+-- The lemmas of the crate.
+mod CommandLineFacts
+mod CommandLineLemmas

@@ -1,0 +1,4 @@
+-- The definitions of the crate.
+pub mod CommandLine
+pub mod Sizes
+pub mod Unasked

@@ -1,0 +1,12 @@
+-- The lemma pages; those that callers cite are public.
+pub mod CacheLemmas
+pub mod EntryLemmas
+pub mod FilterLemmas
+pub mod FrequencyLemmas
+pub mod ListLemmas
+mod NothingLemmas
+mod PrefixLemmas
+pub mod RepeatLemmas
+mod RisingLemmas
+mod RowLemmas
+mod SaidLemmas

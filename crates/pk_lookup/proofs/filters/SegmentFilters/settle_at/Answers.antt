@@ -1,0 +1,16 @@
+-- Moved filters take as many bytes as before.
+use Rattle.std.proofs.Common.{IsPermutation, arith}
+use Rattle.std.proofs.lemmas.List.Sorted.{IsPermutation-swap, sum_by-IsPermutation}
+use Rattle.pk_lookup.specs.declared.filters.SegmentFilter.{SegmentFilter}
+use Rattle.pk_lookup.specs.FilterBytes.{bytes_of}
+use Rattle.pk_lookup.proofs.filters.SegmentFilters.settle_at.Goals as goal
+
+pub returns-clause-limit : goal.returns-clause-limit
+returns-clause-limit c = λ limit.
+    let before = c.place_from.ensures.limit limit in
+    let within = c.in-Some.ensures.within in
+    let moved : IsPermutation c.place_from.new.self.kept.items c.swap.new.self.items = IsPermutation-swap _ _ c.args.place c.in-Some.from (omega (arith, within)) (omega (arith, within)) c.swap.ensures.items in
+    record {
+      counted = omega (arith, sum_by-IsPermutation (λ (k : SegmentFilter). bytes_of k.filter) _ _ moved, before.counted);
+      within = before.within;
+    }

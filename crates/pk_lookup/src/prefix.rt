@@ -1,0 +1,151 @@
+//! The posting lists of all words of a segment that begin alike, united.
+ghost use Rattle.std.specs.Prelude.{◌≡◌, ◌<◌, ℕ, List, length, None};
+ghost use Rattle.std.specs.Prelude.{IfErr, IfOk, IfSome, IsOk, MatchResult, OnOk};
+ghost use Rattle.std.specs.List.Sorted.{IsStrictlyIncreasing};
+ghost use Rattle.pk_dict.specs.Dictionary.{Item, items_with_prefix};
+ghost use Rattle.pk_dict.specs.Place.{LiesIn, bytes_at};
+ghost use Rattle.pk_dict.specs.Prefix.{GivesNext, HasLeft, words_to_come};
+ghost use Rattle.pk_model.specs.Collection.{Doc, answer};
+ghost use Rattle.pk_model.specs.Tree.{Prefix};
+ghost use Rattle.pk_posting.specs.Frames.{ReadsSource};
+ghost use Rattle.pk_segment.specs.Puts.{PutsAs};
+ghost use Rattle.pk_segment.specs.Indexed.{items_of, list_with};
+ghost use Rattle.pk_segment.specs.Listing.{LeadsTo};
+ghost use Rattle.pk_segment.specs.Opened.{IsSegmentOf};
+ghost use Rattle.pk_segment.specs.Placed.{IsIndexedOf};
+ghost use Rattle.pk_segment.specs.Reading.{CountsReads, IsNoDamage};
+ghost use Rattle.pk_segment.specs.Spelling.{IndexSpells};
+
+use crate::listed::PlannedSegment;
+use crate::lists::{copy_rising, place_of};
+use crate::pivots::PivotTables;
+use pk_dict::{Entry, PrefixCursor, Windows};
+use pk_posting::{ByteSource, MOST_LENT};
+use pk_segment::{ReadFault, Segment};
+use pk_union::UnionBuilder;
+use std::alloc::Global;
+
+// How many bytes of a dictionary are read ahead at once: a few groups of it.
+const AHEAD: u32 = 512;
+
+/// Puts the numbers of the segment's documents that have a word that begins so into `out`. The
+/// lists go past the cache of blocks: there may be so many that nothing else would be kept there.
+///
+/// The first word that begins so is sought by the table of the dictionary's pivots, if it has one;
+/// whatever this has, the answer is the same.
+///
+/// `Damaged` where the dictionary or a list is none, `Disk` where a read failed, or `Memory`.
+pub fn put_with_prefix<S: ByteSource>(
+    source: &mut S,
+    tables: &mut PivotTables,
+    at: &PlannedSegment,
+    prefix: &str,
+    out: &mut Vec<u32>,
+) -> Result<(), ReadFault>
+    ensures numbers { S.honest → (docs : List Doc) → IndexSpells (S.content source.old) docs
+        → IsIndexedOf at.now.opened.now.segment docs
+        → PutsAs (answer (Prefix prefix.now) docs) out.new.items result }
+    ensures rising { OnOk result (IsStrictlyIncreasing out.new.items) }
+    ensures left { ReadsSource S.ByteSource CountsReads result source.old source.new }
+{
+    let alloc = *out.allocator();
+    let (pivots, long) = tables.table_of(alloc, at.place, &at.opened.entry)?;
+    unite_lists(source, pivots, long, &at.opened.segment, prefix, out)
+}
+
+// The same by the tables of the segment's dictionary.
+fn unite_lists<S: ByteSource>(
+    source: &mut S,
+    pivots: &mut [u64],
+    long: &mut [u8; MOST_LENT],
+    segment: &Segment,
+    prefix: &str,
+    out: &mut Vec<u32>,
+) -> Result<(), ReadFault>
+    ensures numbers { S.honest → (docs : List Doc) → IndexSpells (S.content source.old) docs
+        → IsIndexedOf segment.now docs
+        → PutsAs (answer (Prefix prefix.now) docs) out.new.items result }
+    ensures rising { OnOk result (IsStrictlyIncreasing out.new.items) }
+    ensures left { ReadsSource S.ByteSource CountsReads result source.old source.new }
+{
+    let alloc = *out.allocator();
+    let mut words = words_with_prefix(alloc, source, segment, prefix.as_bytes())?;
+    let mut united = UnionBuilder::new(alloc, segment.first(), segment.last());
+    let mut list = Vec::new(alloc);
+    'entries: while let Some(entry) = next_entry(source, segment, &mut words, pivots, long)? {
+        put_list(source, segment, entry, &mut list)?;
+        united.put(&list)?;
+    }
+    united.finish(out)?;
+    Ok(())
+}
+
+// A cursor before the first word of the segment that begins so.
+fn words_with_prefix<'a, S: ByteSource>(
+    alloc: Global,
+    source: &S,
+    segment: &Segment,
+    prefix: &'a [u8],
+) -> Result<PrefixCursor<'a>, ReadFault>
+    ensures all { S.honest → (docs : List Doc) → IndexSpells (S.content source.now) docs
+        → IsIndexedOf segment.now docs → MatchResult result (λ words.
+        HasLeft (bytes_at (S.content source.now) words.cursor.place) words (items_of docs)
+        (items_with_prefix prefix.now (items_of docs))) IsNoDamage }
+    ensures lies { IfOk result (λ words. LiesIn words.cursor.place (length (S.content source.now))) }
+    ensures sound { IfOk result (λ words. words.cursor.fault ≡ None) }
+    ensures fault { IfErr result (λ e. e ≡ ReadFault.Damaged) }
+{
+    let place = segment.dictionary_place();
+    if u64::from(source.len()) < u64::from(place.at) + u64::from(place.bytes) {
+        return Err(ReadFault::Damaged);
+    }
+    Ok(PrefixCursor::open(alloc, place, AHEAD, prefix))
+}
+
+// The entry of the next word that begins so. The search for the first goes by windows, since the
+// stretches that it reads lie close together.
+fn next_entry<S: ByteSource>(
+    source: &mut S,
+    segment: &Segment,
+    words: &mut PrefixCursor,
+    pivots: &mut [u64],
+    long: &mut [u8; MOST_LENT],
+) -> Result<Option<Entry>, ReadFault>
+    requires lies { LiesIn words.old.cursor.place (length (S.content source.old)) }
+    requires sound { words.old.cursor.fault ≡ None }
+    ensures gives { S.honest → (es rest : List Item)
+        → HasLeft (bytes_at (S.content source.old) words.old.cursor.place) words.old es rest
+        → MatchResult result
+        (GivesNext (bytes_at (S.content source.old) words.old.cursor.place) words.new es rest)
+        IsNoDamage }
+    ensures fewer { IfOk result (λ given. IfSome given (λ _.
+        words_to_come words.new < words_to_come words.old)) }
+    ensures place { words.new.cursor.place ≡ words.old.cursor.place }
+    ensures sound { IsOk result → words.new.cursor.fault ≡ None }
+    ensures left { ReadsSource S.ByteSource CountsReads result source.old source.new }
+{
+    if !words.word().is_empty() {
+        let next = words.next(source, pivots)?;
+        return Ok(next);
+    }
+    let mut windows = Windows::on(source, segment.dictionary_place(), long);
+    let entry = words.next(&mut windows, pivots)?;
+    Ok(entry)
+}
+
+// Puts the list that an entry leads to into `out`.
+fn put_list<S: ByteSource>(
+    source: &mut S,
+    segment: &Segment,
+    entry: Entry,
+    out: &mut Vec<u32>,
+) -> Result<(), ReadFault>
+    ensures numbers { S.honest → (docs : List Doc) → IndexSpells (S.content source.old) docs
+        → IsSegmentOf segment.now docs → (word : List ℕ) → LeadsTo docs word entry
+        → PutsAs (list_with word docs) out.new.items result }
+    ensures rising { OnOk result (IsStrictlyIncreasing out.new.items) }
+    ensures left { ReadsSource S.ByteSource CountsReads result source.old source.new }
+{
+    let lies = place_of(segment, entry)?;
+    copy_rising(source, lies, entry.frequency, out)
+}

@@ -1,0 +1,3 @@
+-- The lemma pages.
+mod InRowLemmas
+mod SaidLemmas

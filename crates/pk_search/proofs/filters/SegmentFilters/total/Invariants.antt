@@ -1,7 +1,0 @@
--- The bytes of the filters so far.
-use Rattle.std.proofs.Common.{◌≡◌, ◌-◌, ◌^◌, min, take}
-use Rattle.pk_search.specs.FilterBytes.{bytes_in}
-use Rattle.pk_search.proofs.filters.SegmentFilters.total.Given as goal
-
-abbrev pub invariant-loop-kept : goal.invariant-loop-kept
-invariant-loop-kept l = l.bytes ≡ min (bytes_in (take l.kept-index l.self.kept.items)) (2 ^ 64 - 1)

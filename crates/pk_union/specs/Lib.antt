@@ -1,0 +1,4 @@
+-- The definitions that the contracts cite.
+pub mod Stack
+pub mod Union
+pub mod Uniting
