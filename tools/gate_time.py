@@ -15,7 +15,9 @@ and behind it what the table leaves out: the rest of the command's processor tim
 the tests and programs that ran, of `rt` itself, and of the last quarter of a second of each run.
 The clock's minutes are of the whole. The command's output goes to standard error. Where it fails, or
 is broken off by Ctrl-C, the table is of what was run until then, and the status is 1; where it does
-not, a file that --into names has the same lines.
+not, a file that --into names has the same lines. Where a commit has that file already, the last line
+tells what the crates that have not changed since it was committed took of their time there, and so
+what all would have taken on the machine of that table: a machine may take twice as long as another.
 """
 import collections
 import os
@@ -29,6 +31,11 @@ import time
 BUDGET_MINUTES = 140
 LOOK_EACH = 0.25
 TICKS = os.sysconf("SC_CLK_TCK")
+
+# What `table` tells: a row, the day, and the minutes of all.
+ROW = re.compile(r"^\| `(\w+)` \| (\d+ \| \d+ \| \d+) \|", re.M)
+DAY = re.compile(r"^What .* took on (.*), by ", re.M)
+ALL = re.compile(r"^(\S+) processor minutes in ", re.M)
 
 
 def process(folder):
@@ -121,6 +128,37 @@ def table(command, parts, seconds, minutes):
            f"{os.cpu_count()} processors; the gate may take {BUDGET_MINUTES}")
 
 
+def changed_since(file):
+    """The crates that differ from those of the commit that last changed a file; None where there is
+    no such commit."""
+    git = subprocess.run(["git", "log", "-1", "--format=%H", "--", file], check=False,
+                         capture_output=True, text=True)
+    commit = git.stdout.strip()
+    if git.returncode or not commit:
+        return None
+    names = subprocess.run(["git", "diff", "--name-only", commit, "--", "crates"],
+                           check=True, capture_output=True, text=True).stdout
+    return {name.split("/")[1] for name in names.splitlines()}
+
+
+def beside(earlier, told, changed):
+    """The line that tells what a table comes to on the machine of an earlier one, both as `table`
+    tells them; none where no crate has stayed."""
+    def seconds(table):
+        return {name: sum(map(int, parts.split(" | "))) for name, parts in ROW.findall(table)}
+
+    before, now = seconds(earlier), seconds(told)
+    same = (before.keys() & now.keys()) - changed
+    of_before = sum(before[name] for name in same)
+    if not of_before:
+        return ""
+    ratio = sum(now[name] for name in same) / of_before
+    day, = DAY.findall(earlier)
+    then, minutes = (float(*ALL.findall(table)) for table in (earlier, told))
+    return (f"the {len(same)} crates that have not changed took {ratio:.2f} of their time of {day}, "
+            f"when all took {then}: on that machine this is {minutes / ratio:.1f} minutes\n")
+
+
 def main(words):
     file, command = None, words
     if words[:1] == ["--into"]:
@@ -128,6 +166,9 @@ def main(words):
     command = command or ["rt", "ci"]
     parts, seconds, minutes, status = watch(command)
     told = "\n".join(table(command, parts, seconds, minutes)) + "\n"
+    changed = changed_since(file) if file and os.path.exists(file) else None
+    if changed is not None:
+        told += beside(pathlib.Path(file).read_text(encoding="utf-8"), told, changed)
     print(told, end="")
     if status:
         sys.exit(f"{' '.join(command)} ended with status {status}: the figures are of a part of it")

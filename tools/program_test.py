@@ -11,6 +11,7 @@ import errno
 import fcntl
 import os
 import re
+import resource
 import struct
 import subprocess
 
@@ -98,6 +99,20 @@ class ManySegments(ProgramTest):
         self.assertEqual(self.in_force(), (1, 40))
         checked = self.run_program("check", "s")
         self.assertEqual(checked, (0, b"ok 4097 documents next 4098 segments 1\n", b""))
+
+    def pages_taken(self, commits):
+        """How many pages of memory the system gave for a session of so many commits."""
+        before = resource.getrusage(resource.RUSAGE_CHILDREN).ru_minflt
+        told = self.run_program("run", "s", lines=b"add a\ncommit\n" * commits)
+        self.assertEqual((told[0], told[1].count(b"committed\n")), (0, commits))
+        return resource.getrusage(resource.RUSAGE_CHILDREN).ru_minflt - before
+
+    def test_commits_take_what_earlier_ones_let_go(self):
+        """Of 3,900 segments the entries have 39 pages, and the table that spells them as many."""
+        self.lay_out(3_900)
+        few = self.pages_taken(10)
+        many = self.pages_taken(110)
+        self.assertLess(many - few, 100 * 10)
 
     def test_one_more_is_damage(self):
         self.lay_out(self.MOST + 1)

@@ -53,7 +53,7 @@ SHELL_REASONS = first_quoted(row[0] for row in rows(section(SHELL, "## Refusals"
 PROGRAM = SHELL.partition("## The program")[2]
 PROGRAM_REASONS = first_quoted(row[0] for row in rows(section(PROGRAM, "| reason |",
                                                               "An argument is text")))
-HELPS = text_of("crates/pk_command/src/command_line.rt")
+HELPS = text_of("crates/pk_arguments/src/command_line.rt")
 HELP = section(HELPS, "const RUN_HELP", '";')
 READ_HELP = section(HELPS, "const READ_HELP", '";')
 # What a session that only reads refuses, beside the reasons of each session.

@@ -1,0 +1,59 @@
+"""What a table of the gate's costs comes to on the machine of an earlier one."""
+import pathlib
+import sys
+import tempfile
+import unittest
+
+TOOLS = pathlib.Path(__file__).resolve().parent.parent
+sys.path.insert(0, str(TOOLS))
+
+import gate_time  # noqa: E402
+
+EARLIER = """\
+What `rt ci` took on 1 May 2026, by tools/gate_time.py: a processor, load 4, 4, 4
+
+| crate | proof, s | tests, s | edits, s | together, min |
+|---|---|---|---|---|
+| `changed` | 100 | 0 | 0 | 1.7 |
+| `gone` | 100 | 0 | 0 | 1.7 |
+| `high` | 60 | 20 | 10 | 1.5 |
+| `low` | 10 | 0 | 0 | 0.2 |
+| all of these | 270 | 20 | 10 | 5.0 |
+
+running, and what ended between two looks: 0.1 min
+5.1 processor minutes in 2.0 minutes of the clock on 4 processors; the gate may take 140
+"""
+NOW = """\
+What `rt ci` took on 2 May 2026, by tools/gate_time.py: a processor, load 4, 4, 4
+
+| crate | proof, s | tests, s | edits, s | together, min |
+|---|---|---|---|---|
+| `changed` | 900 | 0 | 0 | 15.0 |
+| `high` | 120 | 45 | 20 | 3.1 |
+| `low` | 15 | 0 | 0 | 0.2 |
+| `new` | 70 | 0 | 0 | 1.2 |
+| all of these | 1105 | 45 | 20 | 19.5 |
+
+running, and what ended between two looks: 0.5 min
+20.0 processor minutes in 6.0 minutes of the clock on 4 processors; the gate may take 140
+"""
+
+
+class Beside(unittest.TestCase):
+    def test_crates_that_stay_are_the_yardstick(self):
+        """200 s for 100, so twice as slow; what is changed, new or gone says nothing of that."""
+        self.assertEqual(
+            gate_time.beside(EARLIER, NOW, {"changed"}),
+            "the 2 crates that have not changed took 2.00 of their time of 1 May 2026, when all took "
+            "5.1: on that machine this is 10.0 minutes\n")
+
+    def test_nothing_is_told_where_all_have_changed(self):
+        self.assertEqual(gate_time.beside(EARLIER, NOW, {"changed", "high", "low"}), "")
+
+    def test_a_file_that_no_commit_has_is_no_yardstick(self):
+        with tempfile.NamedTemporaryFile() as file:
+            self.assertIsNone(gate_time.changed_since(file.name))
+
+
+if __name__ == "__main__":
+    unittest.main()
