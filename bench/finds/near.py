@@ -5,7 +5,7 @@ one that reads each by itself.
 
 Stores of one segment are made in FOLDER, of texts of a few lengths: all of them, every second or
 every fourth has the phrase's words, but not in a row, so that its text is sought through. A build
-that reads each text by itself is one of the program in whose crates/pk_search/src/in_row.rt
+that reads each text by itself is one of the program in whose crates/pk_phrase/src/in_row.rt
 COPIED_PER_CALL is 2^63. The programs take turns, and of each the best round counts.
 """
 

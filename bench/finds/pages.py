@@ -3,7 +3,7 @@
     pages.py PROGRAM OTHER LINES FOLDER
 
 FOLDER has the merged store that run.sh left, and LINES its texts. A build without pages is one of
-the program in whose crates/pk_find/src/running.rt PAGES is 0.
+the program in whose crates/pk_command/src/running.rt PAGES is 0.
 """
 
 import os
