@@ -11,7 +11,8 @@ memory of its own. A creation that was refused memory has changed no byte of its
 
 A line that is asked again makes other calls, and so does a cache that was refused memory. So where
 a row counts its calls, these are to be as they are written up to more reads, unless a line was asked
-again since the opening. Where a row has a failing call, this may come in another line behind the
+again since the opening; below a page cache up to fewer, too, since one without memory for what it
+missed keeps each page at once. Where a row has a failing call, this may come in another line behind the
 opening; then there is left what there was before that line or behind it. An opening that is asked
 again has no failing call any more.
 
@@ -105,8 +106,10 @@ class Course:
         if self.lines[place] != "!calls" or answer == wanted:
             return answer == wanted
         opened = max(at for at in range(place) if self.lines[at] in OPENINGS)
+        may_read_less = any(line.startswith("!pages ") for line in self.lines)
         return any(opened < at < place for at in again) or \
-            len(answer) >= len(wanted) and answer.replace("r", "") == wanted.replace("r", "")
+            (may_read_less or len(answer) >= len(wanted)) and \
+            answer.replace("r", "") == wanted.replace("r", "")
 
 
 class Lines:

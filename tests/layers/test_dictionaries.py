@@ -128,13 +128,14 @@ class Dictionaries(unittest.TestCase):
                                    ("ajjji", 4_999, 5_000), ("ajjjj", 5_000, 5_000),
                                    ("b", 5_000, 5_000), ("A", 0, 0)):
             sought = hexed(prefix.encode())
-            told = over(data, f"prefix 5000 {sought}",
-                        *(f"passed-in {NEVER} {place(data, 5_000)} {ahead} {sought}"
-                          for ahead in AHEAD))
+            passes = [f"passed-in {NEVER} {place(data, 5_000)} {ahead} {sought}" for ahead in AHEAD]
+            by_pivots = [line for pivot in PIVOTS
+                         for line in (f"pivots {listed([pivot] * 16)}", *passes)]
+            told = over(data, f"prefix 5000 {sought}", *passes, *by_pivots)
             wanted = [f"{hexed(terms[i])}:{entry(i)}" for i in range(start, end)] or ["-"]
             self.assertEqual(told[0].split(), wanted, prefix)
-            for by_cursor in told[1:]:
-                self.assertEqual(by_cursor.split()[:-2], wanted, prefix)
+            by_cursor = [answer.split()[:-2] for answer in told[1:] if answer]
+            self.assertEqual(by_cursor, [wanted] * len(AHEAD) * (1 + len(PIVOTS)), prefix)
 
 
 class Asking(unittest.TestCase):
@@ -175,16 +176,22 @@ class Asking(unittest.TestCase):
         - the fifth of group 0: one piece: 4 + 1;
         - the tenth of the last group, behind which there is none: the numbers take 2 + 3 + 1 bytes,
           so ten terms take 8 * 9 + 2 * 10 = 92, and one piece has them: 2 + 1.
+
+        A cursor to a term asks for both groups too, then for the offset of the first of them, and
+        for one piece of 4,096 bytes, which has the terms up to the one behind it.
         """
         terms = words(4096)
         data = written(terms)
         there = f"{NEVER} {place(data, 4096)}"
         cases = ((1605, 5), (1615, 6), (5, 5), (4090, 3))
+        begun = ((1605, 6), (5, 6), (4090, 4))
         told = over(data, f"pivots {listed([0] * 512)}",
                     f"near-in {there} {' '.join(map(hexed, terms))}",
-                    *[f"near-in {there} {hexed(terms[at])}" for at, _ in cases])
+                    *[f"near-in {there} {hexed(terms[at])}" for at, _ in cases],
+                    *[f"passed-in {there} 4096 {hexed(terms[at])}" for at, _ in begun])
         self.assertEqual(told[1].split()[:-2], [entry(i) for i in range(4096)])
-        self.assertEqual(told[2:], [f"{entry(at)} {asked} 0" for at, asked in cases])
+        self.assertEqual(told[2:], [f"{entry(at)} {asked} 0" for at, asked in cases]
+                         + [f"{hexed(terms[at])}:{entry(at)} {asked} 0" for at, asked in begun])
 
 
 class Damage(unittest.TestCase):

@@ -1,5 +1,5 @@
 """Pages of a disk that are kept: each read gives what the disk below has, also after writes and
-after calls that failed, and what is kept is not read again."""
+after calls that failed; a page is kept at its second miss, and then not read again."""
 
 import unittest
 
@@ -14,14 +14,18 @@ AROUND = [(at, n) for at in (0, 1, 4000, 4094, 4095, 4096, 4097, 8190, 8191, 819
                              10_000)
           for n in (0, 1, 2, 7, 16, 96, 97, 4095, 4096, 4097, 8192, 8193) if at + n <= len(SAMPLE)]
 
-# Calls that make 12 calls below, with two pages; a write of so many bytes with the number after it.
-CALLS = (("read", 0, 16), ("read", 4090, 16), ("write", 4090, 8, 252),
+# Calls that make 15 calls below, with two pages; a write of so many bytes with the number after it.
+CALLS = (("read", 0, 16),
+         ("read", 4090, 16),  # the first page whole, and 10 bytes of the second
+         ("read", 4090, 16),  # the second page whole
+         ("write", 4090, 8, 252),
          ("read", 4090, 16),  # both pages are read again
-         ("sync",), ("read", 9984, 16), ("write", 9990, 9, 253), ("read", 9984, 16),
+         ("sync",), ("read", 9984, 16), ("read", 9984, 16), ("write", 9990, 9, 253),
+         ("read", 9984, 16),
          ("read", 8000, 300),  # kept
          ("read", 100, 5000), ("write", 0, 1, 254), ("read", 0, 16),
          ("read", 0, 16))  # kept
-CALLS_BELOW = 12
+CALLS_BELOW = 15
 
 
 def step(name, at=0, n=0, number=0):
@@ -59,15 +63,16 @@ class Pages(unittest.TestCase):
     def test_what_is_kept_is_not_read_again(self):
         """Reads in their order, and how many bytes were read below by then, with two pages."""
         reads = (
-            # The first page, and what is in it.
-            (0, 16, 4_096), (100, 16, 4_096), (4_080, 16, 4_096),
-            # Over the border: one page more.
-            (4_090, 16, 8_192), (4_090, 16, 8_192), (0, 4_096, 8_192),
-            # The short last page takes the place of the first.
-            (9_984, 16, 10_000), (8_192, 1_808, 10_000), (8_000, 300, 10_000), (100, 16, 14_096),
-            (5_000, 16, 14_096),
+            # Bytes of the first page, then the page, then what is in it.
+            (0, 16, 16), (100, 16, 4_112), (4_080, 16, 4_112),
+            # Over the border: 10 bytes of the next page, then that page.
+            (4_090, 16, 4_122), (4_090, 16, 8_218), (0, 4_096, 8_218),
+            # The short last page takes the place of the first, as it is missed a second time.
+            (9_984, 16, 8_234), (100, 16, 8_234), (8_192, 1_808, 10_042), (8_000, 300, 10_042),
+            # The first page was missed before: it is read whole, and takes its place again.
+            (100, 16, 14_138), (5_000, 16, 14_138),
             # Longer than a page: as it is, each time. An empty one reads nothing.
-            (1, 5_000, 19_096), (1, 5_000, 24_096), (0, 0, 24_096), (100, 16, 24_096))
+            (1, 5_000, 19_138), (1, 5_000, 24_138), (0, 0, 24_138), (100, 16, 24_138))
         lines = ["pages 2 " + " ".join(step("read", at, n) for at, n, _ in reads[:end])
                  for end in range(1, len(reads) + 1)]
         calls = [("read", at, n) for at, n, _ in reads]
