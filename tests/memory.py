@@ -14,7 +14,7 @@ a row counts its calls, these are to be as they are written up to more reads, un
 again since the opening; below a page cache up to fewer, too, since one without memory for what it
 missed keeps each page at once. Where a row has a failing call, this may come in another line behind the
 opening; then there is left what there was before that line or behind it. An opening that is asked
-again has no failing call any more.
+again has no failing call any more; below a page cache that reads less the call may never come.
 
 Of a row that is too long, as LINES and BYTES say, each loop has FEW rounds, or TWO: what is answered
 then is what the player answers with no request refused. A row that is played below page caches alone is
@@ -106,9 +106,8 @@ class Course:
         if self.lines[place] != "!calls" or answer == wanted:
             return answer == wanted
         opened = max(at for at in range(place) if self.lines[at] in OPENINGS)
-        may_read_less = any(line.startswith("!pages ") for line in self.lines)
         return any(opened < at < place for at in again) or \
-            (may_read_less or len(answer) >= len(wanted)) and \
+            (may_read_less(self.lines) or len(answer) >= len(wanted)) and \
             answer.replace("r", "") == wanted.replace("r", "")
 
 
@@ -184,9 +183,8 @@ class Play:
                       place for place, line in enumerate(self.lines)
                       if line.startswith(("!fail ", "!stop "))}
 
-    def course(self, again):
-        """How it goes where those lines are asked again."""
-        dropped = next((plan for opening, plan in self.plans.items() if opening in again), None)
+    def course(self, dropped):
+        """How it goes where the call that this line plans does not fail."""
         if dropped not in self.courses:
             texts = [*self.texts[:dropped], NEVER, *self.texts[dropped + 1:]]
             self.courses[dropped] = Course(texts, self.asked)
@@ -214,7 +212,14 @@ class Play:
         body = got if status == STOPPED else got[:-len(self.asked)]
         body = body[:len(self.lines)]
         again = {place for place, _ in enumerate(body) if told[place].startswith("+ ")}
-        course = self.course(again)
+        dropped = [plan for opening, plan in self.plans.items() if opening in again][:1] or [None]
+        if may_read_less(self.lines):
+            dropped += self.plans.values()
+        faults = [self.fault_of(status, got, body, again, self.course(plan)) for plan in dropped]
+        return faults[0] if all(faults) else None
+
+    def fault_of(self, status, got, body, again, course):
+        """What is wrong with the answers of a run, if anything, beside those of a course."""
         is_cut = bool(body) and body[-1] in FAULTS and body[-1] != course.answers[len(body) - 1] \
             and self.may_fail(len(body) - 1)
         for place, answer in enumerate(body[:len(body) - is_cut]):
@@ -272,6 +277,11 @@ def creations():
     """A creation in each setting."""
     for setting in SETTINGS:
         yield setting, Creation(setting)
+
+
+def may_read_less(lines):
+    """Whether a cache stands below that reads less where it has no memory for what it missed."""
+    return any(line.startswith("!pages ") for line in lines)
 
 
 def what_is_left(asked, told):
