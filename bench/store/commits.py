@@ -5,7 +5,8 @@
 LINES has a text a line. Each program fills a new store with as many texts, a commit behind each, as
 there are to be SEGMENTS, 3,000 by default. Then they take turns, in each of which one adds and
 commits text after text; of each the median and the least of the processor time of a commit are told.
-Then each merges a copy of what it filled, in a new process and in turns; of each the best counts.
+Then, in new processes and in turns, each finds a rare word in what it filled, and merges a copy of
+it; of each the best counts.
 """
 
 import itertools
@@ -15,12 +16,14 @@ import shutil
 import statistics
 import sys
 
-from measure import processor
+from measure import pick_words, processor
 from peers import Program, merged
+from segments import FINDS, middle
 
 SEGMENTS = 3_000
 TURNS = 15
 COMMITS = 40
+SESSIONS = 9
 MERGES = 5
 # The units of a store that holds as many lines of at most 300 bytes, each in a segment of its own.
 UNITS = 65_536
@@ -51,6 +54,15 @@ def turn(session, texts):
     return 1e3 * (seconds_of(session) - before) / len(texts)
 
 
+def find(program, store, word):
+    """The median milliseconds of a find of a word in a new session."""
+    session = Program(program, store)
+    session.count()
+    taken = middle(FINDS, lambda: session.find(word))
+    session.close()
+    return taken
+
+
 def merge(program, store):
     """The seconds and the bytes of memory of a merge of a copy of a store."""
     copy = f"{store}.merged"
@@ -59,7 +71,8 @@ def merge(program, store):
 
 
 def main(programs, lines, folder, segments=SEGMENTS):
-    texts = iter(pathlib.Path(lines).read_text("utf-8").splitlines())
+    every = pathlib.Path(lines).read_text("utf-8").splitlines()
+    texts = iter(every)
     first = list(itertools.islice(texts, int(segments)))
     stores = [f"{folder}/commits.{side}" for side in range(2)]
     sessions = [filled(*side, first) for side in zip(programs, stores)]
@@ -79,6 +92,9 @@ def main(programs, lines, folder, segments=SEGMENTS):
     tell("the least", *map(min, taken))
     for session in sessions:
         session.close()
+    rare, _ = pick_words(every[:int(segments)])
+    finds = [[find(*side, rare) for side in zip(programs, stores)] for _ in range(SESSIONS)]
+    tell("find of a rare word in a new session, ms", *map(min, zip(*finds)))
     rounds = [[merge(*side) for side in zip(programs, stores)] for _ in range(MERGES)]
     best = [[min(part) for part in zip(*side)] for side in zip(*rounds)]
     tell("merge, ms", *(1e3 * seconds for seconds, _ in best))

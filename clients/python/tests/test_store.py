@@ -15,6 +15,8 @@ from support import LONG, RUBEWOLA, TOP, Stores, mail, mbox
 sys.path.append(str(TOP / "tools"))
 import laid_out  # pylint: disable=wrong-import-position,wrong-import-order
 
+NOBODY = 65_534
+
 
 class Sessions(Stores):
     """A store from Python."""
@@ -119,11 +121,16 @@ class Sessions(Stores):
         self.store.write_bytes(whole.replace(b"green pear", b"groen pear"))
         self.assertRaisesRegex(Failed, "damaged", Store.check, self.store)
 
-    @unittest.skipUnless(os.geteuid(), "root may write everywhere")
     def test_a_store_without_the_right_to_write(self):
         Store.create(self.store, 64).close()
-        self.store.chmod(0o400)
-        self.assertRaises(PermissionError, Store, self.store)
+        self.store.chmod(0o444)
+        if not os.geteuid():  # Root may write everywhere: another user asks.
+            self.folder.chmod(0o755)
+            self.addCleanup(os.setresuid, 0, 0, 0)
+            os.setresuid(NOBODY, NOBODY, 0)
+        with self.assertRaises(PermissionError) as caught:
+            Store(self.store)
+        self.assertEqual(caught.exception.filename, str(self.store))
 
 
 class Commands(Stores):
