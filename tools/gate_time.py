@@ -15,7 +15,12 @@ and behind it what the table leaves out: the rest of the command's processor tim
 the tests and programs that ran, of `rt` itself, and of the last quarter of a second of each run.
 The clock's minutes are of the whole. The command's output goes to standard error. Where it fails, or
 is broken off by Ctrl-C, the table is of what was run until then, and the status is 1; where it does
-not, a file that --into names has the same lines. Where a commit has that file already, the last line
+not, a file that --into names has the same lines.
+
+A processor that shares its core with another does less in a second, often half. So a fixed piece of
+work is done before the command begins and behind it, the least of some times, and each quarter of a
+minute beside it: by what it took there the minutes are told in those of processors that share
+nothing. To these the budget applies. Where a commit has that file already, the last line
 tells what the crates that have not changed since it was committed took of their time there, and so
 what all would have taken on the machine of that table: a machine may take twice as long as another.
 """
@@ -24,12 +29,15 @@ import os
 import pathlib
 import re
 import resource
+import statistics
 import subprocess
 import sys
 import time
 
 BUDGET_MINUTES = 140
 LOOK_EACH = 0.25
+LOOKS_PER_YARDSTICK = 60
+YARDSTICKS_AT_REST = 20
 TICKS = os.sysconf("SC_CLK_TCK")
 
 # What `table` tells: a row, the day, and the minutes of all.
@@ -81,25 +89,63 @@ def look(top, runs):
         runs[key] = max(runs.get(key, 0), now[number])
 
 
+def yardstick():
+    """The processor seconds of a fixed piece of work."""
+    start = time.process_time()
+    number, seen = 1, {}
+    for turn in range(300_000):
+        number = number * 1_103_515_245 + 12_345 & 0x7FFF_FFFF
+        seen[number & 0xFFFF] = turn
+    return time.process_time() - start
+
+
+def at_rest():
+    """The least that the piece of work takes of some times."""
+    return min(yardstick() for _ in range(YARDSTICKS_AT_REST))
+
+
+class Yardstick:
+    """What the piece of work took, alone and beside a command."""
+
+    def __init__(self):
+        self.alone, self.beside, self.looks = at_rest(), [], 0
+
+    def look(self):
+        """Measures it beside the command, once in so many looks."""
+        if self.looks % LOOKS_PER_YARDSTICK == 0:
+            self.beside.append(yardstick())
+        self.looks += 1
+
+    def told(self, minutes):
+        """The line that tells what processor minutes are of processors that share nothing."""
+        alone, beside = self.alone, statistics.mean(self.beside)
+        return (f"a fixed piece of work took {alone:.3f} s of a processor alone and {beside:.3f} "
+                f"beside it: of processors that share nothing this is "
+                f"{minutes * min(1, alone / beside):.1f} minutes; the gate may take "
+                f"{BUDGET_MINUTES}")
+
+
 def watch(command):
-    """The processor seconds of each crate's parts, of the whole command, its minutes and its
-    status."""
-    runs = {}
+    """The processor seconds of each crate's parts, of the whole command, its minutes, its status
+    and what the yardstick took."""
+    runs, work = {}, Yardstick()
     start = time.monotonic()
     child = subprocess.Popen(command, stdin=subprocess.DEVNULL, stdout=sys.stderr)
     try:
         while child.poll() is None:
             look(child.pid, runs)
+            work.look()
             time.sleep(LOOK_EACH)
     except KeyboardInterrupt:
         child.terminate()
         child.wait()
     minutes = (time.monotonic() - start) / 60
+    work.alone = min(work.alone, at_rest())
     parts = collections.defaultdict(collections.Counter)
     for (_, (name, part)), seconds in runs.items():
         parts[name][part] += seconds
     used = resource.getrusage(resource.RUSAGE_CHILDREN)
-    return parts, used.ru_utime + used.ru_stime, minutes, child.returncode
+    return parts, used.ru_utime + used.ru_stime, minutes, child.returncode, work
 
 
 def row(name, costs):
@@ -114,7 +160,7 @@ def machine():
     return f"{name}, load {', '.join(f'{load:.0f}' for load in os.getloadavg())}"
 
 
-def table(command, parts, seconds, minutes):
+def table(command, parts, seconds, minutes, work):
     """The lines that tell what a command took."""
     day = time.strftime("%d %B %Y")
     yield f"What `{' '.join(command)}` took on {day}, by tools/gate_time.py: {machine()}"
@@ -125,7 +171,8 @@ def table(command, parts, seconds, minutes):
     yield row("all of these", together)
     yield f"\nrunning, and what ended between two looks: {(seconds - together.total()) / 60:.1f} min"
     yield (f"{seconds / 60:.1f} processor minutes in {minutes:.1f} minutes of the clock on "
-           f"{os.cpu_count()} processors; the gate may take {BUDGET_MINUTES}")
+           f"{os.cpu_count()} processors")
+    yield work.told(seconds / 60)
 
 
 def changed_since(file):
@@ -164,8 +211,8 @@ def main(words):
     if words[:1] == ["--into"]:
         file, command = words[1], words[2:]
     command = command or ["rt", "ci"]
-    parts, seconds, minutes, status = watch(command)
-    told = "\n".join(table(command, parts, seconds, minutes)) + "\n"
+    parts, seconds, minutes, status, work = watch(command)
+    told = "\n".join(table(command, parts, seconds, minutes, work)) + "\n"
     changed = changed_since(file) if file and os.path.exists(file) else None
     if changed is not None:
         told += beside(pathlib.Path(file).read_text(encoding="utf-8"), told, changed)

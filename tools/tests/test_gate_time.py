@@ -55,5 +55,27 @@ class Beside(unittest.TestCase):
             self.assertIsNone(gate_time.changed_since(file.name))
 
 
+class Shared(unittest.TestCase):
+    def yardstick(self, alone, beside):
+        work = gate_time.Yardstick()
+        work.alone, work.beside = alone, beside
+        return work
+
+    def test_minutes_of_processors_that_share_nothing(self):
+        """Beside the command it took twice as long, so each of its minutes is half of one."""
+        self.assertEqual(
+            self.yardstick(0.1, [0.15, 0.25]).told(260),
+            "a fixed piece of work took 0.100 s of a processor alone and 0.200 beside it: of "
+            "processors that share nothing this is 130.0 minutes; the gate may take 140")
+
+    def test_no_minute_is_more_than_one(self):
+        self.assertIn("this is 260.0 minutes", self.yardstick(0.2, [0.1]).told(260))
+
+    def test_a_command_that_ends_at_once(self):
+        _, _, _, status, work = gate_time.watch(["true"])
+        self.assertEqual(status, 0)
+        self.assertGreater(min(work.alone, *work.beside), 0)
+
+
 if __name__ == "__main__":
     unittest.main()
