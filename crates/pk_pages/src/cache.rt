@@ -2,6 +2,7 @@
 
 ghost use Rattle.std.specs.Prelude.{
   ◌≡◌,
+  ◌⊎◌,
   ◌≤◌,
   ◌<◌,
   ◌+◌,
@@ -16,14 +17,18 @@ ghost use Rattle.std.specs.Prelude.{
   ℕ,
   List,
   IfNone,
+  IfOk,
   IfSome,
   IsOk,
   IsTrue,
+  OnErr,
   OnOk,
 };
-ghost use Rattle.pk_disk.specs.Disk.{IsCounted, full_count};
+ghost use Rattle.pk_disk.specs.Disk.{IsCounted, IsImage, IsPartWritten, full_count};
+ghost use Rattle.pk_disk.specs.Disk.{nowhere, opened, written};
 ghost use Rattle.pk_disk.specs.Frames.{KeepsDisk};
-ghost use Rattle.pk_disk.specs.Since.{NoneNew, StayKnown};
+ghost use Rattle.pk_disk.specs.Since.{NoneNew, OnlyNew, StayKnown};
+ghost use Rattle.pk_pages.specs.Beside.{KeepsBeside};
 ghost use Rattle.pk_pages.specs.Missed.{AreKeptOrNoted, AreToBeKept, AreUnnoted};
 ghost use Rattle.pk_pages.specs.Missed.{IsKeptOrNoted, IsNoted, KeepsNotes, most_noted};
 ghost use Rattle.pk_pages.specs.Pages.{AreClear, ArePagesOf, HasNoRoom, IsGone, IsHit};
@@ -179,8 +184,10 @@ impl<D: Disk> PageCache<D> {
     fn forget_range(&mut self, at: u64, n: u64)
         requires { at + n ≤ length (D.content self.old.disk) }
         ensures disk { self.new.disk ≡ self.old.disk }
+        ensures missed { self.new.missed ≡ self.old.missed }
         ensures succeeded { self.new.last_succeeded ≡ self.old.last_succeeded }
         ensures clear { AreClear self.new.slots.items at n }
+        ensures others { KeepsBeside self.old.slots.items self.new.slots.items at n }
     {
         let size = self.disk.len();
         prove!(at <= size && n <= size - at);
@@ -245,6 +252,8 @@ impl<D: Disk> Disk for PageCache<D> {
             (AreKeptOrNoted self.new.slots.items self.new.missed.items at (length out.old)) }
         ensures once { AreUnnoted self.old.missed.items at (length out.old)
             → self.new.slots ≡ self.old.slots }
+        ensures long { (length out.old ≡ 0) ⊎ (page_bytes < length out.old)
+            → (self.new.slots ≡ self.old.slots) × (self.new.missed ≡ self.old.missed) }
 
         // The clauses of the trait.
         ensures given { D.honest → OnOk result
@@ -275,12 +284,55 @@ impl<D: Disk> Disk for PageCache<D> {
     }
 
     #[tactic(auto, using(crate::proofs::PageLemmas::after_write))]
-    fn write(&mut self, at: u64, bytes: &[u8]) -> Result<(), DiskFault> {
+    fn write(&mut self, at: u64, bytes: &[u8]) -> Result<(), DiskFault>
+        requires { at + length bytes.now ≤ length (D.content self.old.disk) }
+        ensures others { KeepsBeside self.old.slots.items self.new.slots.items at
+            (length bytes.now) }
+        ensures missed { self.new.missed ≡ self.old.missed }
+        ensures succeeded { self.new.last_succeeded ≡ self.old.last_succeeded }
+
+        // The clauses of the trait.
+        ensures bytes { D.honest → OnOk result
+            (D.content self.new.disk ≡ written (D.content self.old.disk) at bytes.now) }
+        ensures is_open { D.honest → OnOk result (D.is_open self.new.disk
+            ≡ opened (D.is_open self.old.disk) at (length bytes.now)) }
+        ensures part { D.honest → OnErr result
+            (IsPartWritten (D.content self.old.disk) (D.is_open self.old.disk) at
+            (length bytes.now) (D.content self.new.disk) (D.is_open self.new.disk)) }
+        ensures images { D.honest → OnlyNew ⟦<PageCache<D> as Disk>⟧.moment
+            ⟦<PageCache<D> as Disk>⟧.images_since self.old self.new
+            (IsImage (D.content self.old.disk)
+            (opened (D.is_open self.old.disk) at (length bytes.now))) }
+        ensures known { D.honest → StayKnown ⟦<PageCache<D> as Disk>⟧.moment
+            ⟦<PageCache<D> as Disk>⟧.images_since self.old self.new }
+        ensures size { length (D.content self.new.disk) ≡ length (D.content self.old.disk) }
+        ensures writes { IsCounted (D.failed_writes self.old.disk)
+            (D.failed_writes self.new.disk) result }
+        ensures reads { D.failed_reads self.new.disk ≡ D.failed_reads self.old.disk }
+    {
         self.forget_range(at, bytes.len() as u64);
         self.disk.write(at, bytes)
     }
 
-    fn sync(&mut self) -> Result<(), DiskFault> {
+    fn sync(&mut self) -> Result<(), DiskFault>
+        ensures slots { self.new.slots ≡ self.old.slots }
+        ensures missed { self.new.missed ≡ self.old.missed }
+        ensures succeeded { self.new.last_succeeded ≡ self.old.last_succeeded }
+
+        // The clauses of the trait.
+        ensures closed { D.honest → OnOk result (D.is_open self.new.disk ≡ nowhere) }
+        ensures is_open { D.honest → OnErr result
+            (D.is_open self.new.disk ≡ D.is_open self.old.disk) }
+        ensures bytes { D.honest → D.content self.new.disk ≡ D.content self.old.disk }
+        ensures images { D.honest → NoneNew ⟦<PageCache<D> as Disk>⟧.moment
+            ⟦<PageCache<D> as Disk>⟧.images_since self.old self.new }
+        ensures known { D.honest → StayKnown ⟦<PageCache<D> as Disk>⟧.moment
+            ⟦<PageCache<D> as Disk>⟧.images_since self.old self.new }
+        ensures size { length (D.content self.new.disk) ≡ length (D.content self.old.disk) }
+        ensures writes { IsCounted (D.failed_writes self.old.disk)
+            (D.failed_writes self.new.disk) result }
+        ensures reads { D.failed_reads self.new.disk ≡ D.failed_reads self.old.disk }
+    {
         self.disk.sync()
     }
 }
@@ -291,7 +343,17 @@ impl<D: Watched> Watched for PageCache<D> {
     ghost goes_on = { λ old new. D.goes_on old.disk new.disk };
 
     // No page that is kept is asked.
-    fn is_latest(&mut self) -> Result<bool, DiskFault> {
+    fn is_latest(&mut self) -> Result<bool, DiskFault>
+        ensures slots { self.new.slots ≡ self.old.slots }
+        ensures missed { self.new.missed ≡ self.old.missed }
+        ensures succeeded { self.new.last_succeeded ≡ self.old.last_succeeded }
+
+        // The clauses of the trait.
+        ensures latest { IfOk result (λ is. IsTrue is → D.shows_latest self.old.disk) }
+        ensures goes_on { D.goes_on self.old.disk self.new.disk }
+        ensures keeps { KeepsDisk ⟦<PageCache<D> as Disk>⟧ self.old self.new }
+        ensures reads { D.failed_reads self.new.disk ≡ D.failed_reads self.old.disk }
+    {
         self.disk.is_latest()
     }
 }

@@ -19,10 +19,10 @@
 //! | a read of 1 to 4,096 bytes | from its one or two pages; one that is not kept is missed |
 //! | a miss | the bytes alone are read, or all of a page that is noted; it is noted from then on |
 //! | a note | a page's number, in place of the last: page `p` has place `p` modulo 4,096 alone |
-//! | a longer read, an empty one | goes below as it is |
-//! | a write | forgets the pages that it touches, then goes below, whatever comes of it |
-//! | a sync | goes below |
-//! | whether it is the latest | is asked below, of a disk that can tell |
+//! | a longer read, an empty one | goes below as it is; pages and notes stay (`long`) |
+//! | a write | forgets the pages that it touches alone (`others`), then goes below |
+//! | a sync | goes below; pages and notes stay |
+//! | whether it is the latest | is asked below, of a disk that can tell; pages and notes stay |
 //!
 //! The slots are a direct-mapped cache (Hennessy and Patterson, Computer Architecture, appendix B:
 //! "Where can a block be placed in a cache?"), written through, without allocation at a write.

@@ -13,6 +13,7 @@ ghost use Rattle.std.specs.Prelude.{
   None,
   Some,
   length,
+  max,
   min,
   vec_capacity,
   IfNone,
@@ -91,6 +92,7 @@ pub fn kept(slots: &[Slot], number: u64) -> Option<&[u8]>
 pub fn forget(slots: &mut [Slot], number: u64)
     ensures gone { IsGone slots.new number }
     ensures stay_gone { (p : ℕ) → IsGone slots.old p → IsGone slots.new p }
+    ensures others { (p n : ℕ) → (p ≡ number → ⊥) → IsKept slots.old p n → IsKept slots.new p n }
     ensures kept { (bytes : List ℕ) → ArePagesOf bytes slots.old → ArePagesOf bytes slots.new }
 {
     if slots.is_empty() {
@@ -140,7 +142,17 @@ fn make_room(slot: &mut Slot, size: usize) -> Result<(), AllocError>
     ensures memory { OnErr result (vec_capacity slot.new.bytes < page_bytes) }
 {
     slot.number = None;
-    let more = (PAGE as usize).saturating_sub(slot.bytes.len());
-    slot.bytes.reserve_exact(more)?;
+    reserve_page(&mut slot.bytes)?;
     slot.bytes.resize(size, 0)
+}
+
+// Takes memory for a page, where there is less, and no more than that.
+fn reserve_page(bytes: &mut Vec<u8>) -> Result<(), AllocError>
+    ensures items { bytes.new.items ≡ bytes.old.items }
+    ensures room { OnOk result (page_bytes ≤ vec_capacity bytes.new) }
+    ensures most { vec_capacity bytes.new ≤ max (vec_capacity bytes.old) page_bytes }
+    ensures memory { OnErr result (vec_capacity bytes.new < page_bytes) }
+{
+    let more = (PAGE as usize).saturating_sub(bytes.len());
+    bytes.reserve_exact(more)
 }
