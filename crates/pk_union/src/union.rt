@@ -25,7 +25,7 @@ pub struct UnionBuilder {
     // Where the range begins, and how many numbers it has.
     first: u32,
     count: u32,
-    // How many lists were put, and how many numbers they have.
+    // How many lists were put, and how many numbers they have, a number of two lists twice.
     puts: usize,
     numbers: usize,
     // The marks of the range, or none before it is time for them.
@@ -37,13 +37,15 @@ pub struct UnionBuilder {
 
 impl Model for UnionBuilder {
     ghost use Rattle.std.specs.Prelude.{ℕ, List};
+    ghost use Rattle.pk_union.specs.Marks.{AreFew};
     ghost use Rattle.pk_union.specs.Union.{IsUnion, numbers_put};
 
     ghost Value = { List ℕ };
 
     ghost view = { λ u. numbers_put u.first u.marks.items u.lists.items };
 
-    ghost invariant = { λ u. IsUnion u.first u.count u.marks.items u.lists.items };
+    ghost invariant = { λ u. IsUnion u.first u.count u.marks.items u.lists.items
+        × AreFew u.numbers u.marks.items };
 }
 
 impl UnionBuilder {

@@ -17,6 +17,6 @@ returns-clause-numbers c =
     let u = c.builder.inside in
     let all = union_of (items_of u.lists.items) in
     on_ok_weaker c.unite_onto.result (λ is. (
-    put_united u.first u.marks.items u.lists.items c.unite_onto.new.out.items c.builder.invariant.rising
+    put_united u.first u.marks.items u.lists.items c.unite_onto.new.out.items c.builder.invariant.0.rising
     (is ∙ ap (union all) (c.in_ok-put_marked.ensures ∙ ap (marked u.first) c.deref.ensures.value))
     ∙ c.builder.view_is)) c.unite_onto.ensures.numbers

@@ -16,5 +16,5 @@ returns c =
     let all : c.deref.result.now ≡ union (union_of (items_of u.lists.items)) [] =
     c.deref.ensures.value ∙ c.in_ok-unite_onto.ensures.numbers ∙ ap (union (union_of (items_of u.lists.items))) c.new-all.ensures.items in
     on_ok_weaker c.place.result (λ is. (
-    is ∙ put_again u.first u.count (u.count - u.marks.len) u.marks.items old u.lists.items left c.deref.result.now none c.in_ok-resize.ensures.items c.in_ok-unite_onto.ensures.none c.self.invariant.rising all
+    is ∙ put_again u.first u.count (u.count - u.marks.len) u.marks.items old u.lists.items left c.deref.result.now none c.in_ok-resize.ensures.items c.in_ok-unite_onto.ensures.none c.self.invariant.0.rising all
     ∙ c.self.view_is)) c.place.ensures

@@ -15,7 +15,7 @@ returns-then-lies_within c =
     let marks = c.mark_all.new.marks in
     let long : length marks ≡ u.marks.len = c.mark_all.ensures.long ∙ ap length c.deref_mut.ensures.value ∙ sym u.marks.ok.0 in
     ap (λ (ms : List Bool). numbers_put u.first ms u.lists.items) (with_items_is u.marks marks long)
-    ∙ put_marked u.first list marks u.marks.items u.lists.items c.requires c.self.invariant.rising
+    ∙ put_marked u.first list marks u.marks.items u.lists.items c.requires c.self.invariant.0.rising
     (c.mark_all.ensures.numbers ∙ ap (λ (ms : List Bool). union list (marked u.first ms)) c.deref_mut.ensures.value)
     ∙ ap (λ (ns : List ℕ). union ns list) c.self.view_is
 
