@@ -3,8 +3,9 @@
 use Rattle.std.proofs.Common.{arith, refl, sym, ap, subst, ◌∙◌, ◌≡◌, ◌≤◌, ◌<◌, ◌+◌, ◌*◌, ◌%◌, ◌++◌, ◌∷◌, [], ℕ, zero, suc, List, length, take, drop, None, Some, Ok, Err, Result, true, inl, inr, ◌-◌, Bool, false}
 use Rattle.std.specs.Prelude.{nat_eq, slice_get, vec_capacity, ◌||◌}
 use Rattle.std.specs.List.{AllByRecursion}
-use Rattle.std.proofs.lemmas.Bool.{cases_eq, cases_lt, ne_eqb, eq-eqb}
-use Rattle.std.proofs.lemmas.List.{drop_at, length-append, length-take, take-append-drop}
+use Rattle.std.proofs.lemmas.Bool.{cases_eq, cases_lt, ne_eqb, eq-eqb, le-ltb}
+use Rattle.std.proofs.lemmas.List.{drop_at, length-append, length-take, take-append-drop, take_all}
+use Rattle.std.proofs.Math.Seq.{take-add}
 use Rattle.pk_posting.specs.declared.source.SourceFault.{SourceFault}
 use Rattle.pk_posting.specs.declared.source.SourceFault.TheVariants as faults
 use Rattle.pk_dict.specs.declared.cursor.TermCursor.{TermCursor}
@@ -14,8 +15,9 @@ use Rattle.pk_dict.specs.Cursor.{HasRead, HoldsOf, IsBroken, StandsAt, word_afte
 use Rattle.pk_dict.specs.Dictionary.{DictSpells, Item, group_count, groups, items_with_prefix, offsets, spelled_items, spelling}
 use Rattle.pk_dict.specs.Lists.{last_of}
 use Rattle.pk_dict.specs.Order.{less, RisingTerms}
+use Rattle.pk_dict.specs.Place.{bytes_at}
 use Rattle.pk_dict.specs.Reading.{◌>>=◌}
-use Rattle.pk_dict.specs.Said.{GoesOn, IsFirst, IsSaid, first_words, no_entry, nth_word}
+use Rattle.pk_dict.specs.Said.{GoesOn, IsFirst, IsSaid, first_words, no_entry, nth_word, words_of}
 use Rattle.pk_dict.specs.Words.{word_at}
 use Rattle.pk_dict.proofs.Adding.{last_push}
 use Rattle.pk_dict.proofs.Bounds.{offsets_size}
@@ -236,6 +238,25 @@ stands_at bytes es s (suc n) le =
       stands = subst (λ (m : ℕ). drop f.at bytes ≡ spelled_items m (last_of [] (take m es)) (drop m es)) more f.stands;
       here = λ _. ap (λ (m : ℕ). drop m es) back ∙ f.split ∙ ap (λ (m : ℕ). e.0 ∷ drop m es) more;
     }
+
+-- the first words that are said are those of the first items
+words_law : (bytes : List ℕ) (es : List Item) → DictSpells bytes es → (n : ℕ) → n ≤ length es → first_words bytes (group_count (length es)) n ≡ Ok (take n es)
+unfolding first_words
+words_law bytes es s zero le = refl
+words_law bytes es s (suc n) le =
+    let e = some_item n es (omega (arith, le)) in
+    let f = follows bytes es n e.0 e.1.0 s (omega (arith, le)) e.1.1 (stands_at bytes es s n (omega (arith, le))) in
+    let more : n + 1 ≡ suc n = omega arith in
+    let front : take n es ++ e.0 ∷ [] ≡ take (suc n) es = sym (ap (λ (m : ℕ). take m es) (sym more) ∙ take-add n 1 es ∙ ap (λ (l : List Item). take n es ++ take 1 l) f.split) in
+    rw (words_law bytes es s n (omega (arith, le))) (rw f.said (ap (λ (l : List Item). Ok l) front))
+
+-- so all are those of its items
+pub words_said : (content : List ℕ) (place : DictPlace) (es : List Item) → place.at + place.bytes ≤ length content → DictSpells (bytes_at content place) es → length es ≡ place.terms → words_of content place ≡ Ok es
+unfolding words_of
+words_said content place es lies s count =
+    let bytes : List ℕ = bytes_at content place in
+    let all : first_words bytes (group_count (length es)) (length es) ≡ Ok es = words_law bytes es s (length es) (omega arith) ∙ ap (λ (l : List Item). Ok l) (take_all (length es) es (omega arith)) in
+    rw (le-ltb (length content) (place.at + place.bytes) lies) (subst (λ (n : ℕ). first_words bytes (group_count n) n ≡ Ok es) count all)
 
 get_split : (n : ℕ) (es : List Item) (e : Item) (rest : List Item) → drop n es ≡ e ∷ rest → slice_get es n ≡ Some e
 get_split zero [] e rest split = absurd (cc)

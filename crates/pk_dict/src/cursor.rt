@@ -1,7 +1,7 @@
 //! A cursor over a dictionary: its words one by one, each with its entry.
 
 ghost use Rattle.std.specs.Prelude.{◌≡◌, ◌≤◌, ◌<◌, ◌+◌, ◌*◌, ◌^◌, ◌↔◌, ℕ, List, length};
-ghost use Rattle.std.specs.Prelude.{None, Some, Ok, Err, true};
+ghost use Rattle.std.specs.Prelude.{[], None, Some, Ok, Err, true, false};
 ghost use Rattle.std.specs.Prelude.{IfErr, IfOk, IfSome, IsErrOf, IsOk, IsTrue, MatchResult, OnOk};
 ghost use Rattle.std.specs.Prelude.{vec_capacity};
 ghost use Rattle.std.specs.List.{AllByRecursion};
@@ -53,6 +53,7 @@ impl TermCursor {
     ghost use Rattle.pk_dict.specs.Cursor.{word_after};
     ghost use Rattle.pk_dict.specs.Memory.{HasRoom};
     ghost use Rattle.pk_dict.specs.Said.{GoesOn, IsFirst};
+    ghost use Rattle.pk_dict.specs.Seeking.{HasSought};
 
     /// A cursor before the first word of a dictionary, which reads so many bytes ahead at once. It
     /// reads nothing and takes no memory yet.
@@ -191,6 +192,9 @@ impl TermCursor {
     /// Goes to the first word that is not less than another, forward or back, and says whether
     /// there is one; if not, all words are passed. After a fault it answers that fault.
     ///
+    /// Bytes that are no dictionary may be refused as Damaged, or not; but no word of them is passed
+    /// over unread, from the group on where first terms of groups say that the search begins.
+    ///
     /// `pivots` is a table for this dictionary as `look_up_near` takes it, or empty: no number in it
     /// is believed.
     pub fn seek<S: ByteSource>(
@@ -210,6 +214,11 @@ impl TermCursor {
         ensures holds { S.honest
             → HoldsOf (bytes_at (S.content source.old) self.old.place) self.old
             → OnOk result (HoldsOf (bytes_at (S.content source.old) self.old.place) self.new) }
+        ensures said { S.honest
+            → HoldsOf (bytes_at (S.content source.old) self.old.place) self.old
+            → IfOk result
+            (HasSought (bytes_at (S.content source.old) self.old.place) self.new word.now) }
+        ensures end { result ≡ Ok false → words_left self.new ≡ 0 }
 
         ensures place { self.new.place ≡ self.old.place }
         ensures ahead { ReadsAhead self.old.held.most self.new }
@@ -255,6 +264,11 @@ impl TermCursor {
         ensures holds { S.honest
             → HoldsOf (bytes_at (S.content source.old) self.old.place) self.old
             → OnOk result (HoldsOf (bytes_at (S.content source.old) self.old.place) self.new) }
+        ensures said { S.honest
+            → HoldsOf (bytes_at (S.content source.old) self.old.place) self.old
+            → IfOk result
+            (HasSought (bytes_at (S.content source.old) self.old.place) self.new word.now) }
+        ensures end { result ≡ Ok false → words_left self.new ≡ 0 }
         ensures place { self.new.place ≡ self.old.place }
         ensures ahead { ReadsAhead self.old.held.most self.new }
         ensures fault { self.new.fault ≡ self.old.fault }
@@ -291,6 +305,8 @@ impl TermCursor {
         ensures ahead { ReadsAhead self.old.held.most self.new }
         ensures fault { self.new.fault ≡ self.old.fault }
         ensures read { self.new.read ≡ 16 * start.group }
+        ensures from { self.new.at ≡ start.at }
+        ensures none { self.new.word.items ≡ [] }
     {
         self.read = 16 * start.group;
         self.at = start.at;

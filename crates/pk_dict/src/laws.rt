@@ -1,10 +1,13 @@
 //! Laws of dictionaries, as functions without a body whose contract is the law.
 
-ghost use Rattle.std.specs.Prelude.{◌≡◌, ◌≤◌, ◌++◌, ℕ, List, length, Ok};
+ghost use Rattle.std.specs.Prelude.{◌≡◌, ◌≤◌, ◌+◌, ◌++◌, ℕ, List, length, Ok};
 ghost use Rattle.std.specs.List.{AllByRecursion};
 ghost use Rattle.pk_dict.specs.Dictionary.{DictSpells, Item, entry_of, items_with_prefix, spelling};
 ghost use Rattle.pk_dict.specs.Entries.{entries_at};
 ghost use Rattle.pk_dict.specs.LookUp.{look_up_at};
+ghost use Rattle.pk_dict.specs.Place.{bytes_at};
+ghost use Rattle.pk_dict.specs.Said.{words_of};
+ghost use Rattle.pk_dict.specs.declared.entry.DictPlace.{DictPlace};
 
 /// A dictionary's bytes have one list of entries: bytes of so many terms are a dictionary of one
 /// list.
@@ -33,6 +36,14 @@ pub fn a_dictionary_says_its_entries()
 pub fn a_dictionary_says_its_items()
     ensures { (b : List ℕ) (es : List Item) (terms : ℕ) (prefix : List ℕ) → DictSpells b es
         → length es ≡ terms → entries_at b terms prefix ≡ Ok (items_with_prefix prefix es) }
+{}
+
+/// The words that any bytes say are, where they are a dictionary, those of its items.
+#[tactic(auto, using(crate::proofs::SaidLaw::words_said))]
+pub fn a_dictionary_says_its_words()
+    ensures { (content : List ℕ) (place : DictPlace) (es : List Item)
+        → place.at + place.bytes ≤ length content → DictSpells (bytes_at content place) es
+        → length es ≡ place.terms → words_of content place ≡ Ok es }
 {}
 
 /// A dictionary has a byte for each of its terms, no fewer bytes than any of them, and no fewer

@@ -47,8 +47,9 @@
 //! The words of the contracts are in `specs`: `Dictionary` has the format, `Writer` what was
 //! added, `LookUp`, `Entries` and `Words` what any bytes say of a term, of a prefix and of the word
 //! that comes next, `Dict` the same of a slice, `Cursor` and `Prefix` where cursors stand and what
-//! they have left, `Windows` what windows hold, `Place` and `Source` what a source has to do with
-//! it, `Reading`, `Scan` and `Search` what each private step finds.
+//! they have left, `Seeking` what a search passed over, as any bytes say it, `Windows` what windows
+//! hold, `Place` and `Source` what a source has to do with it, `Reading`, `Scan` and `Search` what
+//! each private step finds.
 #![tactic(auto)]
 
 mod ahead;

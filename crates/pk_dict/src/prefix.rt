@@ -27,8 +27,9 @@ pub struct PrefixCursor<'a> {
 }
 
 impl<'a> PrefixCursor<'a> {
-    ghost use Rattle.pk_dict.specs.Cursor.{ReadsAhead};
+    ghost use Rattle.pk_dict.specs.Cursor.{HoldsOf, ReadsAhead};
     ghost use Rattle.pk_dict.specs.Prefix.{GivesNext, HasGone, HasLeft, words_to_come};
+    ghost use Rattle.pk_dict.specs.Seeking.{GivesAfter, HasMoved};
 
     /// Before the first word that begins with the prefix. Nothing is read yet.
     pub fn open(alloc: Global, place: DictPlace, ahead: u32, prefix: &'a [u8]) -> PrefixCursor<'a>
@@ -36,6 +37,8 @@ impl<'a> PrefixCursor<'a> {
         ensures place { result.cursor.place ≡ place }
         ensures ahead { ReadsAhead ahead result.cursor }
         ensures sound { result.cursor.fault ≡ None }
+        ensures holds { (bytes : List ℕ) → HoldsOf bytes result.cursor }
+        ensures new { (result.begun ≡ false) × (result.ended ≡ false) }
         ensures left { (bytes : List ℕ) (es : List Item) → DictSpells bytes es
             → length es ≡ place.terms
             → HasLeft bytes result es (items_with_prefix prefix.now es) }
@@ -73,6 +76,17 @@ impl<'a> PrefixCursor<'a> {
         ensures begins { IfOk result (λ given. IfSome given (λ entry.
             (starts_with nat_eq self.new.cursor.word.items self.new.prefix.now ≡ true)
             × (entry ≡ self.new.cursor.entry))) }
+        ensures holds { S.honest
+            → HoldsOf (bytes_at (S.content source.old) self.old.cursor.place) self.old.cursor
+            → OnOk result
+            (HoldsOf (bytes_at (S.content source.old) self.old.cursor.place) self.new.cursor) }
+        ensures said { S.honest
+            → HoldsOf (bytes_at (S.content source.old) self.old.cursor.place) self.old.cursor
+            → self.old.ended ≡ false → IfOk result (GivesAfter self.old.begun
+            (bytes_at (S.content source.old) self.old.cursor.place) self.old.prefix.now
+            self.old.cursor self.new.cursor) }
+        ensures goes { IfOk result (λ given. IfSome given (λ _.
+            (self.new.begun ≡ true) × (self.new.ended ≡ false))) }
 
         ensures prefix { self.new.prefix ≡ self.old.prefix }
         ensures fewer { IfOk result (λ given. IfSome given (λ _.
@@ -118,6 +132,15 @@ impl<'a> PrefixCursor<'a> {
             → MatchResult result
             (HasGone (bytes_at (S.content source.old) self.old.cursor.place) self.new es rest)
             (λ e. e ≡ ReadFault.Damaged → ⊥) }
+        ensures holds { S.honest
+            → HoldsOf (bytes_at (S.content source.old) self.old.cursor.place) self.old.cursor
+            → OnOk result
+            (HoldsOf (bytes_at (S.content source.old) self.old.cursor.place) self.new.cursor) }
+        ensures said { S.honest
+            → HoldsOf (bytes_at (S.content source.old) self.old.cursor.place) self.old.cursor
+            → IfOk result (HasMoved self.old.begun
+            (bytes_at (S.content source.old) self.old.cursor.place) self.old.prefix.now
+            self.old.cursor self.new.cursor) }
         ensures begun { self.new.begun ≡ true }
         ensures ended { self.new.ended ≡ false }
         ensures prefix { self.new.prefix ≡ self.old.prefix }

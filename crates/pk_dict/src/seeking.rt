@@ -5,6 +5,7 @@ ghost use Rattle.std.specs.Prelude.{IfOk, MatchResult};
 ghost use Rattle.pk_dict.specs.Cursor.{BeginsAt};
 ghost use Rattle.pk_dict.specs.Dictionary.{DictSpells, Item, group_count};
 ghost use Rattle.pk_dict.specs.Place.{LiesIn, bytes_at};
+ghost use Rattle.pk_dict.specs.Seeking.{IsToldStart};
 ghost use Rattle.pk_posting.specs.Limits.{asks_for};
 ghost use Rattle.pk_posting.specs.Frames.{ReadsSource};
 ghost use Rattle.pk_posting.specs.Source.{CountsFaults};
@@ -29,6 +30,8 @@ pub(crate) fn first_start<S: ByteSource>(
         → MatchResult result
         (λ s. BeginsAt (bytes_at (S.content source.old) place) es word.now s.group s.at)
         (λ e. e ≡ SourceFault.Disk) }
+    ensures told { S.honest → IfOk result (λ s. IsToldStart
+        (bytes_at (S.content source.old) place) place.terms word.now s.group s.at) }
     ensures some { IfOk result (λ s. 16 * s.group < place.terms) }
     ensures asks { (k : ℕ) → group_count place.terms ≤ 2 ^ k → S.asked source.new
         ≤ S.asked source.old + (k + 3) * (6 + asks_for (length word.now)) + 1 }

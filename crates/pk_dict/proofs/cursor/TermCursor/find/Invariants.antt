@@ -3,6 +3,7 @@ use Rattle.std.proofs.Common.{◌≡◌, ◌≤◌, ◌+◌, ◌*◌, ◌^◌, �
 use Rattle.pk_dict.specs.Cursor.{Comes, HoldsOf, ReadsAhead}
 use Rattle.pk_dict.specs.Dictionary.{Item, group_count}
 use Rattle.pk_dict.specs.Place.{bytes_at}
+use Rattle.pk_dict.proofs.SeekingLaw.{Seeks}
 use Rattle.pk_dict.proofs.Sought.{Passing, Spent}
 use Rattle.pk_dict.proofs.Asks.{Short}
 use Rattle.pk_posting.specs.Limits.{asks_for}
@@ -16,6 +17,7 @@ invariant-loop-self g l = record {
   ahead : ReadsAhead l.fn.self.held.most l.self;
   fault : l.self.fault ≡ l.fn.self.fault;
   holds : g.S.ByteSource.honest → HoldsOf (bytes_at (g.S.ByteSource.content l.fn.source) l.fn.self.place) l.fn.self → HoldsOf (bytes_at (g.S.ByteSource.content l.fn.source) l.fn.self.place) l.self;
+  said : g.S.ByteSource.honest → HoldsOf (bytes_at (g.S.ByteSource.content l.fn.source) l.fn.self.place) l.fn.self → Seeks (bytes_at (g.S.ByteSource.content l.fn.source) l.fn.self.place) l.self l.word;
   at : g.S.ByteSource.honest → (es : List Item) (n : ℕ) → Comes (bytes_at (g.S.ByteSource.content l.fn.source) l.fn.self.place) l.fn.self es n
       → Passing (bytes_at (g.S.ByteSource.content l.fn.source) l.fn.self.place) l.self es l.word;
   asks : g.S.ByteSource.honest → (es : List Item) (n : ℕ) → Comes (bytes_at (g.S.ByteSource.content l.fn.source) l.fn.self.place) l.fn.self es n → (k m : ℕ) → group_count l.fn.self.place.terms ≤ 2 ^ k → Short m es
