@@ -1,17 +1,15 @@
 -- Bits that are set stay set, and a word that does not pass is none of the words.
-use Rattle.std.proofs.Common.{◌≡◌, ◌∙◌, ℕ, zero, suc, ◌*◌, ◌+◌, ◌-◌, ◌/◌, ◌<◌, ◌≤◌, ◌^◌, Bool, true, false, List, [], ◌∷◌, None, drop, get_or, length, max, min, set, slice_index, take, inl, inr, refl, sym, ap, subst, arith}
+use Rattle.std.proofs.Common.{◌≡◌, ◌∙◌, ℕ, ◌*◌, ◌+◌, ◌/◌, ◌<◌, ◌≤◌, ◌^◌, Bool, true, false, List, [], ◌∷◌, None, length, max, min, set, slice_index, inl, inr, refl, sym, ap, subst, arith}
 use Rattle.std.specs.Prelude.{bit_and, bit_or}
 use Rattle.std.specs.Int.{bit_at}
 use Rattle.std.specs.Str.{bytes_eq}
 use Rattle.std.proofs.lemmas.Bool.{cases_eq, cases_lt}
 use Rattle.std.proofs.lemmas.List.{get_or-set_other, get_or-set_same}
-use Rattle.std.proofs.lemmas.List.Elements.{All-head, All-more, All-tail, All-weaker}
+use Rattle.std.proofs.lemmas.List.Elements.{All-head, All-tail, All-weaker}
 use Rattle.std.proofs.Math.Nat.{mul-lt-mul_of_pos_right, mul_comm}
 use Rattle.std.proofs.lemmas.Nat.{and_or_self, div_below}
 use Rattle.std.proofs.lemmas.Nat.Bits.{bit_at_and, bit_at_or, same_from_bits}
 use Rattle.std.proofs.lemmas.Slice.Eq.{bytes_eq-Decides}
-use Rattle.pk_dict.specs.declared.cursor.TermCursor.{TermCursor}
-use Rattle.pk_dict.specs.Cursor.{StandsAt, item_at}
 use Rattle.pk_dict.specs.Dictionary.{Item, entry_of}
 use Rattle.pk_filter.specs.declared.filter.WordFilter.{WordFilter}
 use Rattle.pk_filter.specs.declared.hash.WordHash.{WordHash}
@@ -101,22 +99,6 @@ block_below high count lt some = div_below (high * count) (2 ^ 32) count (omega 
 -- ---- words that pass
 pub all_still : (es : List Item) (old new : WordFilter) → ((other : WordHash) → Passes old other → Passes new other) → HasAll es old → HasAll es new
 all_still es old new keeps all = All-weaker (λ (e : Item). Passes old (hashed e.term)) (λ (e : Item). Passes new (hashed e.term)) (λ e passes. keeps (hashed e.term) passes) es all
-
--- the item at a place
-item_there : (es rest : List Item) (n : ℕ) (x d : Item) → drop n es ≡ x ∷ rest → get_or es n d ≡ x
-item_there [] rest zero x d at = absurd (cc)
-item_there [] rest (suc n) x d at = absurd (cc)
-item_there (e ∷ es) rest zero x d at = cc
-item_there (e ∷ es) rest (suc n) x d at = item_there es rest n x d at
-
--- one word more that a cursor has come to
-pub all_more : (bytes : List ℕ) (c : TermCursor) (es : List Item) (n : ℕ) (filter : WordFilter) → n < length es → StandsAt bytes c es (n + 1) → HasAll (take n es) filter → Passes filter (hashed c.word.items)
-    → HasAll (take (n + 1) es) filter
-all_more bytes c es n filter lt stands all here =
-    let at : drop ((n + 1) - 1) es ≡ item_at c ∷ drop (n + 1) es = stands.here (omega arith) in
-    let back : (n + 1) - 1 ≡ n = omega arith in
-    let there : get_or es n (item_at c) ≡ item_at c = item_there es (drop (n + 1) es) n (item_at c) (item_at c) (ap (λ (k : ℕ). drop k es) (sym back) ∙ at) in
-    All-more (λ (e : Item). Passes filter (hashed e.term)) es n (item_at c) lt all (subst (λ (e : Item). Passes filter (hashed e.term)) (sym there) here)
 
 -- A WORD THAT DOES NOT PASS is none of them
 none_first : (e : Item) (es : List Item) (filter : WordFilter) (word : List ℕ) (b : Bool) → bytes_eq e.term word ≡ b → Passes filter (hashed e.term) → (Passes filter (hashed word) → ⊥) → entry_of es word ≡ None → entry_of (e ∷ es) word ≡ None

@@ -1,1 +1,2 @@
 pub mod FilterLemmas
+pub mod WordLemmas

@@ -1,3 +1,4 @@
 pub mod Bits
 pub mod Filter
 pub mod Hashed
+pub mod Words

@@ -29,6 +29,7 @@ pub struct WordFilter {
 
 impl WordFilter {
     ghost use Rattle.pk_filter.specs.Filter.{HasAll, Passes, bytes_for};
+    ghost use Rattle.pk_filter.specs.Words.{HasWordsOf};
     ghost use Rattle.pk_filter.specs.declared.hash.WordHash.{WordHash};
 
     /// How many bytes one of so many words takes.
@@ -49,6 +50,10 @@ impl WordFilter {
         ensures words { S.honest → (es : List Item)
             → DictSpells (bytes_at (S.content source.old) place) es → length es ≡ place.terms
             → MatchResult result (HasAll es) (λ e. e ≡ ReadFault.Damaged → ⊥) }
+
+        // Of any bytes.
+        ensures read { S.honest → IfOk result (HasWordsOf (S.content source.old) place) }
+
         ensures size { IfOk result (λ f. 4 * vec_len f.lanes ≡ bytes_for place.terms) }
         ensures left { ReadsSource S.ByteSource CountsReads result source.old source.new }
     {

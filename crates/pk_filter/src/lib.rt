@@ -13,7 +13,8 @@
 //! number of filters.
 //!
 //! The words of the contracts are in `specs`: `Hashed` has what a hash picks, `Bits` when its bits
-//! are set, `Filter` which words pass. What that says of a dictionary's entries is a law ([`laws`]).
+//! are set, `Filter` which words pass, `Words` that all do which any bytes say, as a dictionary.
+//! What that says of a dictionary's entries is a law ([`laws`]).
 #![tactic(auto)]
 
 mod bits;

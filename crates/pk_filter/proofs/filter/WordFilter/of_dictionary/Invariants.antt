@@ -1,10 +1,12 @@
 -- The words so far pass, and the source was only read.
-use Rattle.std.proofs.Common.{◌≡◌, ◌*◌, List, None, length, take, vec_len}
+use Rattle.std.proofs.Common.{◌≡◌, ◌*◌, None, vec_len}
 use Rattle.pk_posting.proofs.SourceLemmas.{IsAnswered}
-use Rattle.pk_dict.specs.Cursor.{StandsAt, words_left}
-use Rattle.pk_dict.specs.Dictionary.{DictSpells, Item}
+use Rattle.pk_dict.specs.Cursor.{words_left}
+use Rattle.pk_dict.specs.Dictionary.{group_count}
 use Rattle.pk_dict.specs.Place.{bytes_at}
-use Rattle.pk_filter.specs.Filter.{HasAll, bytes_for}
+use Rattle.pk_dict.specs.Said.{IsSaid}
+use Rattle.pk_filter.specs.Filter.{bytes_for}
+use Rattle.pk_filter.proofs.WordLemmas.{HasFirst}
 use Rattle.pk_filter.proofs.filter.WordFilter.of_dictionary.Given as goal
 
 abbrev pub invariant-words : goal.invariant-words
@@ -15,10 +17,8 @@ invariant-words g l =
       place : l.words.place ≡ l.fn.place;
       sound : l.words.fault ≡ None;
       long : 4 * vec_len l.filter.lanes ≡ bytes_for l.fn.place.terms;
-      at : g.S.ByteSource.honest → (es : List Item) → DictSpells (bytes_at (content l.fn.source) l.fn.place) es → length es ≡ l.fn.place.terms
-          → StandsAt (bytes_at (content l.fn.source) l.fn.place) l.words es l.words.read;
-      all : g.S.ByteSource.honest → (es : List Item) → DictSpells (bytes_at (content l.fn.source) l.fn.place) es → length es ≡ l.fn.place.terms
-          → HasAll (take l.words.read es) l.filter;
+      said : g.S.ByteSource.honest → IsSaid (bytes_at (content l.fn.source) l.fn.place) l.words;
+      read : g.S.ByteSource.honest → HasFirst (bytes_at (content l.fn.source) l.fn.place) (group_count l.fn.place.terms) l.words.read l.filter;
     }
 
 abbrev pub decreases-words : goal.decreases-words
