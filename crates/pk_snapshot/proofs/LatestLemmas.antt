@@ -10,7 +10,7 @@ use Rattle.pk_manifest.specs.Evolves.{Evolves, covers, force_of, in_force, stamp
 use Rattle.pk_manifest.specs.Found.{IsFound}
 use Rattle.pk_manifest.specs.Sound.{named}
 use Rattle.pk_manifest.specs.Spelling.{Body}
-use Rattle.pk_manifest.proofs.Evolving.{evolves_then, open_below}
+use Rattle.pk_manifest.proofs.Evolving.{evolves_here, evolves_then, open_below}
 use Rattle.pk_manifest.proofs.Fields.{generation_of_spelling}
 use Rattle.pk_manifest.proofs.Found.{found_body}
 use Rattle.pk_snapshot.specs.Latest.{IsSnapshot}
@@ -20,6 +20,7 @@ use Rattle.pk_snapshot.specs.Shared.{Confirms, SawShut}
 use Rattle.pk_snapshot.specs.Shown.{ShowsBody, own_extents, shown_bytes}
 use Rattle.pk_snapshot.proofs.ConfirmLemmas.{begun}
 use Rattle.pk_snapshot.proofs.OpenLemmas.{alone}
+use Rattle.pk_snapshot.proofs.SeenLemmas.{stamp_wider}
 use Rattle.pk_snapshot.proofs.ShowsLemmas.{shows}
 
 -- NOTHING NEWER IS IN FORCE where neither body says a greater generation than one that is: what a body
@@ -45,7 +46,7 @@ pub latest_by_stamps : (old mid new : List â„•) (half : Half) (g beside own : â„
 latest_by_stamps old mid new half g beside own low first most seen most_own seen_own =
     force_below old half g
     (stamp_before old new half g own low most_own
-    (record { moment = seen_own.moment; since = evolves_then old mid seen_own.moment first seen_own.since; until = seen_own.until; stamp_is = seen_own.stamp_is }))
+    (stamp_wider old mid new new half own first seen_own (evolves_here new)))
     (stamp_before old mid (other half) g beside low most seen)
 
 -- Nor is there where the other gate was shut, and then the body seen behind its own.

@@ -9,3 +9,4 @@ pub mod FoundLemmas
 pub mod OpenLemmas
 pub mod ShowsLemmas
 pub mod LatestLemmas
+pub mod AnotherLemmas

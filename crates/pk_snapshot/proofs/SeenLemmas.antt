@@ -13,7 +13,8 @@ use Rattle.std.proofs.lemmas.Bool.{ne_eqb}
 use Rattle.std.proofs.lemmas.Bool.Decides.{nat_tests}
 use borrow.Rule.Slice.PartMut.{put_mid}
 use Rattle.pk_manifest.specs.Evolves.{Evolves, stamp}
-use Rattle.pk_snapshot.specs.Shared.{AreSeen, Confirms, IsChosen, SawShut, SeenAt, SeenAtOnce}
+use Rattle.pk_snapshot.specs.Seen.{SawStamp}
+use Rattle.pk_snapshot.specs.Shared.{AreSeen, Confirms, IsChosen, SawOther, SawShut, SeenAt, SeenAtOnce}
 use Rattle.pk_manifest.proofs.Evolving.{evolves_here, evolves_then}
 
 -- what is seen between two moments is seen between an earlier one and a later one
@@ -106,7 +107,19 @@ shut_wider old mid new late half before seen after = record {
   shut = seen.shut;
 }
 
-if_some : (P : ℕ → Type 0) (o : Option ℕ) (x : ℕ) → o ≡ Some x → IfSome o P → P x
+pub stamp_wider : (old mid new late : List ℕ) (half : Half) (g : ℕ) → Evolves old mid → SawStamp mid new half g → Evolves new late → SawStamp old late half g
+stamp_wider old mid new late half g before seen after = record {
+  moment = seen.moment;
+  since = evolves_then old mid seen.moment before seen.since;
+  until = evolves_then seen.moment new late seen.until after;
+  stamp_is = seen.stamp_is;
+}
+
+pub other_wider : (old mid new late : List ℕ) (half : Half) (g : ℕ) → Evolves old mid → SawOther mid new half g → Evolves new late → SawOther old late half g
+other_wider old mid new late half g before (inl shut) after = inl (shut_wider old mid new late half before shut after)
+other_wider old mid new late half g before (inr seen) after = inr (seen.0, seen.1, confirms_wider old mid new late half seen.0 before seen.2 after)
+
+pub if_some : (P : ℕ → Type 0) (o : Option ℕ) (x : ℕ) → o ≡ Some x → IfSome o P → P x
 if_some P o x is given = subst (λ (m : Option ℕ). IfSome m P) is given
 
 pub if_none : (P : Type 0) (o : Option ℕ) → o ≡ None → IfNone o P → P

@@ -7,3 +7,5 @@ pub mod Images
 pub mod Found
 pub mod Order
 pub mod Latest
+pub mod Changed
+pub mod Another

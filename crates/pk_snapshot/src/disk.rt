@@ -1,14 +1,16 @@
 //! A disk that shows a file as it was, while another program may write it.
 
-ghost use Rattle.std.specs.Prelude.{◌≡◌, ◌≤◌, ◌+◌, ◌^◌, false, IfErr, IfOk};
+ghost use Rattle.std.specs.Prelude.{◌≡◌, ◌≤◌, ◌+◌, ◌^◌, true, false, IfErr, IfOk};
 ghost use Rattle.pk_disk.specs.Disk.{nowhere};
 ghost use Rattle.pk_manifest.specs.Evolves.{Evolves, in_force};
+ghost use Rattle.pk_snapshot.specs.Changed.{SawChange};
 ghost use Rattle.pk_snapshot.specs.Counted.{FailsByCalls, is_disk};
 ghost use Rattle.pk_snapshot.specs.Found.{RefusedAs};
 ghost use Rattle.pk_snapshot.specs.Latest.{IsSnapshot};
+ghost use Rattle.pk_snapshot.specs.Shared.{SawOther};
 ghost use Rattle.pk_snapshot.specs.Shown.{ShowsBody, shown_bytes};
 
-use crate::fault::Refused;
+use crate::fault::{Refused, SnapshotFault};
 use crate::looking::{Looked, is_latest, look};
 use crate::reading::is_still;
 use crate::shared::SharedFile;
@@ -33,6 +35,8 @@ pub struct SnapshotDisk<F: SharedFile> {
     ghost snapshot: { F.honest → IsSnapshot (F.marked file) half generation len shown.extents.items },
     ghost by_calls: { F.honest → outdated ≡ false
         → failed_reads ≤ F.failed file + F.interrupted file },
+    ghost gone: { F.honest → outdated ≡ true
+        → ∥ SawOther (F.marked file) (F.content file) half generation ∥₁ },
 }
 
 impl<F: SharedFile + Drop> SnapshotDisk<F> {
@@ -50,6 +54,8 @@ impl<F: SharedFile + Drop> SnapshotDisk<F> {
             (⟦<SnapshotDisk<F> as Disk>⟧.content d) d.half d.generation) }
         ensures refused { F.honest → IfErr result (λ r. RefusedAs (F.content file)
             (F.content r.file) (F.marked r.file) r.why) }
+        ensures changed { F.honest → IfErr result (λ r. r.why ≡ SnapshotFault.Changed
+            → SawChange (F.content file) (F.content r.file)) }
         ensures later { F.honest → IfErr result
             (λ r. Evolves (F.content file) (F.content r.file)) }
         ensures fails { F.honest → IfErr result (λ r. FailsByCalls F.failed F.interrupted (2 ^ 32)

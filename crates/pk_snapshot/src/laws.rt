@@ -1,6 +1,7 @@
 //! Laws of snapshots, each the contract of a function with nothing to do.
 
-ghost use Rattle.std.specs.Prelude.{◌≡◌, ◌≤◌, ◌+◌, false};
+ghost use Rattle.std.specs.Prelude.{◌≡◌, ◌≤◌, ◌+◌, true, false};
+ghost use Rattle.pk_snapshot.specs.Shared.{SawOther};
 
 use crate::disk::SnapshotDisk;
 use crate::shared::SharedFile;
@@ -17,4 +18,11 @@ pub fn a_snapshot_fails_by_its_file<F: SharedFile>(disk: &SnapshotDisk<F>)
     ensures { F.honest → disk.now.outdated ≡ false
         → ⟦<SnapshotDisk<F> as Disk>⟧.failed_reads disk.now
         ≤ F.failed disk.now.file + F.interrupted disk.now.file }
+{}
+
+/// A snapshot of an honest file is outdated only where another body was seen than the one that is
+/// shown, or its gate as shut, since the bytes were marked.
+pub fn a_snapshot_is_outdated_by_another_body<F: SharedFile>(disk: &SnapshotDisk<F>)
+    ensures { F.honest → disk.now.outdated ≡ true → ∥ SawOther
+        (F.marked disk.now.file) (F.content disk.now.file) disk.now.half disk.now.generation ∥₁ }
 {}

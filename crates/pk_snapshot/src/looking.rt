@@ -1,6 +1,6 @@
 //! The body that is to be shown: chosen, read and confirmed.
 
-ghost use Rattle.std.specs.Prelude.{◌≡◌, ◌≤◌, ◌^◌, ℕ, length, IfErr, IfNone, IfOk, IfSome, IsTrue, OnOk, is_err};
+ghost use Rattle.std.specs.Prelude.{◌≡◌, ◌≤◌, ◌^◌, ℕ, length, false, IfErr, IfNone, IfOk, IfSome, IsTrue, OnOk, is_err};
 ghost use Rattle.pk_manifest.specs.Bodies.{bodies_end, body_size};
 ghost use Rattle.pk_disk.specs.declared.units.Extent.{Extent};
 ghost use Rattle.pk_manifest.specs.Current.{units_of_disk};
@@ -8,10 +8,12 @@ ghost use Rattle.pk_manifest.specs.Sound.{IsBody};
 ghost use Rattle.pk_manifest.specs.Spelling.{view};
 ghost use Rattle.pk_manifest.specs.Evolves.{Evolves, in_force};
 ghost use Rattle.pk_manifest.specs.Found.{IsFound};
+ghost use Rattle.pk_snapshot.specs.Another.{SawAnother};
+ghost use Rattle.pk_snapshot.specs.Changed.{SawChange};
 ghost use Rattle.pk_snapshot.specs.Counted.{FailsByCalls, is_disk_err};
 ghost use Rattle.pk_snapshot.specs.Found.{IsOfBody, IsOfConfirm, RefusedAs, SaysPlace};
 ghost use Rattle.pk_snapshot.specs.Latest.{IsSnapshot};
-ghost use Rattle.pk_snapshot.specs.Shared.{Confirms, IsChosen, SawShut};
+ghost use Rattle.pk_snapshot.specs.Shared.{Confirms, IsChosen, SawOther, SawShut};
 ghost use Rattle.pk_snapshot.specs.Shown.{ShowsBody, shown_bytes};
 
 use crate::fault::SnapshotFault;
@@ -82,6 +84,8 @@ pub fn is_latest<F: SharedFile>(
 ) -> Result<bool, DiskFault>
     ensures latest { F.honest → generation ≤ in_force (F.content file.old) → IfOk result
         (λ is. IsTrue is → in_force (F.content file.old) ≤ generation) }
+    ensures denied { F.honest → IfOk result (λ is. is ≡ false
+        → SawAnother (F.content file.old) (F.content file.new) half generation) }
     ensures evolves { F.honest → Evolves (F.content file.old) (F.content file.new) }
     ensures marked { F.honest → F.marked file.new ≡ F.marked file.old }
     ensures fails { F.honest
@@ -106,6 +110,8 @@ pub fn confirm<F: SharedFile>(
     ensures given { F.honest → OnOk result
         (Confirms (F.content file.old) (F.content file.new) half generation) }
     ensures fault { IfErr result IsOfConfirm }
+    ensures changed { F.honest → IfErr result (λ why. why ≡ SnapshotFault.Changed
+        → SawOther (F.content file.old) (F.content file.new) half generation) }
     ensures evolves { F.honest → Evolves (F.content file.old) (F.content file.new) }
     ensures marked { F.honest → F.marked file.new ≡ F.marked file.old }
     ensures fails { F.honest
@@ -156,6 +162,8 @@ pub fn read_manifest<F: SharedFile>(
         (λ m. IsFound (F.content file.old) half generation (view m)) }
     ensures refused { F.honest → generation ≤ in_force (F.content file.old) → IfErr result
         (IsOfBody (F.content file.old) half generation) }
+    ensures changed { F.honest → IfErr result (λ why. why ≡ SnapshotFault.Changed
+        → SawOther (F.content file.old) (F.content file.new) half generation) }
     ensures sound { IfOk result (λ m. IsBody (view m).units (view m)) }
     ensures marked { F.honest → F.marked file.new ≡ F.marked file.old }
     ensures fails { F.honest
@@ -205,6 +213,8 @@ pub fn look<F: SharedFile>(alloc: Global, file: &mut F) -> Result<Looked, Snapsh
         (λ l. IsSnapshot (F.marked file.new) l.half l.generation l.len l.shown.extents.items) }
     ensures refused { F.honest → IfErr result
         (RefusedAs (F.content file.old) (F.content file.new) (F.marked file.new)) }
+    ensures changed { F.honest → IfErr result (λ why. why ≡ SnapshotFault.Changed
+        → SawChange (F.content file.old) (F.content file.new)) }
     ensures evolves { F.honest → Evolves (F.content file.old) (F.content file.new) }
     ensures fails { F.honest
         → FailsByCalls F.failed F.interrupted (2 ^ 32) (is_disk_err result) file.old file.new }

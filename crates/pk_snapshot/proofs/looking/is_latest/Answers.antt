@@ -1,14 +1,15 @@
 -- Neither body said a greater generation, or the other gate was shut and the body seen behind its own.
-use Rattle.std.proofs.Common.{◌≤◌, arith, rules, subst}
+use Rattle.std.proofs.Common.{◌≤◌, ◌<◌, arith, rules, subst}
 use Rattle.std.proofs.lemmas.Bool.Decides.{nat_tests}
 use Rattle.pk_manifest.specs.declared.half.Half.{Half}
 use Rattle.pk_manifest.specs.Bodies.{other}
 use Rattle.pk_manifest.proofs.Evolving.{evolves_then}
 use Rattle.pk_snapshot.specs.Seen.{SawStamp}
-use Rattle.pk_snapshot.specs.Shared.{SawShut}
+use Rattle.pk_snapshot.specs.Shared.{Confirms, SawShut}
+use Rattle.pk_snapshot.proofs.AnotherLemmas.{another_greater, another_other, another_stamp}
 use Rattle.pk_snapshot.proofs.CallLemmas.{fails_then}
 use Rattle.pk_snapshot.proofs.LatestLemmas.{latest_alone, latest_by_stamps}
-use Rattle.pk_snapshot.proofs.SeenLemmas.{if_none}
+use Rattle.pk_snapshot.proofs.SeenLemmas.{if_none, if_some}
 use Rattle.pk_snapshot.proofs.looking.is_latest.Goals as goal
 
 pub returns-in_err-stamp_of-clause-evolves : goal.returns-in_err-stamp_of-clause-evolves
@@ -53,3 +54,28 @@ pub returns-in-None-clause-fails : goal.returns-in-None-clause-fails
 returns-in-None-clause-fails g c = λ h.
     let f = g.F.SharedFile in
     fails_then f.failed f.interrupted 0 _ _ _ _ (c.in_ok-beside.ensures.fails h) (fails_then f.failed f.interrupted 0 _ _ _ _ (c.in_ok-stamp_behind.ensures.fails h) (c.is_still.ensures.fails h))
+
+pub returns-then-beside-generation-clause-denied : goal.returns-then-beside-generation-clause-denied
+returns-then-beside-generation-clause-denied g c = λ h no.
+    let f = g.F.SharedFile in
+    another_stamp (f.content c.args.file.now) (f.content c.stamp_of.new.file) (f.content c.stamp_of-then-beside-generation.new.file) c.args.half c.args.generation c.in_ok-stamp_of.field-0
+    (c.stamp_of.ensures.evolves h) (c.in_ok-stamp_of.ensures.given h) no
+
+pub returns-in-None-clause-denied : goal.returns-in-None-clause-denied
+returns-in-None-clause-denied g c = λ h.
+    let f = g.F.SharedFile in
+    another_other (f.content c.args.file.now) (f.content c.stamp_behind.new.file) (f.content c.is_still.new.file) c.args.half c.args.generation
+    (evolves_then _ _ _ (c.stamp_of.ensures.evolves h) (c.stamp_behind.ensures.evolves h)) c.is_still.result (c.is_still.ensures.other h)
+
+pub returns-in-Some-clause-denied : goal.returns-in-Some-clause-denied
+returns-in-Some-clause-denied g c = λ h no.
+    let f = g.F.SharedFile in
+    let old = f.content c.args.file.now in
+    let mid = f.content c.stamp_of.new.file in
+    let new = f.content c.stamp_behind.new.file in
+    let beside = c.in_ok-beside.beside in
+    let more : c.args.generation < beside = search rules in
+    another_greater old mid new c.args.half c.args.generation beside c.in-Some.field-0 more
+    (subst (λ (half : Half). SawStamp old mid half beside) c.other.ensures (c.in_ok-beside.ensures.given h))
+    (subst (λ (half : Half). Confirms mid new half c.in-Some.field-0) c.other-2.ensures
+    (if_some (Confirms mid new c.other-2.result) c.in_ok-stamp_behind.field-0 c.in-Some.field-0 c.in-Some.is (c.in_ok-stamp_behind.ensures.given h)))

@@ -6,9 +6,10 @@ use Rattle.pk_manifest.specs.Spelling.{view}
 use Rattle.pk_snapshot.specs.declared.looking.Chosen.{Chosen}
 use Rattle.pk_manifest.specs.Evolves.{Evolves, in_force}
 use Rattle.pk_snapshot.specs.Latest.{IsSnapshot}
-use Rattle.pk_snapshot.specs.Shared.{IsChosen}
+use Rattle.pk_snapshot.specs.Shared.{Confirms, IsChosen}
 use Rattle.pk_snapshot.specs.Shown.{own_extents}
 use Rattle.pk_manifest.proofs.Evolving.{evolves_here, evolves_then}
+use Rattle.pk_snapshot.proofs.AnotherLemmas.{changed_since}
 use Rattle.pk_snapshot.proofs.CallLemmas.{fails_then, fails_within, no_calls}
 use Rattle.pk_snapshot.proofs.ConfirmLemmas.{confirmed_again}
 use Rattle.pk_snapshot.proofs.FoundLemmas.{of_some}
@@ -129,3 +130,26 @@ returns-in_err-manifest-clause-fails g c = λ h.
     let second = fails_then f.failed f.interrupted 0 _ _ _ _ first (no_calls f.failed f.interrupted 0 _ _ (c.mark.ensures.failed h) (c.mark.ensures.interrupted h)) in
     let third = fails_then f.failed f.interrupted 0 _ _ _ _ second (c.in-Ok-length_of.ensures.fails h) in
     rw (p.1, p.2) (fails_then f.failed f.interrupted many _ _ _ _ (fails_within f.failed f.interrupted 0 many _ _ _ (omega arith) third) (c.in_err-manifest.ensures.fails h))
+
+pub returns-in_err-confirm-clause-changed : goal.returns-in_err-confirm-clause-changed
+returns-in_err-confirm-clause-changed g c = λ h.
+    let f = g.F.SharedFile in
+    let looked = f.content c.choose.new.file in
+    let half = c.in-Some.field-0.half in
+    let generation = c.in-Some.field-0.generation in
+    let is_chosen = of_some (λ (x : Chosen). IsChosen (f.content c.length_of.new.file) looked x.half x.generation) c.in-Ok-choose.chosen c.in-Some.field-0 c.in-Some.is (c.in-Ok-choose.ensures.given h) in
+    let confirmed = subst (λ (l : List ℕ). Confirms l looked half generation) (c.length_of.ensures.bytes h) is_chosen.confirms in
+    let p = err_from_is_err_and c.from_residual.result c.from_residual.ensures.1 in
+    rw (p.1, p.2) (λ is. changed_since (f.content c.args.file.now) looked looked (f.content c.confirm.new.file) half generation confirmed (evolves_here looked) (c.in_err-confirm.ensures.changed h is))
+
+pub returns-in_err-manifest-clause-changed : goal.returns-in_err-manifest-clause-changed
+returns-in_err-manifest-clause-changed g c = λ h.
+    let f = g.F.SharedFile in
+    let w = (goal.at.returns-in_err-manifest-clause-changed g c).After-read_manifest in
+    let looked = f.content c.choose.new.file in
+    let half = c.in-Some.field-0.half in
+    let generation = c.in-Some.field-0.generation in
+    let confirmed = subst (λ (l : List ℕ). Confirms l looked half generation) (c.length_of.ensures.bytes h) (chosen g w h).confirms in
+    let between = evolves_to (c.length_of-2.ensures.bytes h) (evolves_then looked (f.content c.confirm.new.file) (f.content c.mark.new.self) (c.in_ok-confirm.ensures.evolves h) (c.mark.ensures.evolves h)) in
+    let p = err_from_is_err_and c.from_residual-in_err-manifest.result c.from_residual-in_err-manifest.ensures.1 in
+    rw (p.1, p.2) (λ is. changed_since (f.content c.args.file.now) looked (f.content c.length_of-2.new.file) (f.content c.read_manifest.new.file) half generation confirmed between (c.in_err-manifest.ensures.changed h is))

@@ -4,8 +4,10 @@ use Rattle.std.proofs.lemmas.Result.{err_from_is_err_and}
 use Rattle.pk_manifest.specs.declared.manifest.Manifest.{Manifest}
 use Rattle.pk_manifest.specs.Sound.{IsBody}
 use Rattle.pk_manifest.specs.Spelling.{spelling, table_of, view}
+use Rattle.pk_manifest.proofs.Evolving.{evolves_here, evolves_then}
 use Rattle.pk_snapshot.proofs.CallLemmas.{fails_then, fails_within}
 use Rattle.pk_snapshot.proofs.FoundLemmas.{filled_vec, found, misplaced_body, of_none, of_some, seen_at, sound_own, undecoded}
+use Rattle.pk_snapshot.proofs.SeenLemmas.{other_wider}
 use Rattle.pk_snapshot.proofs.looking.read_manifest.Goals as goal
 
 pub returns-clause-found : goal.returns-clause-found
@@ -90,3 +92,19 @@ returns-in_err-confirm-2-clause-fails g c = λ h.
     (fails_then f.failed f.interrupted (2 ^ 32) _ _ _ _ (fails_within f.failed f.interrupted _ (2 ^ 32) false _ _ (omega arith) (c.in-Ok.ensures.fails h))
     (fails_then f.failed f.interrupted (2 ^ 32) _ _ _ _ (fails_within f.failed f.interrupted _ (2 ^ 32) false _ _ (omega (arith, size, few)) (c.in-Ok-read_whole.ensures.fails h))
     (fails_within f.failed f.interrupted 0 (2 ^ 32) _ _ _ (omega arith) (c.in_err-confirm-2.ensures.fails h))))
+
+pub returns-in_err-confirm-clause-changed : goal.returns-in_err-confirm-clause-changed
+returns-in_err-confirm-clause-changed g c = λ h.
+    let f = g.F.SharedFile in
+    let new = f.content c.confirm.new.file in
+    let p = err_from_is_err_and c.from_residual.result c.from_residual.ensures.1 in
+    rw (p.1, p.2) (λ is. other_wider (f.content c.args.file.now) (f.content c.read_whole.new.file) new new c.args.half c.args.generation
+    (c.read_whole.ensures.evolves h) (c.in_err-confirm.ensures.changed h is) (evolves_here new))
+
+pub returns-in_err-confirm-2-clause-changed : goal.returns-in_err-confirm-2-clause-changed
+returns-in_err-confirm-2-clause-changed g c = λ h.
+    let f = g.F.SharedFile in
+    let new = f.content c.confirm-2.new.file in
+    let p = err_from_is_err_and c.from_residual-in_err-confirm-2.result c.from_residual-in_err-confirm-2.ensures.1 in
+    rw (p.1, p.2) (λ is. other_wider (f.content c.args.file.now) (f.content c.read_whole-2.new.file) new new c.args.half c.args.generation
+    (evolves_then _ _ _ (c.read_whole.ensures.evolves h) (c.read_whole-2.ensures.evolves h)) (c.in_err-confirm-2.ensures.changed h is) (evolves_here new))

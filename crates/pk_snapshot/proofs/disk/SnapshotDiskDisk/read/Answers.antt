@@ -1,11 +1,13 @@
--- What was read is confirmed.
-use Rattle.std.proofs.Common.{◌≡◌, ◌+◌, ◌≤◌, ◌∙◌, ℕ, length, ap, arith, rules}
+-- What was read is confirmed, or another body was seen.
+use Rattle.std.proofs.Common.{◌≡◌, ◌+◌, ◌≤◌, ◌∙◌, ℕ, List, length, ap, arith, rules, subst, sym}
 use Rattle.std.specs.Prelude.{slice_range}
 use Rattle.pk_snapshot.specs.Shared.{IsFilled}
 use Rattle.pk_snapshot.specs.Shown.{shown_bytes}
-use Rattle.pk_manifest.specs.Evolves.{body_in}
+use Rattle.pk_manifest.specs.Evolves.{Evolves, body_in}
+use Rattle.pk_manifest.proofs.Evolving.{evolves_here}
 use Rattle.pk_snapshot.proofs.FillLemmas.{ok_then}
 use Rattle.pk_snapshot.proofs.OpenLemmas.{found_shown}
+use Rattle.pk_snapshot.proofs.SeenLemmas.{other_wider}
 use Rattle.pk_snapshot.proofs.ShownLemmas.{length_shown, read_is}
 use Rattle.pk_snapshot.proofs.disk.SnapshotDiskDisk.read.Goals as goal
 
@@ -26,3 +28,12 @@ returns-clause-given g c = λ h.
     let last = c.in-Ok.ensures.given h (search rules) in
     read_is start old mid (f.content c.is_still.new.file) disk.half disk.generation from.found.gate from.found.stamp_is (g.met.F.SharedFile.marked_before disk.file h) last disk.len disk.shown.extents.items (found_shown start disk.half disk.generation (body_in start disk.half) disk.shown.extents.items from.found from.names) c.args.at out fits all
     ∙ ap (λ (n : ℕ). slice_range (shown_bytes disk.len disk.shown.extents.items start) c.args.at (c.args.at + n)) long
+
+pub invariant_of-self-then-not-still-clause-gone : goal.invariant_of-self-then-not-still-clause-gone
+invariant_of-self-then-not-still-clause-gone g c = λ h is.
+    let f = g.F.SharedFile in
+    let disk = c.args.self.now in
+    let mid = c.fill.new.file in
+    let new = c.is_still.new.file in
+    let since = subst (λ (l : List ℕ). Evolves l (f.content mid)) (sym (c.is_still.ensures.marked h)) (g.met.F.SharedFile.marked_before mid h) in
+    ∣ other_wider (f.marked new) (f.content mid) (f.content new) (f.content new) disk.half disk.generation since (c.in-Ok.ensures.other h (search rules)) (evolves_here (f.content new)) ∣₁

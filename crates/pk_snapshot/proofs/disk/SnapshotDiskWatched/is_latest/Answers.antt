@@ -2,6 +2,7 @@
 use Rattle.std.proofs.Common.{◌≤◌, ap, sym, refl, ◌∙◌, arith}
 use Rattle.pk_manifest.specs.Evolves.{in_force}
 use Rattle.pk_snapshot.specs.Shown.{shown_bytes}
+use Rattle.pk_snapshot.proofs.AnotherLemmas.{gone_on}
 use Rattle.pk_snapshot.proofs.LatestLemmas.{if_honest, marked_low}
 use Rattle.pk_snapshot.proofs.ShownLemmas.{length_shown}
 use Rattle.pk_snapshot.proofs.disk.SnapshotDiskWatched.is_latest.Goals as goal
@@ -31,3 +32,10 @@ returns-clause-latest g c =
     if_honest f.honest (in_force (f.content disk.file) ≤ disk.generation) c.is_latest.result (λ h.
     let from = (disk.snapshot h).found in
     c.is_latest.ensures.latest h (marked_low (f.marked disk.file) (f.content disk.file) disk.half disk.generation from.gate from.stamp_is (g.met.F.SharedFile.marked_before disk.file h)))
+
+pub invariant_of-self-clause-gone : goal.invariant_of-self-clause-gone
+invariant_of-self-clause-gone g c = λ h is.
+    let f = g.F.SharedFile in
+    let disk = c.args.self.now in
+    let new = c.is_latest.new.file in
+    gone_on (f.marked disk.file) (f.marked new) (f.content disk.file) (f.content new) disk.half disk.generation (c.is_latest.ensures.marked h) (c.is_latest.ensures.evolves h) (disk.gone h is)
