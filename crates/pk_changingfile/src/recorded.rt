@@ -1,6 +1,6 @@
 //! A file in memory that goes through contents that were recorded.
 
-ghost use Rattle.std.specs.Prelude.{◌≡◌, ◌<◌, ◌+◌, ◌-◌, ℕ, [], false, length, min, true};
+ghost use Rattle.std.specs.Prelude.{◌≡◌, ◌≤◌, ◌<◌, ◌+◌, ◌-◌, ℕ, [], false, length, min, true, IfOk};
 
 use pk_filedisk::CallFault;
 use pk_snapshot::{HeldFile, SharedFile};
@@ -117,7 +117,16 @@ impl<'a> SharedFile for RecordedFile<'a> {
         Ok(self.bytes().len() as u64)
     }
 
-    fn read_at(&mut self, at: u64, out: &mut [u8]) -> Result<usize, CallFault> {
+    fn read_at(&mut self, at: u64, out: &mut [u8]) -> Result<usize, CallFault>
+        ensures count { IfOk result (λ n. n ≤ length out.old) }
+        ensures last { (count : ℕ) → self.old.course ≡ Course.By count → self.old.is_held ≡ false
+            → self.old.left ≡ 0 → self.new.place
+            ≡ min (self.old.place + count) (length self.old.contents.now - 1) }
+        ensures other { (place : ℕ) → self.old.course ≡ Course.To place
+            → self.old.is_held ≡ false → self.old.left ≡ 0 → self.new.place ≡ place }
+        ensures early { 0 < self.old.left → self.new.place ≡ self.old.place }
+        ensures held { self.old.is_held ≡ true → self.new.place ≡ self.old.place }
+    {
         let rest = self.rest(at);
         let n = out.len().min(rest.len());
         out[..n].copy_from_slice(&rest[..n]);
@@ -136,7 +145,10 @@ impl<'a> SharedFile for RecordedFile<'a> {
 impl<'a> HeldFile for RecordedFile<'a> {
     ghost is_held = { λ f. f.is_held };
 
-    fn hold(&mut self) -> bool {
+    fn hold(&mut self) -> bool
+        ensures holds { self.new.is_held ≡ true }
+        ensures not_held { result ≡ false → self.new.is_held ≡ false }
+    {
         self.is_held = true;
         true
     }
