@@ -1,5 +1,6 @@
 pub mod AheadLemmas
 pub mod DirectoryLemmas
+pub mod DocumentLemmas
 pub mod PrefixLemmas
 pub mod IndexLemmas
 pub mod ListingLemmas

@@ -2,6 +2,7 @@ pub mod Ahead
 pub mod Building
 pub mod Built
 pub mod Directory
+pub mod Documents
 pub mod Fields
 pub mod Indexed
 pub mod Listing

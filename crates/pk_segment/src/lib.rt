@@ -42,12 +42,12 @@
 //!
 //! `build` and `size_of` answer `TooLarge` exactly where the length passes the limit, else at most
 //! `Memory`. On bytes that spell documents a reader answers by them, or `Disk` or `Memory`; on any
-//! others it returns, and `terms`, `entries_of` and `dictionary` tell what these say. `open`,
-//! `contains`, `directory` and `numbers` go by the header and the directory alone, whatever else
-//! the bytes are (`DirectorySpells`); `list_of` and `terms` by these and the index, whatever bytes
-//! the texts are (`IndexSpells`). `Disk` is answered exactly where a read failed. A refused call
-//! changed nothing but the counts, and may be made again. That the source was only read, and the
-//! disk below, each reader's clause `left` tells.
+//! others it returns, and `terms`, `entries_of`, `dictionary`, `text_of` and `document_at` tell what
+//! these say. `open`, `contains`, `directory` and `numbers` go by the header and the directory
+//! alone, whatever else the bytes are (`DirectorySpells`); `list_of` and `terms` by these and the
+//! index, whatever bytes the texts are (`IndexSpells`). `Disk` is answered exactly where a read
+//! failed. A refused call changed nothing but the counts, and may be made again. That the source was
+//! only read, and the disk below, each reader's clause `left` tells.
 //!
 //! # What is written
 //!
@@ -62,8 +62,9 @@
 //! Where the words are: `specs/Spelling` has the spelling, `specs/Indexed` the index behind the
 //! texts, `specs/Listing` what is answered of words, `specs/Planning` what is known before writing,
 //! `specs/Opened` and `specs/Reading` what the readers answer, `specs/Said` what any bytes say of
-//! words, `specs/OnlyRead` what readers leave of a disk, `specs/Ahead` what is held of
-//! an extent that is read ahead, `specs/Directory` what a directory in memory says. Lemma pages:
+//! words, `specs/Texts` and `specs/Documents` of texts and documents, `specs/OnlyRead` what readers
+//! leave of a disk, `specs/Ahead` what is held of an extent that is read ahead, `specs/Directory`
+//! what a directory in memory says. Lemma pages:
 //! `SegmentLemmas` reads a spelling again, field by field, `DirectoryLemmas` a directory,
 //! `IndexLemmas` and `ListingLemmas` the index, `PlanLemmas` serves its writing, `ReadLemmas` and
 //! `OpeningLemmas` the readers, `OnlyReadLemmas` calls one after the other.
