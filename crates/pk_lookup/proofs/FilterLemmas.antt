@@ -3,6 +3,7 @@ use Rattle.std.proofs.Common.{◌≡◌, ◌∙◌, ◌⊎◌, ◌↔◌, inl, i
 use Rattle.std.specs.Borrow.{Bor}
 use Rattle.std.specs.Prelude.{All, Contains, IfSome}
 use Rattle.std.specs.List.Sorted.{IsPermutation}
+use Rattle.std.proofs.lemmas.List.{get_or-set_other, length-set}
 use Rattle.std.proofs.lemmas.List.Elements.{All-contains, All-contains_itself, All-push, All-set, All-take, All-weaker}
 use Rattle.std.proofs.lemmas.List.Sorted.{All-permutation}
 use Rattle.pk_disk.specs.Units.{apart, extent_bytes}
@@ -21,6 +22,7 @@ use Rattle.pk_open.proofs.PlaceLemmas.{entries_many, entry_there}
 use Rattle.pk_lookup.proofs.CacheLemmas.{one_place}
 use Rattle.pk_lookup.proofs.EntryLemmas.{any_or}
 use Rattle.pk_lookup.specs.declared.filters.SegmentFilter.{SegmentFilter}
+use Rattle.pk_lookup.specs.Dropped.{DropsOnlyOf}
 use Rattle.pk_lookup.specs.Filtered.{AddsFilterOf, AddsNoFilter, FiltersAgree, FiltersAgreeAt, FiltersBelow, HasWordsOf, IsFilterFor, KeepsFilter}
 use Rattle.pk_segment.specs.Indexed.{items_of}
 use Rattle.pk_segment.specs.Listing.{dictionary_place}
@@ -79,6 +81,20 @@ pub made_of : (honest : Type 0) (bytes : List ℕ) (o : OpenSegment) (lies : Dic
     → (honest → (docs : List Doc) → IndexSpells bytes docs → lies ≡ dictionary_place docs → IfSome made (HasAll (items_of docs))) → IfSome made (IsOf honest bytes o o.entry.segment)
 made_of honest bytes o lies None same words = tt
 made_of honest bytes o lies (Some filter) same words = (refl, λ h docs index of. words h docs index (same ∙ of.dictionary))
+
+-- ---- what is dropped: what stood there was the segment's
+contains_still : (filters : List SegmentFilter) (i : ℕ) (k was : SegmentFilter) → Contains filters was → ((d : SegmentFilter) → get_or filters i d ≡ was → ⊥) → Contains (set filters i k) was
+contains_still filters i k was there other =
+    let apart : there.0 ≡ i → ⊥ = λ same. other was (ap (λ (j : ℕ). get_or filters j was) (sym same) ∙ there.2) in
+    (there.0, omega (arith, there.1, length-set filters i k), get_or-set_other filters i there.0 k was apart ∙ there.2)
+
+pub drops_put : (filters : List SegmentFilter) (i id : ℕ) (k : SegmentFilter) → ((d : SegmentFilter) → (get_or filters i d).segment ≡ id) → DropsOnlyOf id filters (set filters i k)
+drops_put filters i id k own other filter apart w = record {
+  kept = w.kept;
+  among = contains_still filters i k w.kept w.among (λ d same. apart (sym w.of ∙ ap (λ (x : SegmentFilter). x.segment) (sym same) ∙ own d));
+  of = w.of;
+  is = w.is;
+}
 
 -- ---- one segment: what is put in is its own
 pub agrees_added : (honest : Type 0) (bytes : List ℕ) (o : OpenSegment) (old new : List SegmentFilter) → AddsFilterOf honest bytes o old new → honest → All (IsFilterFor bytes o) old → All (IsFilterFor bytes o) new

@@ -1,6 +1,7 @@
 //! Filters of the words of segments, kept from find to find.
 ghost use Rattle.std.specs.Prelude.{◌≡◌, ◌+◌, ◌-◌, ◌^◌, ◌≤◌, ◌<◌, [], List};
-ghost use Rattle.std.specs.Prelude.{IfErr, IfOk, IfSome, IsTrue, MatchResult, length, min, vec_len};
+ghost use Rattle.std.specs.Prelude.{IfErr, IfOk, IfSome, IsTrue, MatchResult, get_or, length, min};
+ghost use Rattle.std.specs.Prelude.{vec_len};
 ghost use Rattle.pk_filter.specs.Filter.{HasAll};
 ghost use Rattle.pk_model.specs.Collection.{Doc};
 ghost use Rattle.pk_posting.specs.Frames.{ReadsSource};
@@ -76,6 +77,8 @@ pub(crate) struct SegmentFilters {
 }
 
 impl SegmentFilters {
+    ghost use Rattle.pk_lookup.specs.Counted.{AreCounted};
+    ghost use Rattle.pk_lookup.specs.Dropped.{DropsOnlyOf};
     ghost use Rattle.pk_lookup.specs.FilterBytes.{KeepsLimit, bytes_in, bytes_of};
     ghost use Rattle.pk_lookup.specs.Filtered.{AddsFilterOf, AddsNoFilter, KeepsFilter};
 
@@ -83,6 +86,7 @@ impl SegmentFilters {
     pub(crate) fn new(alloc: Global) -> SegmentFilters
         ensures none { result.kept.items ≡ [] }
         ensures limit { KeepsLimit result }
+        ensures counted { AreCounted result }
     {
         SegmentFilters {
             kept: Vec::new(alloc),
@@ -96,6 +100,7 @@ impl SegmentFilters {
     pub(crate) fn settle(&mut self, opened: &[OpenSegment])
         ensures adds { AddsNoFilter self.old.kept.items self.new.kept.items }
         ensures limit { KeepsLimit self.old → KeepsLimit self.new }
+        ensures counted { AreCounted self.old → AreCounted self.new }
     {
         self.read = 0;
         for place in 0..opened.len() {
@@ -114,6 +119,8 @@ impl SegmentFilters {
     fn settle_at(&mut self, place: usize, segment: u64)
         ensures adds { AddsNoFilter self.old.kept.items self.new.kept.items }
         ensures limit { KeepsLimit self.old → KeepsLimit self.new }
+        ensures counted { AreCounted self.old → AreCounted self.new }
+        ensures bytes { self.new.bytes ≡ self.old.bytes }
     {
         if self.is_at(place, segment) || self.kept.len() < place {
             return;
@@ -127,7 +134,9 @@ impl SegmentFilters {
     // Whether what stands at a place is of this segment.
     #[inline(always)]
     fn is_at(&self, place: usize, segment: u64) -> bool
-        ensures { IsTrue result → place < vec_len self.now.kept }
+        ensures within { IsTrue result → place < vec_len self.now.kept }
+        ensures of { IsTrue result → (d : SegmentFilter)
+            → (get_or self.now.kept.items place d).segment ≡ segment }
     {
         place < self.kept.len() && self.kept[place].segment == segment
     }
@@ -140,6 +149,8 @@ impl SegmentFilters {
         ensures within { IfSome result
             (λ at. (from ≤ at) × (at < vec_len self.new.kept)) }
         ensures limit { KeepsLimit self.old → KeepsLimit self.new }
+        ensures counted { AreCounted self.old → AreCounted self.new }
+        ensures bytes { self.new.bytes ≡ self.old.bytes }
     {
         let end = self.kept.len();
         for at in from..end {
@@ -171,6 +182,7 @@ impl SegmentFilters {
 
     /// Notes that a find looks into an open segment, whose bytes the source has, and makes its filter
     /// if that is due.
+    #[tactic(auto, using(crate::proofs::FilterLemmas::drops_put))]
     pub(crate) fn note<S: ByteSource>(
         &mut self,
         alloc: Global,
@@ -180,7 +192,10 @@ impl SegmentFilters {
     ) -> Result<(), ReadFault>
         ensures adds { AddsFilterOf S.honest (S.content source.old) opened.now self.old.kept.items
             self.new.kept.items }
+        ensures drops { DropsOnlyOf opened.now.entry.segment self.old.kept.items
+            self.new.kept.items }
         ensures limit { KeepsLimit self.old → KeepsLimit self.new }
+        ensures counted { AreCounted self.old → AreCounted self.new }
         ensures fault { IfErr result (λ e. e ≡ ReadFault.Disk) }
         ensures left { ReadsSource S.ByteSource CountsReads result source.old source.new }
     {

@@ -1,10 +1,11 @@
 //! One posting list, taken out block by block: through the cache of decoded blocks, or past it.
-ghost use Rattle.std.specs.Prelude.{◌≡◌, ◌*◌, ◌++◌, ℕ, List, OnOk, length, drop, take};
+ghost use Rattle.std.specs.Prelude.{◌≡◌, ◌*◌, ◌++◌, ℕ, List, IsOk, OnOk, length, drop, take};
 ghost use Rattle.pk_cache.specs.Keys.{Rises};
 ghost use Rattle.pk_posting.specs.Parts.{Fits, HasShape, LiesIn, bytes_at};
 ghost use Rattle.pk_posting.specs.Frames.{ReadsSource};
 ghost use Rattle.pk_lookup.specs.Blocks.{AreBlocks, RisesInBlocks};
 ghost use Rattle.pk_lookup.specs.Cached.{AddsOnlyOf, KeepsBlocksOf};
+ghost use Rattle.pk_lookup.specs.Lies.{IsOpened};
 ghost use Rattle.pk_lookup.specs.Matching.{ListLies};
 ghost use Rattle.pk_segment.specs.Puts.{PutsAs};
 ghost use Rattle.pk_segment.specs.Reading.{CountsReads};
@@ -151,6 +152,7 @@ pub(crate) fn copy_out<S: ByteSource>(
     ensures numbers { S.honest → (xs : List ℕ) → ListLies (S.content source.old) place xs
         → count ≡ length xs → PutsAs xs out.new.items result }
     ensures rises { OnOk result (RisesInBlocks out.new.items) }
+    ensures opened { IsOk result → IsOpened place (length (S.content source.old)) }
     ensures left { ReadsSource S.ByteSource CountsReads result source.old source.new }
 {
     out.clear();

@@ -21,6 +21,10 @@
 //! where one rules out all of them nothing is read. They are kept by the segment's id, and agree with
 //! the open segments as the cache does (`FiltersAgree`).
 //!
+//! Whatever the bytes are, what is told of a word in a segment without a filter is what its
+//! dictionary says (`AreSaid`), a list that is sought in lies in the segment (`IsOpened`), and one
+//! that is united with others has as many numbers as its entry says, which rise (`IsUnited`).
+//!
 //! Answers `Damaged` where a dictionary or a list is none, `Disk` where a read failed, or `Memory`.
 //! What was to be filled is open then; filters and cache agree as before.
 #![tactic(auto)]

@@ -8,6 +8,8 @@ ghost use Rattle.pk_model.specs.Collection.{Doc};
 ghost use Rattle.pk_plan.specs.Plans.{word_at};
 ghost use Rattle.pk_plan.specs.Words.{texts};
 ghost use Rattle.pk_posting.specs.Frames.{ReadsSource};
+ghost use Rattle.pk_lookup.specs.Counted.{AreCounted};
+ghost use Rattle.pk_lookup.specs.Dropped.{DropsOnlyOf};
 ghost use Rattle.pk_lookup.specs.FilterBytes.{KeepsLimit};
 ghost use Rattle.pk_lookup.specs.Filtered.{AddsFilterOf, IsFilterFor, filters_of};
 ghost use Rattle.pk_lookup.specs.Matching.{AreEntriesOf, LeadsAs, PutsEntries};
@@ -176,7 +178,10 @@ pub(crate) fn look_up<S: ByteSource>(
     ensures long { OnOk result (length known.new.items ≡ length sought.now.words.words.now) }
     ensures adds { AddsFilterOf S.honest (S.content source.old) sought.now.opened.now
         (filters_of tables.old) (filters_of tables.new) }
+    ensures drops { DropsOnlyOf sought.now.opened.now.entry.segment (filters_of tables.old)
+        (filters_of tables.new) }
     ensures limit { KeepsLimit tables.old.filters → KeepsLimit tables.new.filters }
+    ensures counted { AreCounted tables.old.filters → AreCounted tables.new.filters }
     ensures left { ReadsSource S.ByteSource CountsReads result source.old source.new }
 {
     let opened = sought.opened;

@@ -1,10 +1,14 @@
 //! One posting list: taken out, or asked by a cursor's seeks.
-ghost use Rattle.std.specs.Prelude.{◌≡◌, ◌<◌, ◌*◌, ◌↔◌, ℕ, List, length, IsTrue, OnOk, MatchResult};
+ghost use Rattle.std.specs.Prelude.{◌≡◌, ◌≤◌, ◌<◌, ◌*◌, ◌^◌, ◌↔◌, ℕ, List, length, None};
+ghost use Rattle.std.specs.Prelude.{IfErr, IfOk, IsOk, IsTrue, MatchResult, OnOk};
 ghost use Rattle.std.specs.List.Sorted.{IsStrictlyIncreasing};
+ghost use Rattle.pk_cursor.specs.Standing.{StandsAt};
 ghost use Rattle.pk_model.specs.Collection.{Doc};
 ghost use Rattle.pk_plan.specs.Plans.{found, word_at};
 ghost use Rattle.pk_posting.specs.Frames.{ReadsSource};
+ghost use Rattle.pk_posting.specs.Parts.{bytes_at};
 ghost use Rattle.pk_lookup.specs.Cached.{AddsOnlyOf, AreServed, KeepsBlocksOf, Serves};
+ghost use Rattle.pk_lookup.specs.Lies.{IsOpened, place_by};
 ghost use Rattle.pk_lookup.specs.Matching.{ListLies};
 ghost use Rattle.pk_segment.specs.Puts.{PutsAs};
 ghost use Rattle.pk_segment.specs.Indexed.{list_with};
@@ -30,6 +34,12 @@ pub fn place_of(segment: &Segment, entry: Entry) -> Result<ListPlace, ReadFault>
     ensures place { (bytes word : List ℕ) (docs : List Doc) → IndexSpells bytes docs
         → IsSegmentOf segment.now docs → LeadsTo docs word entry
         → MatchResult result (λ place. ListLies bytes place (list_with word docs)) IsNoDamage }
+
+    // Whatever the entry says.
+    ensures at { IfOk result (λ place. place ≡ place_by segment.now entry) }
+    ensures damaged { IfErr result (λ e. (e ≡ ReadFault.Damaged)
+        × (2 ^ 32 ≤ (place_by segment.now entry).at)) }
+
     ensures faults { CountsReads 0 0 result }
 {
     let Some(at) = segment.postings().checked_add(entry.place.at) else {
@@ -86,6 +96,7 @@ pub(crate) fn copy_rising<S: ByteSource>(
         → count ≡ length xs → PutsAs xs out.new.items result }
     ensures rising { OnOk result (IsStrictlyIncreasing out.new.items) }
     ensures count { OnOk result (length out.new.items ≡ count) }
+    ensures opened { IsOk result → IsOpened place (length (S.content source.old)) }
     ensures left { ReadsSource S.ByteSource CountsReads result source.old source.new }
 {
     copy_out(source, place, count, out)?;
@@ -95,22 +106,23 @@ pub(crate) fn copy_rising<S: ByteSource>(
     Ok(())
 }
 
-// Keeps of the numbers those that a seek finds in the list at a place.
-#[inline(never)]
-fn seek_each<S: ByteSource>(
-    source: &mut S,
-    place: ListPlace,
-    numbers: &mut Vec<u32>,
-) -> Result<(), ReadFault>
-    requires { IsStrictlyIncreasing numbers.old.items }
-    ensures numbers { S.honest → (xs : List ℕ) → ListLies (S.content source.old) place xs
+// Keeps of the numbers those that a cursor at the start of a list finds. A fault that a seek meets
+// is answered.
+fn keep_met<S: ByteSource>(cursor: &mut Cursor<S>, numbers: &mut Vec<u32>) -> Result<(), ReadFault>
+    requires rising { IsStrictlyIncreasing numbers.old.items }
+    requires sound { cursor.old.standing.fault ≡ None }
+    ensures numbers { S.honest → (xs : List ℕ)
+        → StandsAt (bytes_at (S.content cursor.old.source.now) cursor.old.standing.place)
+        cursor.old.standing xs 0
         → PutsAs (intersection numbers.old.items xs) numbers.new.items result }
-    ensures left { ReadsSource S.ByteSource CountsReads result source.old source.new }
+
+    // Of any bytes: no seek met a fault.
+    ensures sound { IsOk result → cursor.new.standing.fault ≡ None }
+
+    ensures same_reference { cursor.new.source.ghost_name ≡ cursor.old.source.ghost_name }
+    ensures left { ReadsSource S.ByteSource CountsReads result cursor.old.source.now
+        cursor.new.source.now }
 {
-    let mut cursor = Cursor::open(source, place);
-    if let Some(fault) = cursor.fault() {
-        return Err(fault.into());
-    }
     let mut kept = 0;
     for i in 0..numbers.len() {
         let number = numbers[i];
@@ -124,6 +136,26 @@ fn seek_each<S: ByteSource>(
     Ok(())
 }
 
+// Keeps of the numbers those that a seek finds in the list at a place.
+#[inline(never)]
+fn seek_each<S: ByteSource>(
+    source: &mut S,
+    place: ListPlace,
+    numbers: &mut Vec<u32>,
+) -> Result<(), ReadFault>
+    requires { IsStrictlyIncreasing numbers.old.items }
+    ensures numbers { S.honest → (xs : List ℕ) → ListLies (S.content source.old) place xs
+        → PutsAs (intersection numbers.old.items xs) numbers.new.items result }
+    ensures opened { IsOk result → IsOpened place (length (S.content source.old)) }
+    ensures left { ReadsSource S.ByteSource CountsReads result source.old source.new }
+{
+    let mut cursor = Cursor::open(source, place);
+    if let Some(fault) = cursor.fault() {
+        return Err(fault.into());
+    }
+    keep_met(&mut cursor, numbers)
+}
+
 /// Keeps of the numbers those that a seek finds in the list at a place. `Damaged` where what is
 /// kept doesn't rise.
 pub fn cut_in<S: ByteSource>(
@@ -135,6 +167,7 @@ pub fn cut_in<S: ByteSource>(
     ensures numbers { S.honest → (xs : List ℕ) → ListLies (S.content source.old) place xs
         → PutsAs (intersection numbers.old.items xs) numbers.new.items result }
     ensures rising { OnOk result (IsStrictlyIncreasing numbers.new.items) }
+    ensures opened { IsOk result → IsOpened place (length (S.content source.old)) }
     ensures left { ReadsSource S.ByteSource CountsReads result source.old source.new }
 {
     seek_each(source, place, numbers)?;

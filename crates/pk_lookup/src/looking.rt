@@ -2,11 +2,14 @@
 ghost use Rattle.std.specs.Prelude.{◌≡◌, ◌<◌, ◌*◌, ℕ, List, length};
 ghost use Rattle.std.specs.Prelude.{All, IfErr, IfOk, OnOk, true};
 ghost use Rattle.pk_disk.specs.Units.{apart, extent_bytes};
+ghost use Rattle.pk_lookup.specs.Counted.{AreCounted};
+ghost use Rattle.pk_lookup.specs.Dropped.{DropsOnlyOf};
 ghost use Rattle.pk_lookup.specs.FilterBytes.{KeepsLimit};
 ghost use Rattle.pk_lookup.specs.Filtered.{AddsFilterOf, FiltersAgree, FiltersAgreeAt};
 ghost use Rattle.pk_lookup.specs.Filtered.{FiltersBelow, filters_of};
 ghost use Rattle.pk_lookup.specs.Matching.{AreKept, PutsEntries};
 ghost use Rattle.pk_lookup.specs.Said.{KeepsNone, SaysOfEach};
+ghost use Rattle.pk_lookup.specs.SaidRows.{AreSaid};
 ghost use Rattle.pk_manifest.specs.Sound.{same_segment};
 ghost use Rattle.pk_model.specs.Collection.{Doc};
 ghost use Rattle.pk_open.specs.Opened.{AreOpenOf, IsOpenOf, entries_of};
@@ -65,7 +68,10 @@ fn look_up_in<D: Disk>(
     ensures adds { AddsFilterOf D.honest
         (extent_bytes (D.content source.old.disk.now) sought.now.opened.now.entry.extent)
         sought.now.opened.now (filters_of tables.old) (filters_of tables.new) }
+    ensures drops { DropsOnlyOf sought.now.opened.now.entry.segment (filters_of tables.old)
+        (filters_of tables.new) }
     ensures limit { KeepsLimit tables.old.filters → KeepsLimit tables.new.filters }
+    ensures counted { AreCounted tables.old.filters → AreCounted tables.new.filters }
     ensures same_reference { source.new.disk.ghost_name ≡ source.old.disk.ghost_name }
     ensures left { ReadsDisk D.Disk CountsReads result source.old.disk.now source.new.disk.now }
 {
@@ -98,6 +104,11 @@ pub fn look_up_all<D: Disk>(
         → FiltersAgree (D.content source.old.disk.now) (filters_of tables.old) opened.now
         → IfOk result (λ table. AreKept (D.content source.old.disk.now)
         (texts words.now) opened.now table.items) }
+
+    // Of any bytes, where no filter is kept of the segment.
+    ensures said { D.honest → IfOk result (λ table. AreSaid (D.content source.old.disk.now)
+        (texts words.now) opened.now (filters_of tables.new) table.items) }
+
     ensures fault { D.honest → (stored : List Stored)
         → IndexesEntries (D.content source.old.disk.now) (entries_of opened.now) stored
         → AreOpenOf opened.now stored
@@ -111,6 +122,7 @@ pub fn look_up_all<D: Disk>(
         → All (λ (o : OpenSegment). o.entry.segment < next) opened.now
         → FiltersBelow next (filters_of tables.old) → FiltersBelow next (filters_of tables.new) }
     ensures limit { KeepsLimit tables.old.filters → KeepsLimit tables.new.filters }
+    ensures counted { AreCounted tables.old.filters → AreCounted tables.new.filters }
     ensures same_reference { source.new.disk.ghost_name ≡ source.old.disk.ghost_name }
     ensures left { ReadsDisk D.Disk CountsReads result source.old.disk.now source.new.disk.now }
 {

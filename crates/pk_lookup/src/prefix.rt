@@ -8,6 +8,7 @@ ghost use Rattle.pk_dict.specs.Prefix.{GivesNext, HasLeft, words_to_come};
 ghost use Rattle.pk_model.specs.Collection.{Doc, answer};
 ghost use Rattle.pk_model.specs.Tree.{Prefix};
 ghost use Rattle.pk_posting.specs.Frames.{ReadsSource};
+ghost use Rattle.pk_lookup.specs.Lies.{IsOpened, IsUnited, place_by};
 ghost use Rattle.pk_segment.specs.Puts.{PutsAs};
 ghost use Rattle.pk_segment.specs.Indexed.{items_of, list_with};
 ghost use Rattle.pk_segment.specs.Listing.{LeadsTo};
@@ -15,6 +16,7 @@ ghost use Rattle.pk_segment.specs.Opened.{IsSegmentOf};
 ghost use Rattle.pk_segment.specs.Placed.{IsIndexedOf};
 ghost use Rattle.pk_segment.specs.Reading.{CountsReads, IsNoDamage};
 ghost use Rattle.pk_segment.specs.Spelling.{IndexSpells};
+ghost use Rattle.pk_sets.specs.Sets.{union};
 
 use crate::listed::PlannedSegment;
 use crate::lists::{copy_rising, place_of};
@@ -73,8 +75,7 @@ fn unite_lists<S: ByteSource>(
     let mut united = UnionBuilder::new(alloc, segment.first(), segment.last());
     let mut list = Vec::new(alloc);
     'entries: while let Some(entry) = next_entry(source, segment, &mut words, pivots, long)? {
-        put_list(source, segment, entry, &mut list)?;
-        united.put(&list)?;
+        unite_list(source, segment, entry, &mut list, &mut united)?;
     }
     united.finish(out)?;
     Ok(())
@@ -133,6 +134,30 @@ fn next_entry<S: ByteSource>(
     Ok(entry)
 }
 
+// Puts the list that an entry leads to to the others. In `list` its numbers stand meanwhile.
+fn unite_list<S: ByteSource>(
+    source: &mut S,
+    segment: &Segment,
+    entry: Entry,
+    list: &mut Vec<u32>,
+    united: &mut UnionBuilder,
+) -> Result<(), ReadFault>
+    ensures numbers { S.honest → (docs : List Doc) → IndexSpells (S.content source.old) docs
+        → IsSegmentOf segment.now docs → (word : List ℕ) → LeadsTo docs word entry
+        → MatchResult result (λ _. united.new ≡ union united.old (list_with word docs))
+        IsNoDamage }
+
+    // Of any bytes.
+    ensures read { OnOk result (IsUnited segment.now entry (length (S.content source.old))
+        united.old united.new) }
+
+    ensures left { ReadsSource S.ByteSource CountsReads result source.old source.new }
+{
+    put_list(source, segment, entry, list)?;
+    united.put(list)?;
+    Ok(())
+}
+
 // Puts the list that an entry leads to into `out`.
 fn put_list<S: ByteSource>(
     source: &mut S,
@@ -144,6 +169,9 @@ fn put_list<S: ByteSource>(
         → IsSegmentOf segment.now docs → (word : List ℕ) → LeadsTo docs word entry
         → PutsAs (list_with word docs) out.new.items result }
     ensures rising { OnOk result (IsStrictlyIncreasing out.new.items) }
+    ensures count { OnOk result (length out.new.items ≡ entry.frequency) }
+    ensures opened { IsOk result
+        → IsOpened (place_by segment.now entry) (length (S.content source.old)) }
     ensures left { ReadsSource S.ByteSource CountsReads result source.old source.new }
 {
     let lies = place_of(segment, entry)?;

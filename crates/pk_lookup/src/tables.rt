@@ -17,6 +17,7 @@ pub struct WordTables {
 
 impl WordTables {
     ghost use Rattle.std.specs.Prelude.{◌≡◌, []};
+    ghost use Rattle.pk_lookup.specs.Counted.{AreCounted};
     ghost use Rattle.pk_lookup.specs.FilterBytes.{KeepsLimit};
     ghost use Rattle.pk_lookup.specs.Filtered.{filters_of};
 
@@ -24,6 +25,7 @@ impl WordTables {
     pub fn new(alloc: Global) -> WordTables
         ensures filters { filters_of result ≡ [] }
         ensures limit { KeepsLimit result.filters }
+        ensures counted { AreCounted result.filters }
     {
         WordTables {
             pivots: PivotTables::new(alloc),

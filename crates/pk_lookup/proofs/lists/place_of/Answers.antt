@@ -11,3 +11,7 @@ returns-in_default-clause-place c = λ bytes word docs is of leads.
 pub returns-clause-place : goal.returns-clause-place
 returns-clause-place c = λ bytes word docs is of leads.
     lies_there bytes docs word c.args.entry c.in-Some.at is leads (c.in-Some.ensures.1 ∙ ap (λ (n : ℕ). n + c.args.entry.place.at) (c.postings.ensures.documents docs of))
+
+pub returns-clause-at : goal.returns-clause-at
+returns-clause-at c =
+    ap (λ (n : ℕ). record { at = n; bytes = c.args.entry.place.bytes }) (c.in-Some.ensures.1 ∙ ap (λ (n : ℕ). n + c.args.entry.place.at) c.postings.ensures.value)

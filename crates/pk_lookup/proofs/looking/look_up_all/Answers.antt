@@ -12,6 +12,7 @@ use Rattle.pk_open.specs.Opened.{entries_of, none_stored}
 use Rattle.pk_segment.proofs.OnlyReadLemmas.{disk_then}
 use Rattle.pk_posting.specs.declared.fault.ReadFault.{ReadFault}
 use Rattle.pk_segment.specs.Reading.{IsNoDamage}
+use Rattle.pk_segment.specs.Placed.{dictionary_of}
 use Rattle.pk_segment.specs.Spelling.{IndexSpells}
 use Rattle.pk_state.specs.Holds.{IndexesEntries}
 use Rattle.pk_state.specs.Kept.{EndsInside}
@@ -19,7 +20,9 @@ use Rattle.pk_lookup.proofs.FilterLemmas.{agree_at, agree_next, agree_still, bel
 use Rattle.pk_lookup.proofs.EntryLemmas.{indexes_at, one_kept}
 use Rattle.pk_open.proofs.PlaceLemmas.{entries_many, entry_there, inside_at, opened_at}
 use Rattle.pk_lookup.proofs.RepeatLemmas.{texts_long}
+use Rattle.pk_lookup.proofs.SaidLemmas.{one_said}
 use Rattle.pk_lookup.specs.Filtered.{AddsFilterOf, FiltersAgree, FiltersAgreeAt, FiltersBelow, filters_of}
+use Rattle.pk_lookup.specs.Said.{SaysOfEach}
 use Rattle.pk_lookup.proofs.looking.look_up_all.Given as given
 use Rattle.pk_lookup.proofs.looking.look_up_all.Goals as goal
 use Rattle.pk_lookup.proofs.looking.look_up_all.Goals.{After-look_up_in}
@@ -57,7 +60,9 @@ loop-i-init g c = record {
   agrees = λ h agree. agree_still _ _ _ _ c.settle.ensures.adds agree;
   below = λ next all below. below_still next _ _ c.settle.ensures.adds below;
   limit = c.settle.ensures.limit;
+  counted = c.settle.ensures.counted;
   kept = search rules;
+  said = λ h i o lt. absurd (omega (arith, lt));
 }
 
 pub returns-in_err-look_up_in-clause-fault : goal.returns-in_err-look_up_in-clause-fault
@@ -89,6 +94,10 @@ loop-i-preserved g c =
     let before = c.loop-i.invariant in
     let i = c.loop-i.i in
     let put = c.in_ok-extend_from_slice.ensures.items ∙ ap (λ (row : List (Option DictEntry)). c.loop-i.table.items ++ row) c.deref.ensures.value in
+    let words = texts c.args.words.now in
+    let many = sym (texts_long c.args.words.now) in
+    let long = before.long ∙ ap (λ (n : ℕ). i * n) many in
+    let wide = c.in_ok-look_up_in.ensures.long ∙ many in
     record {
       same_reference = c.look_up_in.ensures.same_reference ∙ before.same_reference;
       left = disk_then before.left c.in_ok-look_up_in.ensures.left;
@@ -96,9 +105,13 @@ loop-i-preserved g c =
       agrees = agrees_then g a;
       below = below_then g a;
       limit = λ limit. c.look_up_in.ensures.limit (before.limit limit);
-      kept = λ h agree. one_kept _ (texts c.args.words.now) c.args.opened.now c.loop-i.table.items c.extend_from_slice.new.self.items c.look_up_in.new.known.items i (o g a) put (before.long ∙ ap (λ (n : ℕ). i * n) (sym (texts_long c.args.words.now))) (c.in_ok-look_up_in.ensures.long ∙ sym (texts_long c.args.words.now)) (within g a) c.index-opened-i.is
+      counted = λ counted. c.look_up_in.ensures.counted (before.counted counted);
+      kept = λ h agree. one_kept _ words c.args.opened.now c.loop-i.table.items c.extend_from_slice.new.self.items c.look_up_in.new.known.items i (o g a) put long wide (within g a) c.index-opened-i.is
           (before.kept h agree)
           (λ two docs index of. rw c.in_ok-look_up_in.was at (c.look_up_in.ensures.entries h two docs (subst (λ (bytes : List ℕ). IndexSpells (extent_bytes bytes (o g a).entry.extent) docs) (sym (read g a h agree)) index) of (agrees_here g a h agree)));
+      said = λ h. one_said _ words c.args.opened.now (filters_of c.loop-i.tables) (filters_of c.look_up_in.new.tables) c.loop-i.table.items c.extend_from_slice.new.self.items c.look_up_in.new.known.items i (o g a) c.requires.ids put long wide (within g a) c.index-opened-i.is
+          c.look_up_in.ensures.drops (before.said h)
+          (λ two none. subst (λ (bytes : List ℕ). SaysOfEach (extent_bytes bytes (o g a).entry.extent) (dictionary_of (o g a).segment) words c.look_up_in.new.known.items) (before.left.keeps.read h).bytes (c.in_ok-look_up_in.ensures.said h two none));
     }
 
 pub look_up_in-requires : goal.look_up_in-requires

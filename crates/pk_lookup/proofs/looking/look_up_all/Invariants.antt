@@ -5,9 +5,11 @@ use Rattle.pk_open.specs.declared.opened.OpenSegment.{OpenSegment}
 use Rattle.pk_segment.specs.OnlyRead.{ReadsDisk}
 use Rattle.pk_segment.specs.Reading.{CountsReads}
 use Rattle.pk_plan.specs.Words.{texts}
+use Rattle.pk_lookup.specs.Counted.{AreCounted}
 use Rattle.pk_lookup.specs.FilterBytes.{KeepsLimit}
 use Rattle.pk_lookup.specs.Filtered.{FiltersAgree, FiltersBelow, filters_of}
 use Rattle.pk_lookup.specs.Matching.{AreKeptTo}
+use Rattle.pk_lookup.specs.SaidRows.{AreSaidTo}
 use Rattle.pk_lookup.proofs.looking.look_up_all.Given as goal
 
 abbrev pub invariant-loop-i : goal.invariant-loop-i
@@ -21,5 +23,7 @@ invariant-loop-i g l =
       agrees : disk.honest → FiltersAgree bytes (filters_of l.fn.tables) l.opened → FiltersAgree bytes (filters_of l.tables) l.opened;
       below : (next : ℕ) → All (λ (o : OpenSegment). o.entry.segment < next) l.opened → FiltersBelow next (filters_of l.fn.tables) → FiltersBelow next (filters_of l.tables);
       limit : KeepsLimit l.fn.tables.filters → KeepsLimit l.tables.filters;
+      counted : AreCounted l.fn.tables.filters → AreCounted l.tables.filters;
       kept : disk.honest → FiltersAgree bytes (filters_of l.fn.tables) l.opened → AreKeptTo l.i bytes (texts l.fn.words) l.opened l.table.items;
+      said : disk.honest → AreSaidTo l.i bytes (texts l.fn.words) l.opened (filters_of l.tables) l.table.items;
     }

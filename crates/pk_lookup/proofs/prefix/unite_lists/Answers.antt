@@ -1,5 +1,5 @@
 -- One list more; at the end all of them are united.
-use Rattle.std.proofs.Common.{◌≡◌, ◌∙◌, ℕ, List, length, refl, rules, sym, ap, subst}
+use Rattle.std.proofs.Common.{◌≡◌, ◌∙◌, ℕ, List, length, refl, sym, ap, subst}
 use Rattle.std.proofs.lemmas.Result.{err_from_is_err_and}
 use Rattle.pk_dict.specs.Dictionary.{items_with_prefix}
 use Rattle.pk_dict.specs.Place.{LiesIn, bytes_at}
@@ -34,24 +34,19 @@ returns-in_err-entry-clause-numbers g c = λ honest docs is of.
     let r = c.entries.invariant.numbers honest docs is of in
     puts_fault _ _ _ err.0 c.in_err-entry.field-0.0 err.1 err.2 (c.in_err-entry.ensures.gives honest (items_in docs) r.rest r.left)
 
-pub returns-in_err-put_list-clause-numbers : goal.returns-in_err-put_list-clause-numbers
-returns-in_err-put_list-clause-numbers g c = λ honest docs is of.
-    let err = err_from_is_err_and c.from_residual-in_err-put_list.result c.from_residual-in_err-put_list.ensures.1 in
+pub returns-in_err-unite_list-clause-numbers : goal.returns-in_err-unite_list-clause-numbers
+returns-in_err-unite_list-clause-numbers g c = λ honest docs is of.
+    let err = err_from_is_err_and c.from_residual-in_err-unite_list.result c.from_residual-in_err-unite_list.ensures.1 in
     let before = c.entries.invariant in
     let r = before.numbers honest docs is of in
     let words = c.next_entry.new.words in
     let given = subst (GivesNext (bytes_at (g.S.ByteSource.content c.entries.source) c.entries.words.cursor.place) words (items_in docs) r.rest) c.in-Some.is (c.in_ok-entry.ensures.gives honest (items_in docs) r.rest r.left) in
     let here = subst (λ (x : List ℕ). IndexSpells x docs) (sym (c.in_ok-entry.ensures.left.same honest ∙ before.left.same honest)) is in
-    puts_fault _ _ _ err.0 c.in_err-put_list.field-0.0 err.1 err.2 (c.in_err-put_list.ensures.numbers honest docs here of.segment words.cursor.word.items (given_leads _ docs c.args.prefix.now words (items_in docs) r.rest _ r.lead given))
+    puts_fault _ _ _ err.0 c.in_err-unite_list.field-0.0 err.1 err.2 (c.in_err-unite_list.ensures.numbers honest docs here of.segment words.cursor.word.items (given_leads _ docs c.args.prefix.now words (items_in docs) r.rest _ r.lead given))
 
-pub returns-in_err-put_list-clause-left : goal.returns-in_err-put_list-clause-left
-returns-in_err-put_list-clause-left g c =
-    source_fault (source_then g.met.S.ByteSource.keeps_then (source_then g.met.S.ByteSource.keeps_then c.entries.invariant.left c.in_ok-entry.ensures.left) c.in_err-put_list.ensures.left) c.from_residual-in_err-put_list.ensures.1
-
-pub returns-in_err-put-clause-left : goal.returns-in_err-put-clause-left
-returns-in_err-put-clause-left g c =
-    let left = source_then g.met.S.ByteSource.keeps_then (source_then g.met.S.ByteSource.keeps_then c.entries.invariant.left c.in_ok-entry.ensures.left) c.in_ok-put_list.ensures.left in
-    source_still left (λ e. search (rules, e))
+pub returns-in_err-unite_list-clause-left : goal.returns-in_err-unite_list-clause-left
+returns-in_err-unite_list-clause-left g c =
+    source_fault (source_then g.met.S.ByteSource.keeps_then (source_then g.met.S.ByteSource.keeps_then c.entries.invariant.left c.in_ok-entry.ensures.left) c.in_err-unite_list.ensures.left) c.from_residual-in_err-unite_list.ensures.1
 
 pub entries-preserved : goal.entries-preserved
 entries-preserved g c =
@@ -59,19 +54,19 @@ entries-preserved g c =
     let words = c.next_entry.new.words in
     let content = g.S.ByteSource.content in
     let read = c.in_ok-entry.ensures.left in
-    let size = c.in_ok-put_list.ensures.left.size ∙ read.size in
+    let size = c.in_ok-unite_list.ensures.left.size ∙ read.size in
     let place = c.in_ok-entry.ensures.place in
     record {
-      left = source_still (source_then g.met.S.ByteSource.keeps_then (source_then g.met.S.ByteSource.keeps_then before.left read) c.in_ok-put_list.ensures.left) (λ f. cc);
-      lies = subst (λ p. LiesIn p (length (content c.put_list.new.source))) (sym place) (subst (LiesIn c.entries.words.cursor.place) (sym size) before.lies);
+      left = source_still (source_then g.met.S.ByteSource.keeps_then (source_then g.met.S.ByteSource.keeps_then before.left read) c.in_ok-unite_list.ensures.left) (λ f. cc);
+      lies = subst (λ p. LiesIn p (length (content c.unite_list.new.source))) (sym place) (subst (LiesIn c.entries.words.cursor.place) (sym size) before.lies);
       sound = c.in_ok-entry.ensures.sound refl;
       numbers = λ honest docs is of.
           let r = before.numbers honest docs is of in
           let given = subst (GivesNext (bytes_at (content c.entries.source) c.entries.words.cursor.place) words (items_in docs) r.rest) c.in-Some.is (c.in_ok-entry.ensures.gives honest (items_in docs) r.rest r.left) in
           let here = subst (λ (x : List ℕ). IndexSpells x docs) (sym (read.same honest ∙ before.left.same honest)) is in
-          let list = c.in_ok-put_list.ensures.numbers honest docs here of.segment words.cursor.word.items (given_leads _ docs c.args.prefix.now words (items_in docs) r.rest _ r.lead given) in
-          let bytes : bytes_at (content c.entries.source) c.entries.words.cursor.place ≡ bytes_at (content c.put_list.new.source) words.cursor.place = ap (λ (l : List ℕ). bytes_at l c.entries.words.cursor.place) (sym (c.in_ok-put_list.ensures.left.same honest ∙ read.same honest)) ∙ ap (bytes_at (content c.put_list.new.source)) (sym place) in
-          subst (λ (b : List ℕ). Remains b docs c.args.prefix.now words c.put.new.self) bytes (remains_more _ _ docs c.args.prefix.now c.entries.words words _ _ _ _ r given (c.deref.ensures.value ∙ list) c.in_ok-put.ensures);
+          let list = c.in_ok-unite_list.ensures.numbers honest docs here of.segment words.cursor.word.items (given_leads _ docs c.args.prefix.now words (items_in docs) r.rest _ r.lead given) in
+          let bytes : bytes_at (content c.entries.source) c.entries.words.cursor.place ≡ bytes_at (content c.unite_list.new.source) words.cursor.place = ap (λ (l : List ℕ). bytes_at l c.entries.words.cursor.place) (sym (c.in_ok-unite_list.ensures.left.same honest ∙ read.same honest)) ∙ ap (bytes_at (content c.unite_list.new.source)) (sym place) in
+          subst (λ (b : List ℕ). Remains b docs c.args.prefix.now words c.unite_list.new.united) bytes (remains_more _ _ docs c.args.prefix.now c.entries.words words _ _ _ _ r given refl list);
     }
 
 pub returns-clause-numbers : goal.returns-clause-numbers

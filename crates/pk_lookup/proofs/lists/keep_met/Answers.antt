@@ -6,8 +6,8 @@ use Rattle.pk_sets.specs.Sets.{has, intersection}
 use Rattle.pk_segment.proofs.OnlyReadLemmas.{source_then}
 use Rattle.pk_lookup.proofs.ListLemmas.{below_all, current_is, here_at, left_by_move, passed_more, same_after}
 use Rattle.pk_sets.proofs.CallerLemmas.{intersection_more}
-use Rattle.pk_lookup.proofs.lists.seek_each.Goals as goal
-use Rattle.pk_lookup.proofs.lists.seek_each.Goals.{then-eq, else-eq}
+use Rattle.pk_lookup.proofs.lists.keep_met.Goals as goal
+use Rattle.pk_lookup.proofs.lists.keep_met.Goals.{then-eq, else-eq}
 
 pub loop-i-preserved : goal.loop-i-preserved
 loop-i-preserved g c =
@@ -34,8 +34,8 @@ loop-i-preserved g c =
         | then-eq w ↦ ap (λ (v : Vec ℕ). drop (i + 1) v.items) w.numbers-is ∙ drop-set-lt (i + 1) now kept x (omega (arith, before.few)) ∙ same_after now old i before.left
         | else-eq w ↦ ap (λ (v : Vec ℕ). drop (i + 1) v.items) w.numbers-is ∙ same_after now old i before.left
       ];
-      sought = λ h xs lies. (
-          let a = before.sought h xs lies in
+      sought = λ h xs stands. (
+          let a = before.sought h xs stands in
           let to = c.in_ok-seek.ensures.at h xs a.index a.stands in
           let inside : i < length old = omega (arith, before.long) in
           let here : x ≡ slice_index old i = here_at now old i x (omega (arith, before.long, inside)) c.index-number.ensures before.left in
@@ -45,7 +45,7 @@ loop-i-preserved g c =
           record {
             index = to.index;
             stands = to.stands;
-            passed = passed_more xs old x a.index to.index i c.requires here a.passed to.first;
+            passed = passed_more xs old x a.index to.index i c.requires.rising here a.passed to.first;
             found = elim c.if-eq.branch [
               | then-eq w ↦ (
                   let there : has xs x ≡ true = current_is xs x to.index c.current.result true cur w.if-eq.ensures posting low to.first.reaches in
