@@ -55,7 +55,8 @@ seeks_first bytes c word group at start read from none = record {
   below = tt;
 }
 
-passed_more : (bytes : List ℕ) (c d : TermCursor) (group at : ℕ) (es : List Item) → HasPassed bytes c group at es → c.word.items ≡ last_of [] es → HasRead bytes c d → d.read ≡ c.read + 1 → HasPassed bytes d group at (es ++ item_at d ∷ [])
+-- a cursor passes one word more
+pub passed_more : (bytes : List ℕ) (c d : TermCursor) (group at : ℕ) (es : List Item) → HasPassed bytes c group at es → c.word.items ≡ last_of [] es → HasRead bytes c d → d.read ≡ c.read + 1 → HasPassed bytes d group at (es ++ item_at d ∷ [])
 passed_more bytes c d group at es p last read more =
     let size : length (es ++ item_at d ∷ []) ≡ suc (length es) = omega (arith, length-append es (item_at d ∷ [])) in
     let next : word_at bytes (16 * group + length es) (last_of [] es) c.at ≡ Ok (d.word.items, d.entry, d.at) =

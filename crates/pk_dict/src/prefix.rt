@@ -35,6 +35,7 @@ impl<'a> PrefixCursor<'a> {
     pub fn open(alloc: Global, place: DictPlace, ahead: u32, prefix: &'a [u8]) -> PrefixCursor<'a>
         requires { ahead ≤ most_lent }
         ensures place { result.cursor.place ≡ place }
+        ensures prefix { result.prefix.now ≡ prefix.now }
         ensures ahead { ReadsAhead ahead result.cursor }
         ensures sound { result.cursor.fault ≡ None }
         ensures holds { (bytes : List ℕ) → HoldsOf bytes result.cursor }

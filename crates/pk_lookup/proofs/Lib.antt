@@ -1,4 +1,5 @@
 -- The lemma pages; those that callers cite are public.
+mod BegunLemmas
 pub mod CacheLemmas
 pub mod EntryLemmas
 pub mod FilterLemmas

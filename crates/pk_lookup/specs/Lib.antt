@@ -1,4 +1,5 @@
 -- The definitions that the contracts cite.
+pub mod Begun
 pub mod Blocks
 pub mod Cached
 pub mod Counted

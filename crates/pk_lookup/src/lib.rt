@@ -22,8 +22,9 @@
 //! the open segments as the cache does (`FiltersAgree`).
 //!
 //! Whatever the bytes are, what is told of a word in a segment without a filter is what its
-//! dictionary says (`AreSaid`), a list that is sought in lies in the segment (`IsOpened`), and one
-//! that is united with others has as many numbers as its entry says, which rise (`IsUnited`).
+//! dictionary says (`AreSaid`), a list that is sought in lies in the segment (`IsOpened`), and of the
+//! words that begin with a prefix none is left out (`HasUnited`), nor the list of one, which has as
+//! many numbers as its entry says (`IsUnited`).
 //!
 //! Answers `Damaged` where a dictionary or a list is none, `Disk` where a read failed, or `Memory`.
 //! What was to be filled is open then; filters and cache agree as before.

@@ -31,15 +31,12 @@ use pk_sets::is_rising;
 /// Where the posting list that an entry leads to lies in the segment. `Damaged` where that is past
 /// 2^32 - 1.
 pub fn place_of(segment: &Segment, entry: Entry) -> Result<ListPlace, ReadFault>
-    ensures place { (bytes word : List ℕ) (docs : List Doc) → IndexSpells bytes docs
-        → IsSegmentOf segment.now docs → LeadsTo docs word entry
-        → MatchResult result (λ place. ListLies bytes place (list_with word docs)) IsNoDamage }
-
-    // Whatever the entry says.
     ensures at { IfOk result (λ place. place ≡ place_by segment.now entry) }
     ensures damaged { IfErr result (λ e. (e ≡ ReadFault.Damaged)
         × (2 ^ 32 ≤ (place_by segment.now entry).at)) }
-
+    ensures place { (bytes word : List ℕ) (docs : List Doc) → IndexSpells bytes docs
+        → IsSegmentOf segment.now docs → LeadsTo docs word entry
+        → MatchResult result (λ place. ListLies bytes place (list_with word docs)) IsNoDamage }
     ensures faults { CountsReads 0 0 result }
 {
     let Some(at) = segment.postings().checked_add(entry.place.at) else {
@@ -111,14 +108,13 @@ pub(crate) fn copy_rising<S: ByteSource>(
 fn keep_met<S: ByteSource>(cursor: &mut Cursor<S>, numbers: &mut Vec<u32>) -> Result<(), ReadFault>
     requires rising { IsStrictlyIncreasing numbers.old.items }
     requires sound { cursor.old.standing.fault ≡ None }
+    // Of any bytes: no seek met a fault.
+    ensures sound { IsOk result → cursor.new.standing.fault ≡ None }
+
     ensures numbers { S.honest → (xs : List ℕ)
         → StandsAt (bytes_at (S.content cursor.old.source.now) cursor.old.standing.place)
         cursor.old.standing xs 0
         → PutsAs (intersection numbers.old.items xs) numbers.new.items result }
-
-    // Of any bytes: no seek met a fault.
-    ensures sound { IsOk result → cursor.new.standing.fault ≡ None }
-
     ensures same_reference { cursor.new.source.ghost_name ≡ cursor.old.source.ghost_name }
     ensures left { ReadsSource S.ByteSource CountsReads result cursor.old.source.now
         cursor.new.source.now }

@@ -1,10 +1,14 @@
 //! The posting lists of all words of a segment that begin alike, united.
-ghost use Rattle.std.specs.Prelude.{◌≡◌, ◌<◌, ℕ, List, length, None};
+ghost use Rattle.std.specs.Prelude.{◌≡◌, ◌<◌, ℕ, List, length, nat_eq, None, true, false};
 ghost use Rattle.std.specs.Prelude.{IfErr, IfOk, IfSome, IsOk, MatchResult, OnOk};
+ghost use Rattle.std.specs.List.{starts_with};
 ghost use Rattle.std.specs.List.Sorted.{IsStrictlyIncreasing};
+ghost use Rattle.pk_dict.specs.Cursor.{HoldsOf};
 ghost use Rattle.pk_dict.specs.Dictionary.{Item, items_with_prefix};
 ghost use Rattle.pk_dict.specs.Place.{LiesIn, bytes_at};
 ghost use Rattle.pk_dict.specs.Prefix.{GivesNext, HasLeft, words_to_come};
+ghost use Rattle.pk_dict.specs.Seeking.{GivesAfter};
+ghost use Rattle.pk_lookup.specs.Begun.{HasUnited};
 ghost use Rattle.pk_model.specs.Collection.{Doc, answer};
 ghost use Rattle.pk_model.specs.Tree.{Prefix};
 ghost use Rattle.pk_posting.specs.Frames.{ReadsSource};
@@ -13,7 +17,7 @@ ghost use Rattle.pk_segment.specs.Puts.{PutsAs};
 ghost use Rattle.pk_segment.specs.Indexed.{items_of, list_with};
 ghost use Rattle.pk_segment.specs.Listing.{LeadsTo};
 ghost use Rattle.pk_segment.specs.Opened.{IsSegmentOf};
-ghost use Rattle.pk_segment.specs.Placed.{IsIndexedOf};
+ghost use Rattle.pk_segment.specs.Placed.{IsIndexedOf, dictionary_of};
 ghost use Rattle.pk_segment.specs.Reading.{CountsReads, IsNoDamage};
 ghost use Rattle.pk_segment.specs.Spelling.{IndexSpells};
 ghost use Rattle.pk_sets.specs.Sets.{union};
@@ -47,6 +51,11 @@ pub fn put_with_prefix<S: ByteSource>(
     ensures numbers { S.honest → (docs : List Doc) → IndexSpells (S.content source.old) docs
         → IsIndexedOf at.now.opened.now.segment docs
         → PutsAs (answer (Prefix prefix.now) docs) out.new.items result }
+
+    // Of any bytes: no word that begins so is left out, and no list of one.
+    ensures read { S.honest → OnOk result (HasUnited (S.content source.old)
+        at.now.opened.now.segment prefix.now out.new.items) }
+
     ensures rising { OnOk result (IsStrictlyIncreasing out.new.items) }
     ensures left { ReadsSource S.ByteSource CountsReads result source.old source.new }
 {
@@ -67,6 +76,8 @@ fn unite_lists<S: ByteSource>(
     ensures numbers { S.honest → (docs : List Doc) → IndexSpells (S.content source.old) docs
         → IsIndexedOf segment.now docs
         → PutsAs (answer (Prefix prefix.now) docs) out.new.items result }
+    ensures read { S.honest → OnOk result
+        (HasUnited (S.content source.old) segment.now prefix.now out.new.items) }
     ensures rising { OnOk result (IsStrictlyIncreasing out.new.items) }
     ensures left { ReadsSource S.ByteSource CountsReads result source.old source.new }
 {
@@ -92,6 +103,10 @@ fn words_with_prefix<'a, S: ByteSource>(
         → IsIndexedOf segment.now docs → MatchResult result (λ words.
         HasLeft (bytes_at (S.content source.now) words.cursor.place) words (items_of docs)
         (items_with_prefix prefix.now (items_of docs))) IsNoDamage }
+    ensures new { IfOk result (λ words. (words.begun ≡ false) × (words.ended ≡ false)) }
+    ensures holds { IfOk result (λ words. (bytes : List ℕ) → HoldsOf bytes words.cursor) }
+    ensures prefix { IfOk result (λ words. words.prefix.now ≡ prefix.now) }
+    ensures place { IfOk result (λ words. words.cursor.place ≡ dictionary_of segment.now) }
     ensures lies { IfOk result (λ words. LiesIn words.cursor.place (length (S.content source.now))) }
     ensures sound { IfOk result (λ words. words.cursor.fault ≡ None) }
     ensures fault { IfErr result (λ e. e ≡ ReadFault.Damaged) }
@@ -119,6 +134,24 @@ fn next_entry<S: ByteSource>(
         → MatchResult result
         (GivesNext (bytes_at (S.content source.old) words.old.cursor.place) words.new es rest)
         IsNoDamage }
+
+    // Of any bytes.
+    ensures holds { S.honest
+        → HoldsOf (bytes_at (S.content source.old) words.old.cursor.place) words.old.cursor
+        → OnOk result
+        (HoldsOf (bytes_at (S.content source.old) words.old.cursor.place) words.new.cursor) }
+    ensures said { S.honest
+        → HoldsOf (bytes_at (S.content source.old) words.old.cursor.place) words.old.cursor
+        → words.old.ended ≡ false → IfOk result (GivesAfter words.old.begun
+        (bytes_at (S.content source.old) words.old.cursor.place) words.old.prefix.now
+        words.old.cursor words.new.cursor) }
+    ensures begins { IfOk result (λ given. IfSome given (λ entry.
+        (starts_with nat_eq words.new.cursor.word.items words.new.prefix.now ≡ true)
+        × (entry ≡ words.new.cursor.entry))) }
+    ensures goes { IfOk result (λ given. IfSome given (λ _.
+        (words.new.begun ≡ true) × (words.new.ended ≡ false))) }
+    ensures prefix { words.new.prefix ≡ words.old.prefix }
+
     ensures fewer { IfOk result (λ given. IfSome given (λ _.
         words_to_come words.new < words_to_come words.old)) }
     ensures place { words.new.cursor.place ≡ words.old.cursor.place }

@@ -6,7 +6,7 @@ use Rattle.pk_lookup.proofs.lists.place_of.Goals as goal
 
 pub returns-in_default-clause-place : goal.returns-in_default-clause-place
 returns-in_default-clause-place c = λ bytes word docs is of leads.
-    c.in_default.ensures (omega (arith, most bytes docs is, leads.inside, c.postings.ensures.documents docs of))
+    absurd (c.in_default.ensures (omega (arith, most bytes docs is, leads.inside, c.postings.ensures.documents docs of)))
 
 pub returns-clause-place : goal.returns-clause-place
 returns-clause-place c = λ bytes word docs is of leads.

@@ -3,8 +3,10 @@ use Rattle.std.proofs.Common.{ap, sym, subst, List, ℕ, Option, Result}
 use Rattle.std.specs.Prelude.{MatchResult}
 use Rattle.std.proofs.lemmas.Result.{err_from_is_err_and}
 use Rattle.pk_dict.specs.declared.entry.Entry.{Entry}
+use Rattle.pk_dict.specs.Cursor.{HoldsOf}
 use Rattle.pk_dict.specs.Place.{bytes_at}
 use Rattle.pk_dict.specs.Prefix.{GivesNext, HasLeft}
+use Rattle.pk_dict.specs.Seeking.{GivesAfter}
 use Rattle.pk_posting.specs.declared.fault.ReadFault.{ReadFault}
 use Rattle.pk_segment.specs.Reading.{IsNoDamage}
 use Rattle.pk_segment.proofs.ListingLemmas.{entries_cause}
@@ -29,3 +31,17 @@ returns-clause-gives g c = λ honest es rest left.
     let place = c.args.words.now.cursor.place in
     let same = ap (λ s. bytes_at (g.S.ByteSource.content s) place) c.on-windows.ensures.source in
     subst (λ (b : List ℕ). GivesNext b c.next-2.new.self es rest c.in_ok-entry.entry) same (c.in_ok-entry.ensures.gives honest es rest (subst (λ (b : List ℕ). HasLeft b c.args.words.now es rest) (sym same) left))
+
+-- so they hold and give of any bytes
+pub returns-clause-holds : goal.returns-clause-holds
+returns-clause-holds g c = λ honest holds.
+    let place = c.args.words.now.cursor.place in
+    let same = ap (λ s. bytes_at (g.S.ByteSource.content s) place) c.on-windows.ensures.source in
+    subst (λ (b : List ℕ). HoldsOf b c.next-2.new.self.cursor) same (c.in_ok-entry.ensures.holds honest (subst (λ (b : List ℕ). HoldsOf b c.args.words.now.cursor) (sym same) holds))
+
+pub returns-clause-said : goal.returns-clause-said
+returns-clause-said g c = λ honest holds on.
+    let place = c.args.words.now.cursor.place in
+    let words = c.args.words.now in
+    let same = ap (λ s. bytes_at (g.S.ByteSource.content s) place) c.on-windows.ensures.source in
+    subst (λ (b : List ℕ). GivesAfter words.begun b words.prefix.now words.cursor c.next-2.new.self.cursor c.in_ok-entry.entry) same (c.in_ok-entry.ensures.said honest (subst (λ (b : List ℕ). HoldsOf b words.cursor) (sym same) holds) on)
