@@ -22,7 +22,7 @@
 //! the open segments as the cache does (`FiltersAgree`).
 //!
 //! Whatever the bytes are, what is told of a word in a segment without a filter is what its
-//! dictionary says (`AreSaid`), a list that is sought in lies in the segment (`IsOpened`), and of the
+//! dictionary says (`AreSaid`), and a list that is sought in lies in the segment (`IsOpened`). Of the
 //! words that begin with a prefix none is left out (`HasUnited`), nor the list of one, which has as
 //! many numbers as its entry says (`IsUnited`).
 //!
