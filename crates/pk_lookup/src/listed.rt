@@ -200,7 +200,8 @@ pub(crate) fn look_up<S: ByteSource>(
 
 /// The entry at a place; none past the last word.
 pub fn entry_at(entries: &[Option<Entry>], place: usize) -> Option<Entry>
-    ensures { (words : List (List ℕ)) (docs : List Doc) → AreEntriesOf entries.now words docs
+    ensures value { result ≡ get_or entries.now place None }
+    ensures leads { (words : List (List ℕ)) (docs : List Doc) → AreEntriesOf entries.now words docs
         → LeadsAs docs (word_at words place) result }
 {
     if place >= entries.len() {

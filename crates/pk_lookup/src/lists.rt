@@ -8,6 +8,7 @@ ghost use Rattle.pk_plan.specs.Plans.{found, word_at};
 ghost use Rattle.pk_posting.specs.Frames.{ReadsSource};
 ghost use Rattle.pk_posting.specs.Parts.{bytes_at};
 ghost use Rattle.pk_lookup.specs.Cached.{AddsOnlyOf, AreServed, KeepsBlocksOf, Serves};
+ghost use Rattle.pk_lookup.specs.Frequencies.{frequency_in};
 ghost use Rattle.pk_lookup.specs.Lies.{IsOpened, place_by};
 ghost use Rattle.pk_lookup.specs.Matching.{ListLies};
 ghost use Rattle.pk_segment.specs.Puts.{PutsAs};
@@ -185,6 +186,9 @@ pub fn put_word<S: ByteSource>(
         → AreServed (S.content source.old) at.now words docs cache.old
         → PutsAs (found (word_at words place) docs) out.new.items result }
     ensures rising { OnOk result (IsStrictlyIncreasing out.new.items) }
+    // Also where the bytes spell no list.
+    ensures count { OnOk result
+        (length out.new.items ≡ frequency_in place at.now.entries.now) }
     ensures served { Serves S.honest at.now (S.content source.old) cache.old
         (S.content source.new) cache.new }
     ensures left { ReadsSource S.ByteSource CountsReads result source.old source.new }
