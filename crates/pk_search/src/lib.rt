@@ -24,8 +24,10 @@
 //! memory. It writes nothing.
 #![tactic(auto)]
 
+mod damage;
 mod finding;
 mod hits;
+mod noted;
 mod planned;
 mod stored;
 mod tables;

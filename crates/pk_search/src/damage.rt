@@ -1,0 +1,31 @@
+//! Whether damage was met. No answer rests on it: by it the clauses say that damage which is met is
+//! answered, whatever the bytes are.
+
+use pk_segment::ReadFault;
+
+/// Whether a call answered `Damaged`. Once that is noted it stays so.
+#[derive(Drop)]
+pub(crate) struct Damage {
+    met: bool,
+}
+
+impl Damage {
+    ghost use Rattle.std.specs.Prelude.{◌≡◌, false};
+    ghost use Rattle.pk_search.specs.Damages.{NotesDamage};
+
+    /// None did so far.
+    pub(crate) fn new() -> Damage
+        ensures { result.met ≡ false }
+    {
+        Damage { met: false }
+    }
+
+    /// Notes the damage that a call answered, if it did.
+    pub(crate) fn note<T>(&mut self, answer: &Result<T, ReadFault>)
+        ensures { NotesDamage self.old self.new answer.now }
+    {
+        if let Err(ReadFault::Damaged) = answer {
+            self.met = true;
+        }
+    }
+}
