@@ -2,3 +2,4 @@
 pub mod OrderLemmas
 pub mod ShownLemmas
 pub mod ReadLemmas
+pub mod RefusedLemmas

@@ -5,3 +5,4 @@ pub mod Reading
 pub mod Held
 pub mod Replies
 pub mod Without
+pub mod Refused

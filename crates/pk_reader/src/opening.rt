@@ -3,6 +3,7 @@
 ghost use Rattle.std.specs.Prelude.{◌≡◌, ◌≤◌, IfErr, IfOk, cond};
 ghost use Rattle.pk_manifest.specs.Evolves.{in_force};
 ghost use Rattle.pk_reader.specs.Faults.{showing_fault};
+ghost use Rattle.pk_reader.specs.Refused.{RefusedOpening};
 
 use crate::shown::Shown;
 use pk_disk::Disk;
@@ -63,6 +64,8 @@ pub fn open_file<F: SharedFile + Drop>(
         ≤ in_force (⟦<PageCache<SnapshotDisk<F>> as Disk>⟧.content s.store.volume.disk)) }
     ensures later { F.honest → IfErr result
         (λ r. in_force (F.content file) ≤ in_force (F.content r.file)) }
+    ensures refused { F.honest → IfErr result (λ r. RefusedOpening (F.content file)
+        (F.content r.file) (F.marked r.file) r.why) }
 {
     let disk = match SnapshotDisk::open(alloc, file) {
         Ok(disk) => disk,

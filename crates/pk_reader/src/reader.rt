@@ -1,12 +1,13 @@
 //! A reader, and its answers.
 
-ghost use Rattle.std.specs.Prelude.{◌≡◌, ◌≤◌, IfOk};
+ghost use Rattle.std.specs.Prelude.{◌≡◌, ◌≤◌, IfErr, IfOk};
 ghost use Rattle.pk_manifest.specs.Evolves.{in_force};
 ghost use Rattle.pk_model.specs.Views.{reply_of};
 ghost use Rattle.pk_reader.specs.Asking.{request_of};
 ghost use Rattle.pk_reader.specs.Faults.{opening_fault};
 ghost use Rattle.pk_reader.specs.Held.{file_bytes};
 ghost use Rattle.pk_reader.specs.Reading.{ReadStep};
+ghost use Rattle.pk_reader.specs.Refused.{WasRefused};
 ghost use Rattle.pk_reader.specs.Replies.{ReaderReplies};
 ghost use Rattle.pk_shell.specs.Asked.{is_quit, queries};
 ghost use Rattle.pk_shell.specs.Response.{is_bye, response_text};
@@ -61,8 +62,10 @@ impl<V: View + Drop, C: Clock + Drop> Reader<V, C> {
         caches: Caches,
         clock: C,
     ) -> Result<Reader<V, C>, OpenFault>
-        ensures { V.File.SharedFile.honest → IfOk result (λ r. in_force (V.File.SharedFile.content file)
+        ensures fresh { V.File.SharedFile.honest → IfOk result (λ r. in_force (V.File.SharedFile.content file)
             ≤ in_force (file_bytes r.shown r.file V.File.SharedFile.content V.bytes)) }
+        ensures refused { IfErr result (WasRefused V.File.SharedFile.honest
+            V.File.SharedFile.content V.refuses file) }
     {
         let mut alone = file;
         let mut last = SnapshotFault::Changed;

@@ -4,7 +4,7 @@ ghost use Rattle.std.specs.Prelude.{◌≡◌, false, IfErr, IfOk, IsTrue};
 ghost use Rattle.pk_model.specs.Collection.{Collection};
 ghost use Rattle.pk_model.specs.Views.{reply_of};
 ghost use Rattle.pk_state.specs.Holds.{Holds};
-ghost use Rattle.pk_store.specs.Opening.{IsStoreOf};
+ghost use Rattle.pk_store.specs.Opening.{IsStoreOf, RefusesOpening};
 ghost use Rattle.pk_store.specs.Steps.{Steps};
 ghost use Rattle.pk_store.specs.View.{IsLookedAt};
 ghost use Rattle.pk_reader.specs.Asking.{request_of};
@@ -32,6 +32,7 @@ impl<D: Disk> Shown<D> {
         ensures shown { D.honest → IfOk result
             (λ s. D.content s.store.volume.disk ≡ D.content disk) }
         ensures refused { D.honest → IfErr result (λ r. D.content r.disk ≡ D.content disk) }
+        ensures why { D.honest → IfErr result (λ r. RefusesOpening (D.content disk) r.why) }
     {
         match Store::open_on(alloc, disk, blocks) {
             Ok(store) => Ok(Shown { store }),

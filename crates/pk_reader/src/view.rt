@@ -6,6 +6,8 @@ ghost use Rattle.pk_model.specs.Views.{reply_of};
 ghost use Rattle.pk_reader.specs.Asking.{request_of};
 ghost use Rattle.pk_reader.specs.Held.{held_bytes};
 ghost use Rattle.pk_reader.specs.Reading.{ReadStep};
+ghost use Rattle.pk_reader.specs.Refused.{RefusedOpening};
+ghost use Rattle.pk_snapshot.specs.declared.fault.SnapshotFault.{SnapshotFault};
 
 use crate::asking::ask;
 use crate::opening::{Caches, Open, open_file};
@@ -22,13 +24,17 @@ pub trait View: Sized {
     /// The bytes of the file.
     ghost bytes: { Self → List ℕ };
 
+    /// What it says that a file was not opened for this reason, of the file before and after.
+    ghost refuses: { Self.File → Self.File → SnapshotFault → Type 0 };
+
     /// Opens what is in force on a file. The file is handed back with a refusal.
     fn open(alloc: Global, caches: Caches, file: Self::File) -> Result<Self, Refused<Self::File>>
         ensures fresh { Self.File.SharedFile.honest → IfOk result
             (λ s. in_force (Self.File.SharedFile.content file) ≤ in_force (bytes s)) }
         ensures later { Self.File.SharedFile.honest → IfErr result
             (λ r. in_force (Self.File.SharedFile.content file)
-            ≤ in_force (Self.File.SharedFile.content r.file)) };
+            ≤ in_force (Self.File.SharedFile.content r.file)) }
+        ensures refused { IfErr result (λ r. refuses file r.file r.why) };
 
     /// Asks until there is a reply: eight times beside writers, and then for a second without them,
     /// too.
@@ -49,6 +55,9 @@ impl<F: HeldFile + Drop> View for Open<F> {
     type File = F;
 
     ghost bytes = { λ s. F.SharedFile.content s.store.volume.disk.disk.file };
+
+    ghost refuses = { λ old new why. F.SharedFile.honest → RefusedOpening (F.SharedFile.content old)
+        (F.SharedFile.content new) (F.SharedFile.marked new) why };
 
     fn open(alloc: Global, caches: Caches, file: F) -> Result<Open<F>, Refused<F>> {
         open_file(alloc, caches, file)

@@ -9,7 +9,7 @@ returns-in-Ok-serve_engine g c = inl (
   c.serve_engine.new.engine,
   refl,
   refl,
-  record { opened = g.F.SharedFile.content c.in-Ok.file; shared = c.in-Ok.ensures; fresh = c.in-Ok-open.ensures },
+  record { opened = g.F.SharedFile.content c.in-Ok.file; shared = c.in-Ok.ensures; fresh = c.in-Ok-open.ensures.fresh },
   c.in-Ok-serve_engine.ensures.ends,
 )
 
@@ -20,6 +20,6 @@ returns g c = inr (inl (
   c.serve_engine.new.engine,
   c.fail-in-Err-serve_engine.ensures.status,
   rw c.session_reason.ensures at c.fail-in-Err-serve_engine.ensures.told,
-  record { opened = g.F.SharedFile.content c.in-Ok.file; shared = c.in-Ok.ensures; fresh = c.in-Ok-open.ensures },
+  record { opened = g.F.SharedFile.content c.in-Ok.file; shared = c.in-Ok.ensures; fresh = c.in-Ok-open.ensures.fresh },
   c.in-Err-serve_engine.ensures.ends,
 ))
