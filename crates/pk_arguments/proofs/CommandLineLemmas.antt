@@ -85,20 +85,20 @@ no_memory : (kind : ErrorKind) → IsHelp kind → kind ≡ OutOfMemory → ⊥
 no_memory kind (inl help) memory = cc
 no_memory kind (inr version) memory = cc
 
-means : (words : List Text) (error : Error) (unasked : Unasked)
+means : (words : List Text) (error : Error) (text : Text) (unasked : Unasked)
     → (kind_of error ≡ OutOfMemory) ⊎ IsAmong (kind_of error) (fault_of pk_find_app words)
-    → IsOfError error unasked → IsUnasked words unasked
-means words error (Help told) kinds is = subst (λ e. IsUnasked words (Help e)) (sym is.0)
-    (is_fault words (kind_of error) (no_memory (kind_of error) is.1) kinds, is.1)
-means words error (Refused told) kinds is = subst (λ e. IsUnasked words (Refused e)) (sym is.0)
-    (is_fault words (kind_of error) is.1 kinds, is.2)
-means words error Memory kinds is = tt
+    → IsOfError error text unasked → IsUnasked words unasked
+means words error text (Help told) kinds is =
+    (kind_of error, is_fault words (kind_of error) (no_memory (kind_of error) is.1) kinds, is.1)
+means words error text (Refused told) kinds is =
+    (kind_of error, is_fault words (kind_of error) is.1 kinds, is.2)
+means words error text Memory kinds is = tt
 
 -- words that were not parsed ask for no command, by what the error of the parse means
-pub words_unasked : (app : App) (words : List Text) (error : Error) (unasked : Unasked)
+pub words_unasked : (app : App) (words : List Text) (error : Error) (text : Text) (unasked : Unasked)
     → app ≡ pk_find_app
     → (is_simple_and_free app ≡ true → (kind_of error ≡ OutOfMemory) ⊎ IsAmong (kind_of error) (fault_of app words))
-    → IsOfError error unasked → IsUnasked words unasked
-words_unasked app words error unasked same kinds is = means words error unasked
+    → IsOfError error text unasked → IsUnasked words unasked
+words_unasked app words error text unasked same kinds is = means words error text unasked
     (subst (λ a. (kind_of error ≡ OutOfMemory) ⊎ IsAmong (kind_of error) (fault_of a words)) same (kinds (ap is_simple_and_free same ∙ has_faults)))
     is

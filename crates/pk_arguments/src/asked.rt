@@ -87,6 +87,9 @@ pub fn asked_by_words<'a>(alloc: Global, words: &'a [String]) -> Result<Asked<'a
     // Words that were parsed ask for a command; were it otherwise, nothing would be known of them.
     match program.try_get_matches_from(words) {
         Ok(matches) => asked_by(&matches).ok_or(Unasked::Memory),
-        Err(error) => Err(unasked_by(error)),
+        Err(error) => match error.to_string(alloc) {
+            Ok(text) => Err(unasked_by(&error, text)),
+            Err(_) => Err(Unasked::Memory),
+        },
     }
 }

@@ -1,8 +1,8 @@
 -- What a command came to, by its status, over any disk.
 use Rattle.std.specs.Prelude.{◌≡◌, ◌≤◌, ◌*◌, ◌⊎◌, ℕ, List, [], ◌++◌, length, codes, decimal}
-use Rattle.std.specs.Prelude.{IsTrue, Option, Result, Ok, Err, replicate}
+use Rattle.std.specs.Prelude.{IsTrue, Option, Result, Ok, Err, replicate, string_bytes}
 use Rattle.std.specs.Io.KnownBytes.{Appends}
-use Rattle.pk_arguments.specs.CommandLine.{AreRefused, WordsAskHelp}
+use Rattle.pk_arguments.specs.Unasked.{IsUnasked}
 use Rattle.pk_arguments.specs.declared.unasked.Unasked.{Unasked}
 use Rattle.pk_arguments.specs.declared.unasked.Unasked.TheVariants as unasked
 use Rattle.pk_disk.specs.Disk.{Rose, nowhere}
@@ -84,7 +84,7 @@ pub record IsNoSession {D : Type 0} (d : Ghosts D) (disk disk' : D) (r r' w w' :
   pub handed : disk' ≡ refused.disk
   pub extends : d.honest → Extends d (era.unopened disk (Err refused)) disk'
 
--- A line was told on standard error: the whole of it, or a part where a write failed.
+-- A text was told on standard error: the whole of it, or a part where a write failed.
 abbrev pub IsTold : Option (List ℕ) → Option (List ℕ) → List ℕ → Type 0
 IsTold e e' line = Appends e e' line ⊎ SentPart e e' line
 
@@ -352,17 +352,20 @@ FileGrowthOutcome {D} {F} d f file_of may_hold path units w w' e e' status left 
     ⊎ ((file : Option F) × (left ≡ left_of file)
     × IsUnopened f may_hold path e e' status file × (w' ≡ w))
 
--- help was told, or could not be
-abbrev pub HelpOutcome : Option (List ℕ) → Option (List ℕ) → ℕ → Type 0
-HelpOutcome e e' status =
-    ((status ≡ done) × (e' ≡ e)) ⊎ ((status ≡ failed) × IsTold e e' output_words)
+-- HELP: all of its text was written, or a part of it where the output failed, and that is told.
+abbrev pub HelpOutcome : List ℕ → Option (List ℕ) → Option (List ℕ) → Option (List ℕ)
+    → Option (List ℕ) → ℕ → Type 0
+HelpOutcome text w w' e e' status =
+    ((status ≡ done) × Appends w w' text × (e' ≡ e))
+    ⊎ ((status ≡ failed) × IsTold e e' output_words × SentPart w w' text)
 
--- A command line that asks for no command, by why: want of memory and a fault write nothing to the
--- output.
+-- WHAT CAME OF A COMMAND LINE THAT ASKS FOR NO COMMAND, by why: a fault is told in its text, and it
+-- and want of memory write nothing to the output.
 abbrev pub RefusalOutcome : Unasked → Option (List ℕ) → Option (List ℕ) → Option (List ℕ)
     → Option (List ℕ) → ℕ → Type 0
-RefusalOutcome (unasked.Help error) w w' e e' status = HelpOutcome e e' status
-RefusalOutcome (unasked.Refused error) w w' e e' status = (status ≡ refused) × (w' ≡ w)
+RefusalOutcome (unasked.Help text) w w' e e' status = HelpOutcome (string_bytes text) w w' e e' status
+RefusalOutcome (unasked.Refused text) w w' e e' status =
+    (status ≡ refused) × IsTold e e' (string_bytes text) × (w' ≡ w)
 RefusalOutcome unasked.Memory w w' e e' status =
     (status ≡ failed) × IsTold e e' memory_words × (w' ≡ w)
 
@@ -370,7 +373,5 @@ RefusalOutcome unasked.Memory w w' e e' status =
 -- or memory was. Nothing was read.
 abbrev pub NoCommandOutcome : List (List ℕ) → Option (List ℕ) → Option (List ℕ) → Option (List ℕ)
     → Option (List ℕ) → Option (List ℕ) → Option (List ℕ) → ℕ → Type 0
-NoCommandOutcome words r r' w w' e e' status =
-    (WordsAskHelp words × (r' ≡ r) × HelpOutcome e e' status)
-    ⊎ ((AreRefused words × (r' ≡ r) × (w' ≡ w) × (status ≡ refused))
-    ⊎ ((r' ≡ r) × (w' ≡ w) × (status ≡ failed) × IsTold e e' memory_words))
+NoCommandOutcome words r r' w w' e e' status = (r' ≡ r)
+    × ((why : Unasked) × IsUnasked words why × RefusalOutcome why w w' e e' status)

@@ -1,7 +1,7 @@
 //! Statuses, and the lines on standard error.
 
 ghost use Rattle.std.specs.Prelude.{◌≡◌};
-ghost use Rattle.pk_command.specs.Endings.{IsTold, RefusalOutcome};
+ghost use Rattle.pk_command.specs.Endings.{HelpOutcome, IsTold, RefusalOutcome};
 ghost use Rattle.pk_command.specs.Reasons.{checking_words, creating_words, file_words};
 ghost use Rattle.pk_command.specs.Growing.{growing_words};
 ghost use Rattle.pk_command.specs.Reasons.{opening_words, session_words};
@@ -38,7 +38,7 @@ pub const OUTPUT: &str = "pk_find: output\n";
 /// What is told where a word of the command line is not text.
 const NOT_TEXT: &str = "error: an argument is not text\n";
 
-/// Tells a line on standard error. Where that takes nothing, the status tells it alone.
+/// Tells a line or more on standard error. Where that takes nothing, the status tells it alone.
 fn tell<E: Write>(faults: &mut E, line: &str)
     ensures { IsTold (E.contents faults.old) (E.contents faults.new) line.now }
 {
@@ -66,18 +66,26 @@ pub fn refuse_words<E: Write>(kind: io::ErrorKind, faults: &mut E) -> u8
     fail(faults, MEMORY)
 }
 
-/// Tells why the command line was refused, or the help that was asked for.
+/// Tells the help that was asked for, and answers the status.
+fn tell_help<W: Write, E: Write>(output: &mut W, faults: &mut E, text: &str) -> u8
+    ensures { HelpOutcome text.now (W.contents output.old) (W.contents output.new)
+        (E.contents faults.old) (E.contents faults.new) result }
+{
+    match write_all(output, text.as_bytes()) {
+        Ok(()) => DONE,
+        Err(_) => fail(faults, OUTPUT),
+    }
+}
+
+/// Tells why the command line was refused, or the help that was asked for, and answers the status.
 pub fn refuse<W: Write, E: Write>(output: &mut W, faults: &mut E, unasked: &Unasked) -> u8
     ensures { RefusalOutcome unasked.now (W.contents output.old) (W.contents output.new)
         (E.contents faults.old) (E.contents faults.new) result }
 {
     match unasked {
-        Unasked::Help(text) => match write!(output, "{text}") {
-            Ok(()) => DONE,
-            Err(_) => fail(faults, OUTPUT),
-        },
+        Unasked::Help(text) => tell_help(output, faults, text.as_str()),
         Unasked::Refused(text) => {
-            let _ = write!(faults, "{text}");
+            tell(faults, text.as_str());
             REFUSED
         }
         Unasked::Memory => fail(faults, MEMORY),

@@ -3,7 +3,6 @@ use Rattle.std.proofs.Common.{inl, inr, map, refl, string_bytes, subst}
 use Rattle.pk_arguments.specs.CommandLine.{WordsAsk}
 use Rattle.pk_arguments.specs.Sizes.{HasSize}
 use Rattle.pk_arguments.specs.declared.asked.Asked.TheVariants.{Check, Create, Grow, Read, Run}
-use Rattle.pk_command.proofs.RefusalLemmas.{uncommanded}
 use Rattle.pk_command.proofs.command.Goals as goal
 
 pub returns-in-Ok-Run-clause-ended : goal.returns-in-Ok-Run-clause-ended
@@ -47,4 +46,4 @@ returns-in-Ok-Grow-clause-ended g c = inl (
 )
 
 pub returns-in-Err-clause-ended : goal.returns-in-Err-clause-ended
-returns-in-Err-clause-ended g c = inr (refl, uncommanded (map string_bytes c.args.words.now) c.in-Err.unasked _ _ _ _ _ _ c.in-Err.ensures.none c.refuse.ensures)
+returns-in-Err-clause-ended g c = inr (refl, refl, c.in-Err.unasked, c.in-Err.ensures.none, c.refuse.ensures)
