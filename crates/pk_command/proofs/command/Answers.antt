@@ -46,4 +46,4 @@ returns-in-Ok-Grow-clause-ended g c = inl (
 )
 
 pub returns-in-Err-clause-ended : goal.returns-in-Err-clause-ended
-returns-in-Err-clause-ended g c = inr (refl, refl, c.in-Err.unasked, c.in-Err.ensures.none, c.refuse.ensures)
+returns-in-Err-clause-ended g c = inr (refl, (refl, (c.in-Err.unasked, c.in-Err.ensures.none, c.refuse.ensures)))
