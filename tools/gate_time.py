@@ -118,7 +118,7 @@ class Yardstick:
 
     def told(self, minutes):
         """The line that tells what processor minutes are of processors that share nothing."""
-        alone, beside = self.alone, statistics.mean(self.beside)
+        alone, beside = self.alone, statistics.mean(self.beside or [self.alone])
         return (f"a fixed piece of work took {alone:.3f} s of a processor alone and {beside:.3f} "
                 f"beside it: of processors that share nothing this is "
                 f"{minutes * min(1, alone / beside):.1f} minutes; the gate may take "

@@ -74,7 +74,9 @@ class Shared(unittest.TestCase):
     def test_a_command_that_ends_at_once(self):
         _, _, _, status, work = gate_time.watch(["true"])
         self.assertEqual(status, 0)
-        self.assertGreater(min(work.alone, *work.beside), 0)
+        self.assertGreater(work.alone, 0)
+        self.assertIn("this is 1.0 minutes" if not work.beside else "of processors that share nothing",
+                      work.told(1))
 
 
 if __name__ == "__main__":
