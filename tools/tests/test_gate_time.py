@@ -75,8 +75,7 @@ class Shared(unittest.TestCase):
         _, _, _, status, work = gate_time.watch(["true"])
         self.assertEqual(status, 0)
         self.assertGreater(work.alone, 0)
-        self.assertIn("this is 1.0 minutes" if not work.beside else "of processors that share nothing",
-                      work.told(1))
+        self.assertIn("of processors that share nothing", work.told(1))
 
 
 if __name__ == "__main__":

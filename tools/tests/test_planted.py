@@ -1,4 +1,4 @@
-"""The list of the wrong bodies that were planted names functions, mutants and clauses that are there."""
+"""The list of the wrong bodies that were planted names what is there: functions, mutants, clauses."""
 import pathlib
 import re
 import unittest
@@ -23,8 +23,9 @@ class Planted(unittest.TestCase):
         for line in self.lines:
             told = LINE.fullmatch(line)
             self.assertTrue(told, f"{line}: a crate, a function and a bug are wanted")
-            crate, function, _, _ = told.groups()
-            self.assertTrue(any(re.search(rf"\bfn {function}\b", text) for text in texts(crate, "src")),
+            crate, function = told[1], told[2]
+            self.assertTrue(any(re.search(rf"\bfn {function}\b", text)
+                                for text in texts(crate, "src")),
                             f"{crate} has no function {function}")
 
     def test_what_was_let_through_is_a_mutant_and_has_its_clause(self):
