@@ -20,7 +20,7 @@ not, a file that --into names has the same lines.
 A processor that shares its core with another does less in a second, often half. So a fixed piece of
 work is done before the command begins and behind it, the least of some times, and each quarter of a
 minute beside it: by what it took there the minutes are told in those of processors that share
-nothing. To these the budget applies. Where a commit has that file already, the last line
+nothing, beside the sum, which the budget is of. Where a commit has that file already, the last line
 tells what the crates that have not changed since it was committed took of their time there, and so
 what all would have taken on the machine of that table: a machine may take twice as long as another.
 """
@@ -121,8 +121,7 @@ class Yardstick:
         alone, beside = self.alone, statistics.mean(self.beside or [self.alone])
         return (f"a fixed piece of work took {alone:.3f} s of a processor alone and {beside:.3f} "
                 f"beside it: of processors that share nothing this is "
-                f"{minutes * min(1, alone / beside):.1f} minutes; the gate may take "
-                f"{BUDGET_MINUTES}")
+                f"{minutes * min(1, alone / beside):.1f} minutes")
 
 
 def watch(command):
@@ -171,7 +170,7 @@ def table(command, parts, seconds, minutes, work):
     yield row("all of these", together)
     yield f"\nrunning, and what ended between two looks: {(seconds - together.total()) / 60:.1f} min"
     yield (f"{seconds / 60:.1f} processor minutes in {minutes:.1f} minutes of the clock on "
-           f"{os.cpu_count()} processors")
+           f"{os.cpu_count()} processors; the gate may take {BUDGET_MINUTES}")
     yield work.told(seconds / 60)
 
 

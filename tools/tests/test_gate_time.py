@@ -66,7 +66,7 @@ class Shared(unittest.TestCase):
         self.assertEqual(
             self.yardstick(0.1, [0.15, 0.25]).told(260),
             "a fixed piece of work took 0.100 s of a processor alone and 0.200 beside it: of "
-            "processors that share nothing this is 130.0 minutes; the gate may take 140")
+            "processors that share nothing this is 130.0 minutes")
 
     def test_no_minute_is_more_than_one(self):
         self.assertIn("this is 260.0 minutes", self.yardstick(0.2, [0.1]).told(260))
