@@ -1,8 +1,9 @@
 //! What the command line may say, and the help that it gives.
 
 ghost use Rattle.std.specs.Prelude.{◌≡◌, IfOk};
-ghost use Rattle.clap.specs.Words.{app_of};
-ghost use Rattle.pk_arguments.specs.CommandLine.{IsArg, path_rule, pk_find_app, units_rule};
+ghost use Rattle.clap.specs.Words.{app_of, new_app, with_rule};
+ghost use Rattle.pk_arguments.specs.CommandLine.{IsArg, bare_app, path_rule, pk_find_app};
+ghost use Rattle.pk_arguments.specs.CommandLine.{units_rule};
 
 use clap::builder::ValueParser;
 use clap::{Arg, Command};
@@ -135,40 +136,53 @@ fn units<'a>(alloc: Global) -> Arg<'a>
         .help("The store's size in units of 512 bytes")
 }
 
-/// What the command line may say.
-pub fn program<'a>(alloc: Global) -> Result<Command<'a>, AllocError>
-    ensures { IfOk result (λ c. app_of c ≡ pk_find_app) }
+/// A command that takes the path of a store's file.
+fn with_path<'a>(
+    alloc: Global,
+    name: &'a str,
+    about: &'a str,
+    help: &'a str,
+) -> Result<Command<'a>, AllocError>
+    ensures { IfOk result (λ c. app_of c ≡ with_rule (new_app name.now) path_rule) }
 {
-    let create = Command::new(alloc, "create")
-        .about(CREATE_ABOUT)
-        .after_help(CREATE_HELP)
-        .arg(path(alloc))?
-        .arg(units(alloc))?;
-    let run = Command::new(alloc, "run")
-        .about(RUN_ABOUT)
-        .after_help(RUN_HELP)
-        .arg(path(alloc))?;
-    let check = Command::new(alloc, "check")
-        .about(CHECK_ABOUT)
-        .after_help(CHECK_HELP)
-        .arg(path(alloc))?;
-    let grow = Command::new(alloc, "grow")
-        .about(GROW_ABOUT)
-        .after_help(GROW_HELP)
-        .arg(path(alloc))?
-        .arg(units(alloc))?;
-    let read = Command::new(alloc, "read")
-        .about(READ_ABOUT)
-        .after_help(READ_HELP)
-        .arg(path(alloc))?;
+    Command::new(alloc, name)
+        .about(about)
+        .after_help(help)
+        .arg(path(alloc))
+}
+
+/// One that takes a number of units too.
+fn with_units<'a>(
+    alloc: Global,
+    name: &'a str,
+    about: &'a str,
+    help: &'a str,
+) -> Result<Command<'a>, AllocError>
+    ensures { IfOk result (λ c. app_of c
+        ≡ with_rule (with_rule (new_app name.now) path_rule) units_rule) }
+{
+    with_path(alloc, name, about, help)?.arg(units(alloc))
+}
+
+/// The program without its commands.
+fn bare<'a>(alloc: Global) -> Command<'a>
+    ensures { app_of result ≡ bare_app }
+{
     Command::new(alloc, "pk_find")
         .about(ABOUT)
         .version(VERSION)
         .subcommand_required(true)
         .arg_required_else_help(true)
-        .subcommand(create)?
-        .subcommand(grow)?
-        .subcommand(run)?
-        .subcommand(read)?
-        .subcommand(check)
+}
+
+/// What the command line may say.
+pub fn program<'a>(alloc: Global) -> Result<Command<'a>, AllocError>
+    ensures { IfOk result (λ c. app_of c ≡ pk_find_app) }
+{
+    bare(alloc)
+        .subcommand(with_units(alloc, "create", CREATE_ABOUT, CREATE_HELP)?)?
+        .subcommand(with_units(alloc, "grow", GROW_ABOUT, GROW_HELP)?)?
+        .subcommand(with_path(alloc, "run", RUN_ABOUT, RUN_HELP)?)?
+        .subcommand(with_path(alloc, "read", READ_ABOUT, READ_HELP)?)?
+        .subcommand(with_path(alloc, "check", CHECK_ABOUT, CHECK_HELP)?)
 }
