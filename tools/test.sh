@@ -16,7 +16,14 @@ if ! python3 tools/seals.py; then
     echo "0 passed, 1 failed"
     exit 1
 fi
-tools/gate_time.py ${GATE:+--into "$GATE"} rt ci 2>&1 >"$costs" | tee "$log"
+
+# A check by several jobs takes some seconds of a processor more for each: one for each check, and a
+# check for each processor and 5 GB of memory.
+processors=$(nproc)
+memory=$(awk '/^MemAvailable/ { print int($2 / 5000000) }' /proc/meminfo)
+[ "$memory" -ge "$processors" ] || processors=$memory
+[ "$processors" -gt 0 ] || processors=1
+RT_JOBS=${RT_JOBS:-$processors} tools/gate_time.py ${GATE:+--into "$GATE"} rt ci 2>&1 >"$costs" | tee "$log"
 last=$(grep -x '[0-9]* passed, [0-9]* failed' "$log" | tail -n 1)
 if [ -z "$last" ]; then
     cat "$costs"
