@@ -3,6 +3,7 @@ pub mod Begun
 pub mod Blocks
 pub mod Cached
 pub mod Counted
+pub mod Damages
 pub mod Dropped
 pub mod Few
 pub mod FilterBytes

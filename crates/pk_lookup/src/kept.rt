@@ -15,11 +15,11 @@ use pk_posting::{ByteSource, ListPlace, Shape, block_in, tail_in};
 use pk_segment::ReadFault;
 use std::alloc::AllocError;
 
-/// Which list: the id of its segment, and where it lies there.
+// Which list: the id of its segment, and where it lies there.
 #[derive(Clone, Copy)]
-pub struct ListKey {
-    pub segment: u64,
-    pub place: ListPlace,
+pub(crate) struct ListKey {
+    pub(crate) segment: u64,
+    pub(crate) place: ListPlace,
 }
 
 // Puts a block behind whole blocks.

@@ -4,8 +4,8 @@
 //! it comes (`repeats`), and gives a row of entries for each. Where the dictionary lies the open
 //! segment has (pk_open), so no header is read. What the dictionaries say is kept by the word's place
 //! (`listed`); `frequencies_of` sums it up for the plan, and `finds_nothing` tells the plans that
-//! find nothing by it. `put_word` and `take_out` take a word's list out whole by a cursor, block by
-//! block; `cut_in` seeks number by number in it, for what is far longer than the numbers (`is_far`).
+//! find nothing by it. `put_word` takes a word's list out whole by a cursor, block by block;
+//! `cut_word` seeks number by number in it, for what is far longer than the numbers (`is_far`).
 //! The words that begin alike are gone through by a cursor of the dictionary, and the list of each is
 //! united with the others as it comes (`put_with_prefix`).
 //!
@@ -26,10 +26,14 @@
 //! words that begin with a prefix none is left out (`HasUnited`), nor the list of one, which has as
 //! many numbers as its entry says (`IsUnited`).
 //!
+//! Damage is noted where a dictionary or a list answers it (`Damage`): so the clauses say that
+//! whoever looks a word up or takes its list out answers it too (`NotesDamage`).
+//!
 //! Answers `Damaged` where a dictionary or a list is none, `Disk` where a read failed, or `Memory`.
 //! What was to be filled is open then; filters and cache agree as before.
 #![tactic(auto)]
 
+mod damage;
 mod filters;
 mod kept;
 mod listed;
@@ -43,9 +47,9 @@ mod rising;
 mod rows;
 mod tables;
 
-pub use kept::ListKey;
-pub use listed::{PlannedSegment, entry_at, frequencies_of, rarest_of};
-pub use lists::{cut_in, is_far, place_of, put_word, take_out};
+pub use damage::Damage;
+pub use listed::{PlannedSegment, frequencies_of, frequency_at, rarest_of};
+pub use lists::{cut_word, is_far, put_word};
 pub use looking::look_up_all;
 pub use nothing::finds_nothing;
 pub use pivots::PivotTables;

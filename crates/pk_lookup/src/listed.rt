@@ -9,6 +9,7 @@ ghost use Rattle.pk_plan.specs.Plans.{word_at};
 ghost use Rattle.pk_plan.specs.Words.{texts};
 ghost use Rattle.pk_posting.specs.Frames.{ReadsSource};
 ghost use Rattle.pk_lookup.specs.Counted.{AreCounted};
+ghost use Rattle.pk_lookup.specs.Damages.{NotesDamage};
 ghost use Rattle.pk_lookup.specs.Dropped.{DropsOnlyOf};
 ghost use Rattle.pk_lookup.specs.FilterBytes.{KeepsLimit};
 ghost use Rattle.pk_lookup.specs.Filtered.{AddsFilterOf, IsFilterFor, filters_of};
@@ -21,6 +22,7 @@ ghost use Rattle.pk_segment.specs.Placed.{IsIndexedOf, dictionary_of};
 ghost use Rattle.pk_segment.specs.Reading.{CountsReads};
 ghost use Rattle.pk_segment.specs.Spelling.{IndexSpells};
 
+use crate::damage::Damage;
 use crate::repeats::QueryWords;
 use crate::rows::EntryTable;
 use crate::tables::WordTables;
@@ -77,6 +79,33 @@ impl<'a> FilteredDict<'a> {
     }
 }
 
+// What the dictionary that lies there says of a word. Damage is noted.
+fn look_up_word<S: ByteSource>(
+    source: &mut S,
+    lies: DictPlace,
+    pivots: &mut [u64],
+    word: &[u8],
+    damage: &mut Damage,
+) -> Result<Option<Entry>, ReadFault>
+    ensures entry { S.honest → (docs : List Doc) → IndexSpells (S.content source.old) docs
+        → lies ≡ dictionary_place docs → ListedAs docs word.now result }
+
+    // Of any bytes: they say so, and damage that is met is answered.
+    ensures said { S.honest → IfOk result (SaysOf (S.content source.old) lies word.now) }
+    ensures damage { NotesDamage damage.old damage.new result }
+
+    ensures left { ReadsSource S.ByteSource CountsReads result source.old source.new }
+{
+    match look_up_near(source, lies, pivots, word) {
+        Ok(entry) => Ok(entry),
+        Err(fault) => {
+            let answer = Err(fault.into());
+            damage.note(&answer);
+            answer
+        }
+    }
+}
+
 // The entry of the next word, by the dictionary that lies there, where those of all words before it
 // are known: the same word's, if it is among them, and none where the filter rules the word out.
 fn entry_of_word<S: ByteSource>(
@@ -85,6 +114,7 @@ fn entry_of_word<S: ByteSource>(
     pivots: &mut [u64],
     asked: &QueryWords,
     known: &[Option<Entry>],
+    damage: &mut Damage,
 ) -> Result<Option<Entry>, ReadFault>
     requires word { length known.now < length asked.now.words.now }
     ensures entry { S.honest → (docs : List Doc) → IndexSpells (S.content source.old) docs
@@ -99,6 +129,8 @@ fn entry_of_word<S: ByteSource>(
         → IfOk result (SaysOf (S.content source.old) dict.now.lies
         (get_or (texts asked.now.words.now) (length known.now) [])) }
 
+    // Of any bytes: damage that is met is answered.
+    ensures damage { NotesDamage damage.old damage.new result }
     ensures left { ReadsSource S.ByteSource CountsReads result source.old source.new }
 {
     let place = known.len();
@@ -110,8 +142,7 @@ fn entry_of_word<S: ByteSource>(
         return Ok(None);
     }
     let word = asked.words[place];
-    let entry = look_up_near(source, dict.lies, pivots, word.as_bytes())?;
-    Ok(entry)
+    look_up_word(source, dict.lies, pivots, word.as_bytes(), damage)
 }
 
 // Puts the entry of each word, by the dictionary that lies there, into the place of what was known.
@@ -121,6 +152,7 @@ fn put_entries<S: ByteSource>(
     pivots: &mut [u64],
     asked: &QueryWords,
     known: &mut Vec<Option<Entry>>,
+    damage: &mut Damage,
 ) -> Result<(), ReadFault>
     ensures entries { S.honest → (docs : List Doc) → IndexSpells (S.content source.old) docs
         → dict.now.lies ≡ dictionary_place docs
@@ -131,12 +163,14 @@ fn put_entries<S: ByteSource>(
     ensures said { S.honest → dict.now.filter ≡ None → OnOk result (SaysOfEach
         (S.content source.old) dict.now.lies (texts asked.now.words.now) known.new.items) }
 
+    // Of any bytes: damage that is met is answered.
+    ensures damage { NotesDamage damage.old damage.new result }
     ensures long { OnOk result (length known.new.items ≡ length asked.now.words.now) }
     ensures left { ReadsSource S.ByteSource CountsReads result source.old source.new }
 {
     known.clear();
     for _place in 0..asked.words.len() {
-        let entry = entry_of_word(source, dict, pivots, asked, known)?;
+        let entry = entry_of_word(source, dict, pivots, asked, known, damage)?;
         let Ok(()) = known.push(entry) else {
             return Err(ReadFault::Memory);
         };
@@ -162,6 +196,7 @@ pub(crate) fn look_up<S: ByteSource>(
     tables: &mut WordTables,
     sought: &LookUp,
     known: &mut Vec<Option<Entry>>,
+    damage: &mut Damage,
 ) -> Result<(), ReadFault>
     ensures entries { S.honest → (docs : List Doc) → IndexSpells (S.content source.old) docs
         → IsIndexedOf sought.now.opened.now.segment docs
@@ -175,6 +210,8 @@ pub(crate) fn look_up<S: ByteSource>(
         (dictionary_of sought.now.opened.now.segment) (texts sought.now.words.words.now)
         known.new.items) }
 
+    // Of any bytes: damage that is met is answered.
+    ensures damage { NotesDamage damage.old damage.new result }
     ensures long { OnOk result (length known.new.items ≡ length sought.now.words.words.now) }
     ensures adds { AddsFilterOf S.honest (S.content source.old) sought.now.opened.now
         (filters_of tables.old) (filters_of tables.new) }
@@ -191,15 +228,15 @@ pub(crate) fn look_up<S: ByteSource>(
         filter: tables.filters.filter_at(sought.place, opened.entry.segment),
     };
     if dict.rules_out_all(sought.words.hashes) {
-        return put_entries(source, &dict, &mut [], &sought.words, known);
+        return put_entries(source, &dict, &mut [], &sought.words, known, damage);
     }
     let (pivots, long) = tables.pivots.table_of(alloc, sought.place, &opened.entry)?;
     let mut windows = Windows::on(source, dict.lies, long);
-    put_entries(&mut windows, &dict, pivots, &sought.words, known)
+    put_entries(&mut windows, &dict, pivots, &sought.words, known, damage)
 }
 
-/// The entry at a place; none past the last word.
-pub fn entry_at(entries: &[Option<Entry>], place: usize) -> Option<Entry>
+// The entry at a place; none past the last word.
+pub(crate) fn entry_at(entries: &[Option<Entry>], place: usize) -> Option<Entry>
     ensures value { result ≡ get_or entries.now place None }
     ensures leads { (words : List (List ℕ)) (docs : List Doc) → AreEntriesOf entries.now words docs
         → LeadsAs docs (word_at words place) result }
@@ -210,8 +247,8 @@ pub fn entry_at(entries: &[Option<Entry>], place: usize) -> Option<Entry>
     entries[place]
 }
 
-// How many documents of a segment hold the word at a place.
-fn frequency_at(entries: &[Option<Entry>], place: usize) -> u32
+/// How many documents of a segment hold the word at a place.
+pub fn frequency_at(entries: &[Option<Entry>], place: usize) -> u32
     ensures { result ≡ frequency_in place entries.now }
 {
     if place >= entries.len() {

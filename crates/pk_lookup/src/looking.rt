@@ -3,6 +3,7 @@ ghost use Rattle.std.specs.Prelude.{◌≡◌, ◌<◌, ◌*◌, ℕ, List, leng
 ghost use Rattle.std.specs.Prelude.{All, IfErr, IfOk, OnOk, true};
 ghost use Rattle.pk_disk.specs.Units.{apart, extent_bytes};
 ghost use Rattle.pk_lookup.specs.Counted.{AreCounted};
+ghost use Rattle.pk_lookup.specs.Damages.{NotesDamage};
 ghost use Rattle.pk_lookup.specs.Dropped.{DropsOnlyOf};
 ghost use Rattle.pk_lookup.specs.FilterBytes.{KeepsLimit};
 ghost use Rattle.pk_lookup.specs.Filtered.{AddsFilterOf, FiltersAgree, FiltersAgreeAt};
@@ -22,6 +23,7 @@ ghost use Rattle.pk_state.specs.Committed.{Stored};
 ghost use Rattle.pk_state.specs.Holds.{IndexesEntries, IndexesEntry};
 ghost use Rattle.pk_state.specs.Kept.{EndsInside, LieInside};
 
+use crate::damage::Damage;
 use crate::listed::{LookUp, look_up};
 use crate::repeats::{QueryWords, first_places, hashes_of};
 use crate::tables::WordTables;
@@ -40,6 +42,7 @@ fn look_up_in<D: Disk>(
     tables: &mut WordTables,
     sought: &LookUp,
     known: &mut Vec<Option<Entry>>,
+    damage: &mut Damage,
 ) -> Result<(), ReadFault>
     requires { EndsInside (length (D.content source.old.disk.now))
         sought.now.opened.now.entry.extent }
@@ -59,6 +62,8 @@ fn look_up_in<D: Disk>(
         (dictionary_of sought.now.opened.now.segment) (texts sought.now.words.words.now)
         known.new.items) }
 
+    // Of any bytes: damage that is met is answered.
+    ensures damage { NotesDamage damage.old damage.new result }
     ensures fault { D.honest → (s : Stored)
         → IndexesEntry (D.content source.old.disk.now) sought.now.opened.now.entry s
         → IsOpenOf sought.now.opened.now s
@@ -81,7 +86,7 @@ fn look_up_in<D: Disk>(
         return Ok(());
     }
     source.turn_to(sought.opened.entry.extent);
-    look_up(alloc, source, tables, sought, known)
+    look_up(alloc, source, tables, sought, known, damage)
 }
 
 /// What the dictionaries of all open segments of kind 2 say of each word, a row for each segment, in
@@ -90,13 +95,14 @@ fn look_up_in<D: Disk>(
 ///
 /// Let the filters agree with the open segments, then they do so afterwards.
 ///
-/// `Damaged` where a dictionary is none, `Disk` where a read failed, or `Memory`.
+/// `Damaged` where a dictionary is none, which is noted, `Disk` where a read failed, or `Memory`.
 pub fn look_up_all<D: Disk>(
     alloc: Global,
     source: &mut ExtentSource<D>,
     tables: &mut WordTables,
     opened: &[OpenSegment],
     words: &[&str],
+    damage: &mut Damage,
 ) -> Result<Vec<Option<Entry>>, ReadFault>
     requires inside { LieInside (length (D.content source.old.disk.now)) (entries_of opened.now) }
     requires ids { apart same_segment (entries_of opened.now) ≡ true }
@@ -109,6 +115,8 @@ pub fn look_up_all<D: Disk>(
     ensures said { D.honest → IfOk result (λ table. AreSaid (D.content source.old.disk.now)
         (texts words.now) opened.now (filters_of tables.new) table.items) }
 
+    // Of any bytes: damage that is met is answered.
+    ensures damage { NotesDamage damage.old damage.new result }
     ensures fault { D.honest → (stored : List Stored)
         → IndexesEntries (D.content source.old.disk.now) (entries_of opened.now) stored
         → AreOpenOf opened.now stored
@@ -145,7 +153,7 @@ pub fn look_up_all<D: Disk>(
             place: i,
             opened: &opened[i],
         };
-        look_up_in(alloc, source, tables, &sought, &mut known)?;
+        look_up_in(alloc, source, tables, &sought, &mut known, damage)?;
         table.extend_from_slice(&known)?;
     }
     Ok(table)

@@ -9,6 +9,7 @@ ghost use Rattle.pk_dict.specs.Place.{LiesIn, bytes_at};
 ghost use Rattle.pk_dict.specs.Prefix.{GivesNext, HasLeft, words_to_come};
 ghost use Rattle.pk_dict.specs.Seeking.{GivesAfter};
 ghost use Rattle.pk_lookup.specs.Begun.{HasUnited};
+ghost use Rattle.pk_lookup.specs.Damages.{NotesDamage};
 ghost use Rattle.pk_model.specs.Collection.{Doc, answer};
 ghost use Rattle.pk_model.specs.Tree.{Prefix};
 ghost use Rattle.pk_posting.specs.Frames.{ReadsSource};
@@ -22,6 +23,7 @@ ghost use Rattle.pk_segment.specs.Reading.{CountsReads, IsNoDamage};
 ghost use Rattle.pk_segment.specs.Spelling.{IndexSpells};
 ghost use Rattle.pk_sets.specs.Sets.{union};
 
+use crate::damage::Damage;
 use crate::listed::PlannedSegment;
 use crate::lists::{copy_rising, place_of};
 use crate::pivots::PivotTables;
@@ -40,28 +42,34 @@ const AHEAD: u32 = 512;
 /// The first word that begins so is sought by the table of the dictionary's pivots, if it has one;
 /// whatever this has, the answer is the same.
 ///
-/// `Damaged` where the dictionary or a list is none, `Disk` where a read failed, or `Memory`.
+/// `Damaged` where the dictionary or a list is none, which is noted, `Disk` where a read failed, or
+/// `Memory`.
 pub fn put_with_prefix<S: ByteSource>(
     source: &mut S,
     tables: &mut PivotTables,
     at: &PlannedSegment,
     prefix: &str,
     out: &mut Vec<u32>,
+    damage: &mut Damage,
 ) -> Result<(), ReadFault>
     ensures numbers { S.honest → (docs : List Doc) → IndexSpells (S.content source.old) docs
         → IsIndexedOf at.now.opened.now.segment docs
         → PutsAs (answer (Prefix prefix.now) docs) out.new.items result }
 
-    // Of any bytes: no word that begins so is left out, and no list of one.
+    // Of any bytes: no word that begins so is left out, and no list of one. Damage that is met is
+    // answered.
     ensures read { S.honest → OnOk result (HasUnited (S.content source.old)
         at.now.opened.now.segment prefix.now out.new.items) }
+    ensures damage { NotesDamage damage.old damage.new result }
 
     ensures rising { OnOk result (IsStrictlyIncreasing out.new.items) }
     ensures left { ReadsSource S.ByteSource CountsReads result source.old source.new }
 {
     let alloc = *out.allocator();
     let (pivots, long) = tables.table_of(alloc, at.place, &at.opened.entry)?;
-    unite_lists(source, pivots, long, &at.opened.segment, prefix, out)
+    let answer = unite_lists(source, pivots, long, &at.opened.segment, prefix, out);
+    damage.note(&answer);
+    answer
 }
 
 // The same by the tables of the segment's dictionary.

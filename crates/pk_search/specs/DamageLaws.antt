@@ -3,9 +3,9 @@ use Rattle.std.proofs.Common.{◌≡◌, ◌∙◌, Bool, Option, Some, None, Re
 use Rattle.pk_sets.specs.Puts.{fault_of}
 use Rattle.pk_posting.specs.declared.fault.ReadFault.{ReadFault}
 use Rattle.pk_posting.specs.declared.fault.ReadFault.TheVariants.{Memory}
-use Rattle.pk_search.specs.Damages.{NotesDamage, met_after}
+use Rattle.pk_lookup.specs.Damages.{NotesDamage, met_after}
+use Rattle.pk_lookup.specs.declared.damage.Damage.{Damage}
 use Rattle.pk_search.specs.Leaves.{answer_of}
-use Rattle.pk_search.specs.declared.damage.Damage.{Damage}
 
 pub notes_none : (a : Damage) → NotesDamage a a (answer_of None)
 notes_none a = refl

@@ -17,8 +17,8 @@
 //! and the plan carried out over an index of the words of each (pk_live, by `hits`). The plan is
 //! answered, so that other documents are found by it too.
 //!
-//! Damage that a look-up or a list answers is noted (`damage`, `noted`): so the clauses say that a
-//! find answers it too, whatever the bytes are.
+//! Damage that a dictionary, a list, a directory or a text answers is noted where it is met (`Damage`
+//! of pk_lookup): so the clauses say that a find answers it too, whatever the bytes are.
 //!
 //! The answer is exact whatever the frequencies are: they choose the way alone. The cache of blocks
 //! and the tables of words are kept from find to find as pk_lookup says.
@@ -27,10 +27,8 @@
 //! memory. It writes nothing.
 #![tactic(auto)]
 
-mod damage;
 mod finding;
 mod hits;
-mod noted;
 mod planned;
 mod stored;
 mod tables;

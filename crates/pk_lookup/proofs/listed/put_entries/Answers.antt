@@ -21,6 +21,7 @@ loop-place-preserved g c =
     let count : length known ≡ c.loop-place._place = ap length c.deref.ensures.value ∙ before.long in
     record {
       left = search rules;
+      damage = c.in_ok-entry.ensures.damage ∙ before.damage;
       long = ap length c.in-Ok.ensures.items ∙ length-append c.loop-place.known.items (c.in_ok-entry.entry ∷ []) ∙ ap (λ (n : ℕ). n + 1) before.long;
       entries = λ h docs index of has. (
           let here = subst (λ (x : List ℕ). IndexSpells x docs) (sym (before.left.same h)) index in

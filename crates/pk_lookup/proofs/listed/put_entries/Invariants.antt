@@ -18,6 +18,7 @@ invariant-loop-place g l =
     let content = g.S.ByteSource.content in
     record {
       left : ReadsSource g.S.ByteSource CountsReads (Ok (tt {0})) l.fn.source l.source;
+      damage : l.damage.met ≡ l.fn.damage.met;
       long : length l.known.items ≡ l._place;
       entries : g.S.ByteSource.honest → (docs : List Doc) → IndexSpells (content l.fn.source) docs → l.dict.lies ≡ dictionary_place docs → IfSome l.dict.filter (λ filter. HasAll (items_of docs) filter.now) → AreEntriesOf l.known.items (take l._place (texts l.asked.words.now)) docs;
       says : g.S.ByteSource.honest → l.dict.filter ≡ None → SaysOfEach (content l.fn.source) l.dict.lies (texts l.asked.words.now) l.known.items;

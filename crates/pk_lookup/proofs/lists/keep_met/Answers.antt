@@ -12,7 +12,7 @@ use Rattle.pk_lookup.proofs.lists.keep_met.Goals.{then-eq, else-eq}
 pub loop-i-preserved : goal.loop-i-preserved
 loop-i-preserved g c =
     let before = c.loop-i.invariant in
-    let read = c.in_ok-seek.ensures.moved.left before.sound in
+    let read = c.in_default.ensures.moved.left before.sound in
     let i = c.loop-i.i in
     let kept = c.loop-i.kept in
     let now = c.loop-i.numbers.items in
@@ -21,7 +21,8 @@ loop-i-preserved g c =
     record {
       reference = c.seek.ensures.same_reference ∙ before.reference;
       only_read = source_then g.met.S.ByteSource.keeps_then before.only_read (left_by_move read);
-      sound = c.in_ok-seek.ensures.moved.sound refl;
+      sound = c.in_default.ensures.moved.sound refl;
+      damage = before.damage;
       long = elim c.if-eq.branch [
         | then-eq w ↦ ap (λ (v : Vec ℕ). length v.items) w.numbers-is ∙ length-set now kept x ∙ before.long
         | else-eq w ↦ ap (λ (v : Vec ℕ). length v.items) w.numbers-is ∙ before.long
@@ -36,7 +37,7 @@ loop-i-preserved g c =
       ];
       sought = λ h xs stands. (
           let a = before.sought h xs stands in
-          let to = c.in_ok-seek.ensures.at h xs a.index a.stands in
+          let to = c.in_default.ensures.at h xs a.index a.stands in
           let inside : i < length old = omega (arith, before.long) in
           let here : x ≡ slice_index old i = here_at now old i x (omega (arith, before.long, inside)) c.index-number.ensures before.left in
           let low = below_all xs old x a.index to.index i inside here a.passed to.first in

@@ -14,6 +14,7 @@ invariant-loop-i g l =
       reference : l.cursor.source.ghost_name ≡ l.fn.cursor.source.ghost_name;
       only_read : ReadsSource g.S.ByteSource CountsReads (Ok (tt {0})) l.fn.cursor.source.now l.cursor.source.now;
       sound : l.cursor.standing.fault ≡ None;
+      damage : l.damage.met ≡ l.fn.damage.met;
       long : length l.numbers.items ≡ length l.fn.numbers.items;
       few : l.kept ≤ l.i;
       left : drop l.i l.numbers.items ≡ drop l.i l.fn.numbers.items;

@@ -56,6 +56,7 @@ pub loop-i-init : goal.loop-i-init
 loop-i-init g c = record {
   same_reference = search rules;
   left = search rules;
+  damage = search rules;
   long = search rules;
   agrees = λ h agree. agree_still _ _ _ _ c.settle.ensures.adds agree;
   below = λ next all below. below_still next _ _ c.settle.ensures.adds below;
@@ -101,6 +102,7 @@ loop-i-preserved g c =
     record {
       same_reference = c.look_up_in.ensures.same_reference ∙ before.same_reference;
       left = disk_then before.left c.in_ok-look_up_in.ensures.left;
+      damage = c.in_ok-look_up_in.ensures.damage ∙ before.damage;
       long = let more = length-append c.loop-i.table.items c.look_up_in.new.known.items in omega (arith, ap length put, more, before.long, c.in_ok-look_up_in.ensures.long);
       agrees = agrees_then g a;
       below = below_then g a;

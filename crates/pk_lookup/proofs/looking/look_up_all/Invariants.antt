@@ -19,6 +19,7 @@ invariant-loop-i g l =
     record {
       same_reference : l.source.disk.ghost_name ≡ l.fn.source.disk.ghost_name;
       left : ReadsDisk disk CountsReads (Ok (tt {0})) l.fn.source.disk.now l.source.disk.now;
+      damage : l.damage.met ≡ l.fn.damage.met;
       long : length l.table.items ≡ l.i * length l.fn.words;
       agrees : disk.honest → FiltersAgree bytes (filters_of l.fn.tables) l.opened → FiltersAgree bytes (filters_of l.tables) l.opened;
       below : (next : ℕ) → All (λ (o : OpenSegment). o.entry.segment < next) l.opened → FiltersBelow next (filters_of l.fn.tables) → FiltersBelow next (filters_of l.tables);

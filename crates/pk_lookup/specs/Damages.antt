@@ -2,7 +2,7 @@
 use Rattle.std.specs.Prelude.{◌≡◌, Bool, true, Result, Ok, Err}
 use Rattle.pk_posting.specs.declared.fault.ReadFault.{ReadFault}
 use Rattle.pk_posting.specs.declared.fault.ReadFault.TheVariants.{Damaged, Disk, Memory}
-use Rattle.pk_search.specs.declared.damage.Damage.{Damage}
+use Rattle.pk_lookup.specs.declared.damage.Damage.{Damage}
 
 -- whether damage was met, once a call answered this fault
 abbrev pub met_by : Bool → ReadFault → Bool

@@ -5,23 +5,23 @@ use pk_segment::ReadFault;
 
 /// Whether a call answered `Damaged`. Once that is noted it stays so.
 #[derive(Drop)]
-pub(crate) struct Damage {
+pub struct Damage {
     met: bool,
 }
 
 impl Damage {
     ghost use Rattle.std.specs.Prelude.{◌≡◌, false};
-    ghost use Rattle.pk_search.specs.Damages.{NotesDamage};
+    ghost use Rattle.pk_lookup.specs.Damages.{NotesDamage};
 
     /// None did so far.
-    pub(crate) fn new() -> Damage
+    pub fn new() -> Damage
         ensures { result.met ≡ false }
     {
         Damage { met: false }
     }
 
     /// Notes the damage that a call answered, if it did.
-    pub(crate) fn note<T>(&mut self, answer: &Result<T, ReadFault>)
+    pub fn note<T>(&mut self, answer: &Result<T, ReadFault>)
         ensures { NotesDamage self.old self.new answer.now }
     {
         if let Err(ReadFault::Damaged) = answer {
