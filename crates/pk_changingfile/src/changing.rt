@@ -142,11 +142,13 @@ impl SharedFile for ChangingFile {
 
 /// Nothing is kept away: it changes when it is to.
 impl HeldFile for ChangingFile {
+    type Hold = ();
+
     ghost is_held = { λ _. false };
 
-    fn hold(&mut self) -> bool {
-        false
+    fn hold(&mut self) -> Option<()> {
+        None
     }
 
-    fn release(&mut self) {}
+    fn release(&mut self, _hold: ()) {}
 }

@@ -1,6 +1,6 @@
 //! A file in memory that goes through contents that were recorded.
 
-ghost use Rattle.std.specs.Prelude.{◌≡◌, ◌≤◌, ◌<◌, ◌+◌, ◌-◌, ℕ, [], false, length, min, true, IfOk};
+ghost use Rattle.std.specs.Prelude.{◌≡◌, ◌≤◌, ◌<◌, ◌+◌, ◌-◌, ℕ, [], false, length, min, true, IfNone, IfOk};
 
 use pk_filedisk::CallFault;
 use pk_snapshot::{HeldFile, SharedFile};
@@ -143,17 +143,19 @@ impl<'a> SharedFile for RecordedFile<'a> {
 
 /// While it is held it has the content that it had.
 impl<'a> HeldFile for RecordedFile<'a> {
+    type Hold = ();
+
     ghost is_held = { λ f. f.is_held };
 
-    fn hold(&mut self) -> bool
+    fn hold(&mut self) -> Option<()>
         ensures holds { self.new.is_held ≡ true }
-        ensures not_held { result ≡ false → self.new.is_held ≡ false }
+        ensures not_held { IfNone result (self.new.is_held ≡ false) }
     {
         self.is_held = true;
-        true
+        Some(())
     }
 
-    fn release(&mut self) {
+    fn release(&mut self, _hold: ()) {
         self.is_held = false;
     }
 }

@@ -3,3 +3,4 @@ pub mod OrderLemmas
 pub mod ShownLemmas
 pub mod ReadLemmas
 pub mod RefusedLemmas
+pub mod CauseLemmas

@@ -6,3 +6,4 @@ pub mod Held
 pub mod Replies
 pub mod Without
 pub mod Refused
+pub mod Causes

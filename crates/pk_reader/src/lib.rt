@@ -25,9 +25,12 @@
 //! | `NoSuchDocument` | no live document of that body has the number |
 //! | `Memory` | a growth of memory was refused |
 //! | `Damaged` | bytes of that body are no spelling of what should stand there |
-//! | `Disk` | a read failed, there is no store in the file any more, or each try was outdated, the last ones for a second beside a writer |
+//! | `Disk` | a call of the file failed, the file is too small for a store, or each try was outdated: for a second beside a writer, or while writers were kept away |
 //!
-//! After `Disk`, and where there was no store to ask, the next question opens anew.
+//! After `Disk`, and where there was no store to ask, the next question opens anew. Beside writers one
+//! try tells `Disk` for a call that failed, or for a file that is too small, alone (`HasCause`). While
+//! they are kept away a reader has a linear value, and owes it to the call that lets them come
+//! (`HeldFile`).
 //!
 //! # The file
 //!

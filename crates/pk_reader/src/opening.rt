@@ -1,7 +1,8 @@
 //! One opening of a file.
 
-ghost use Rattle.std.specs.Prelude.{◌≡◌, ◌≤◌, IfErr, IfOk, cond};
+ghost use Rattle.std.specs.Prelude.{◌≡◌, ◌≤◌, ◌+◌, IfErr, IfOk, cond};
 ghost use Rattle.pk_manifest.specs.Evolves.{in_force};
+ghost use Rattle.pk_reader.specs.Causes.{IsCausedBy};
 ghost use Rattle.pk_reader.specs.Faults.{showing_fault};
 ghost use Rattle.pk_reader.specs.Refused.{RefusedOpening};
 
@@ -66,6 +67,8 @@ pub fn open_file<F: SharedFile + Drop>(
         (λ r. in_force (F.content file) ≤ in_force (F.content r.file)) }
     ensures refused { F.honest → IfErr result (λ r. RefusedOpening (F.content file)
         (F.content r.file) (F.marked r.file) r.why) }
+    ensures cause { F.honest → IfErr result (λ r. IsCausedBy (F.content file)
+        (F.failed r.file + F.interrupted r.file) r.why) }
 {
     let disk = match SnapshotDisk::open(alloc, file) {
         Ok(disk) => disk,
@@ -80,7 +83,9 @@ pub fn open_file<F: SharedFile + Drop>(
 
 /// The file of a store, and why it isn't asked any more.
 pub fn close<F: SharedFile>(view: Open<F>, why: SnapshotFault) -> Refused<F>
-    ensures { result.file ≡ view.store.volume.disk.disk.file }
+    ensures file { result.file ≡ view.store.volume.disk.disk.file }
+    ensures why { result.why
+        ≡ cond view.store.volume.disk.disk.outdated SnapshotFault.Changed why }
 {
     hand_back(view.close(), why)
 }

@@ -4,10 +4,13 @@ ghost use Rattle.std.specs.Prelude.{◌≡◌, false, IfErr, IfOk, IsTrue};
 ghost use Rattle.pk_model.specs.Collection.{Collection};
 ghost use Rattle.pk_model.specs.Views.{reply_of};
 ghost use Rattle.pk_state.specs.Holds.{Holds};
-ghost use Rattle.pk_store.specs.Opening.{IsStoreOf, RefusesOpening};
+ghost use Rattle.pk_disk.specs.Disk.{Rose};
+ghost use Rattle.pk_disk.specs.Since.{NoneNew};
+ghost use Rattle.pk_store.specs.Opening.{DiskFailed, IsStoreOf, RefusesOpening};
 ghost use Rattle.pk_store.specs.Steps.{Steps};
 ghost use Rattle.pk_store.specs.View.{IsLookedAt};
 ghost use Rattle.pk_reader.specs.Asking.{request_of};
+ghost use Rattle.pk_reader.specs.Causes.{OnDisk};
 ghost use Rattle.pk_reader.specs.Reading.{IsNamed, IsRightFor};
 
 use crate::question::Question;
@@ -33,6 +36,10 @@ impl<D: Disk> Shown<D> {
             (λ s. D.content s.store.volume.disk ≡ D.content disk) }
         ensures refused { D.honest → IfErr result (λ r. D.content r.disk ≡ D.content disk) }
         ensures why { D.honest → IfErr result (λ r. RefusesOpening (D.content disk) r.why) }
+        ensures cause { IfErr result (λ r. r.why ≡ OpenFault.Disk
+            → DiskFailed D.Disk disk r.disk) }
+        ensures none_new { D.honest → IfErr result
+            (λ r. NoneNew D.moment D.images_since disk r.disk) }
     {
         match Store::open_on(alloc, disk, blocks) {
             Ok(store) => Ok(Shown { store }),
@@ -45,6 +52,9 @@ impl<D: Disk> Shown<D> {
         ensures right { D.honest → (c : Collection) → Holds (D.content self.old.store.volume.disk) c
             → IsRightFor (request_of question.entry) (reply_of result) c }
         ensures named { IsNamed (request_of question.entry) (reply_of result) }
+        ensures cause { OnDisk (reply_of result)
+            (Rose (D.failed_reads self.old.store.volume.disk)
+            (D.failed_reads self.new.store.volume.disk)) }
         ensures content { D.honest → D.content self.new.store.volume.disk
             ≡ D.content self.old.store.volume.disk }
     {

@@ -1,9 +1,10 @@
 //! A question, asked once of the newest that is in force.
 
-ghost use Rattle.std.specs.Prelude.{◌≡◌, ◌≤◌, Err, None, IfErr, IfOk, IfSome, IsSomeAnd, MatchOption};
+ghost use Rattle.std.specs.Prelude.{◌≡◌, ◌≤◌, ◌+◌, Err, None, IfErr, IfOk, IfSome, IsSomeAnd, MatchOption};
 ghost use Rattle.pk_manifest.specs.Evolves.{in_force};
 ghost use Rattle.pk_model.specs.Views.{reply_of};
 ghost use Rattle.pk_reader.specs.Asking.{request_of};
+ghost use Rattle.pk_reader.specs.Causes.{HasCause, IsCausedBy, held_count};
 ghost use Rattle.pk_reader.specs.Held.{held_bytes};
 ghost use Rattle.pk_reader.specs.Reading.{IsFailure, ReadStep};
 ghost use Rattle.pk_reader.specs.Without.{refusal_without};
@@ -21,8 +22,12 @@ pub type Held<F> = Result<Open<F>, F>;
 
 /// The file that is held.
 pub fn file_of<F: SharedFile>(held: Held<F>) -> F
-    ensures { F.content result
+    ensures bytes { F.content result
         ≡ held_bytes held F.content (λ s. F.content s.store.volume.disk.disk.file) }
+    ensures count { F.failed result + F.interrupted result
+        ≡ held_count held (λ f. F.failed f + F.interrupted f)
+        (λ s. F.failed s.store.volume.disk.disk.file
+        + F.interrupted s.store.volume.disk.disk.file) }
 {
     match held {
         Ok(view) => close(view, SnapshotFault::Changed).file,
@@ -42,6 +47,9 @@ fn newest<F: SharedFile + Drop>(
     ensures later { F.honest → IfErr result
         (λ r. in_force (held_bytes held F.content (λ s. F.content s.store.volume.disk.disk.file))
         ≤ in_force (F.content r.file)) }
+    ensures cause { F.honest → IfErr result (λ r. IsCausedBy
+        (held_bytes held F.content (λ s. F.content s.store.volume.disk.disk.file))
+        (F.failed r.file + F.interrupted r.file) r.why) }
 {
     match held {
         Err(file) => open_file(alloc, caches, file),
@@ -60,6 +68,9 @@ fn renewed<F: SharedFile + Drop>(
         ≤ in_force (⟦<PageCache<SnapshotDisk<F>> as Disk>⟧.content s.store.volume.disk)) }
     ensures later { F.honest → IfErr result
         (λ r. in_force (F.content view.store.volume.disk.disk.file) ≤ in_force (F.content r.file)) }
+    ensures cause { F.honest → IfErr result (λ r. IsCausedBy
+        (F.content view.store.volume.disk.disk.file)
+        (F.failed r.file + F.interrupted r.file) r.why) }
 {
     if let Ok(true) = view.is_latest() {
         return Ok(view);
@@ -84,7 +95,7 @@ fn reply_without(why: SnapshotFault) -> Option<Reply>
 }
 
 /// Asks once, and tells what is held then. There is no reply where what is read is outdated: the
-/// question is to be asked again.
+/// question is to be asked again. So `Refusal::Disk` has another cause.
 pub fn turn<F: SharedFile + Drop>(
     alloc: Global,
     caches: Caches,
@@ -98,6 +109,11 @@ pub fn turn<F: SharedFile + Drop>(
     ensures later { F.honest
         → in_force (held_bytes held F.content (λ s. F.content s.store.volume.disk.disk.file))
         ≤ in_force (held_bytes result.1 F.content (λ s. F.content s.store.volume.disk.disk.file)) }
+    ensures cause { F.honest → IfSome result.0 (λ reply. HasCause
+        (held_bytes held F.content (λ s. F.content s.store.volume.disk.disk.file))
+        (held_count result.1 (λ f. F.failed f + F.interrupted f)
+        (λ s. F.failed s.store.volume.disk.disk.file
+        + F.interrupted s.store.volume.disk.disk.file)) (reply_of reply)) }
 {
     let mut view = match newest(alloc, caches, held) {
         Ok(view) => view,

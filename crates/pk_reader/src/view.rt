@@ -1,9 +1,10 @@
 //! A store over what is shown of a file, and the file.
 
-ghost use Rattle.std.specs.Prelude.{◌≤◌, ℕ, List, IfErr, IfOk};
+ghost use Rattle.std.specs.Prelude.{◌≤◌, ◌+◌, ℕ, List, IfErr, IfOk};
 ghost use Rattle.pk_manifest.specs.Evolves.{in_force};
 ghost use Rattle.pk_model.specs.Views.{reply_of};
 ghost use Rattle.pk_reader.specs.Asking.{request_of};
+ghost use Rattle.pk_reader.specs.Causes.{IsCausedBy};
 ghost use Rattle.pk_reader.specs.Held.{held_bytes};
 ghost use Rattle.pk_reader.specs.Reading.{ReadStep};
 ghost use Rattle.pk_reader.specs.Refused.{RefusedOpening};
@@ -57,7 +58,8 @@ impl<F: HeldFile + Drop> View for Open<F> {
     ghost bytes = { λ s. F.SharedFile.content s.store.volume.disk.disk.file };
 
     ghost refuses = { λ old new why. F.SharedFile.honest → RefusedOpening (F.SharedFile.content old)
-        (F.SharedFile.content new) (F.SharedFile.marked new) why };
+        (F.SharedFile.content new) (F.SharedFile.marked new) why × IsCausedBy
+        (F.SharedFile.content old) (F.SharedFile.failed new + F.SharedFile.interrupted new) why };
 
     fn open(alloc: Global, caches: Caches, file: F) -> Result<Open<F>, Refused<F>> {
         open_file(alloc, caches, file)

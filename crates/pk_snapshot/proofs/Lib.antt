@@ -10,3 +10,4 @@ pub mod OpenLemmas
 pub mod ShowsLemmas
 pub mod LatestLemmas
 pub mod AnotherLemmas
+pub mod WriteLemmas

@@ -3,9 +3,9 @@ pub mod Shared
 pub mod Counted
 pub mod Seen
 pub mod Shown
-pub mod Images
 pub mod Found
 pub mod Order
 pub mod Latest
 pub mod Changed
 pub mod Another
+pub mod Writes

@@ -1,7 +1,7 @@
 //! A disk that shows a file as it was, while another program may write it.
 
-ghost use Rattle.std.specs.Prelude.{◌≡◌, ◌≤◌, ◌+◌, ◌^◌, true, false, IfErr, IfOk};
-ghost use Rattle.pk_disk.specs.Disk.{nowhere};
+ghost use Rattle.std.specs.Prelude.{◌≡◌, ◌≤◌, ◌<◌, ◌+◌, ◌^◌, ℕ, true, false, None, Some, IfErr, IfOk};
+ghost use Rattle.pk_disk.specs.Disk.{IsImage};
 ghost use Rattle.pk_manifest.specs.Evolves.{Evolves, in_force};
 ghost use Rattle.pk_snapshot.specs.Changed.{SawChange};
 ghost use Rattle.pk_snapshot.specs.Counted.{FailsByCalls, is_disk};
@@ -9,6 +9,7 @@ ghost use Rattle.pk_snapshot.specs.Found.{RefusedAs};
 ghost use Rattle.pk_snapshot.specs.Latest.{IsSnapshot};
 ghost use Rattle.pk_snapshot.specs.Shared.{SawOther};
 ghost use Rattle.pk_snapshot.specs.Shown.{ShowsBody, shown_bytes};
+ghost use Rattle.pk_snapshot.specs.Writes.{failed_by, open_at};
 
 use crate::fault::{Refused, SnapshotFault};
 use crate::looking::{Looked, is_latest, look};
@@ -22,6 +23,8 @@ use std::alloc::Global;
 
 /// What a body claims on a file, as it was when that was opened, and zeros beside. Over an honest file
 /// it is honest. Once the body's gate was shut, or another body stands behind it, each read fails.
+/// A write is refused, and the first position of its range is open then: so who leaves no new image
+/// has written nothing.
 #[derive(Drop)]
 pub struct SnapshotDisk<F: SharedFile> {
     file: F,
@@ -31,10 +34,12 @@ pub struct SnapshotDisk<F: SharedFile> {
     shown: Shown,
     outdated: bool,
     failed_reads: u64,
-    failed_writes: u64,
+    // Where the first write begins that was refused.
+    refused_at: Option<u64>,
     ghost snapshot: { F.honest → IsSnapshot (F.marked file) half generation len shown.extents.items },
     ghost by_calls: { F.honest → outdated ≡ false
         → failed_reads ≤ F.failed file + F.interrupted file },
+    ghost refused: { (p : ℕ) → refused_at ≡ Some p → p < len },
     ghost gone: { F.honest → outdated ≡ true
         → ∥ SawOther (F.marked file) (F.content file) half generation ∥₁ },
 }
@@ -63,7 +68,7 @@ impl<F: SharedFile + Drop> SnapshotDisk<F> {
         ensures opens { F.honest → IfOk result
             (λ d. FailsByCalls F.failed F.interrupted (2 ^ 32) false file d.file) }
         ensures reads { IfOk result (λ d. d.failed_reads ≡ 0) }
-        ensures writes { IfOk result (λ d. d.failed_writes ≡ 0) }
+        ensures writes { IfOk result (λ d. d.refused_at ≡ None) }
         ensures begins { IfOk result (λ d. d.outdated ≡ false) }
     {
         match look(alloc, &mut file) {
@@ -82,7 +87,7 @@ impl<F: SharedFile + Drop> SnapshotDisk<F> {
                 shown,
                 outdated: false,
                 failed_reads: 0,
-                failed_writes: 0,
+                refused_at: None,
             }),
             Err(why) => Err(Refused { file, why }),
         }
@@ -108,21 +113,20 @@ impl<F: SharedFile> SnapshotDisk<F> {
     }
 }
 
-#[tactic(auto, using(crate::proofs::ShownLemmas::length_shown))]
+#[tactic(auto, using(crate::proofs::ShownLemmas::length_shown, crate::proofs::WriteLemmas::same_images))]
 impl<F: SharedFile> Disk for SnapshotDisk<F> {
-    ghost use Rattle.pk_snapshot.specs.Images.{image_is, is_image};
-
     ghost content = { λ d. shown_bytes d.len d.shown.extents.items (F.marked d.file) };
 
-    ghost is_open = { λ _. nowhere };
+    ghost is_open = { λ d. open_at d.refused_at };
 
     ghost moment = { λ _. 0 };
 
-    ghost images_since = { λ d _ image. image ≡ shown_bytes d.len d.shown.extents.items (F.marked d.file) };
+    ghost images_since = { λ d _. IsImage
+        (shown_bytes d.len d.shown.extents.items (F.marked d.file)) (open_at d.refused_at) };
 
     ghost failed_reads = { λ d. d.failed_reads };
 
-    ghost failed_writes = { λ d. d.failed_writes };
+    ghost failed_writes = { λ d. failed_by d.refused_at };
 
     ghost honest = { F.honest };
 
@@ -154,21 +158,26 @@ impl<F: SharedFile> Disk for SnapshotDisk<F> {
         Ok(())
     }
 
-    fn write(&mut self, _at: u64, _bytes: &[u8]) -> Result<(), DiskFault> {
-        self.failed_writes = self.failed_writes.saturating_add(1);
+    fn write(&mut self, at: u64, bytes: &[u8]) -> Result<(), DiskFault> {
+        if self.refused_at.is_none() {
+            if bytes.is_empty() {
+                return Ok(());
+            }
+            self.refused_at = Some(at);
+        }
         Err(DiskFault)
     }
 
     fn sync(&mut self) -> Result<(), DiskFault> {
-        if self.failed_writes == u64::MAX {
-            return Err(DiskFault);
+        match self.refused_at {
+            None => Ok(()),
+            Some(_) => Err(DiskFault),
         }
-        Ok(())
     }
 
-    ghost counts_now = { λ disk t image honest le now. image_is (shown_bytes disk.len disk.shown.extents.items (F.marked disk.file)) image now };
+    ghost counts_now = { λ disk t image honest le now. now };
 
-    ghost only_now = { λ disk image honest since. is_image (shown_bytes disk.len disk.shown.extents.items (F.marked disk.file)) image since };
+    ghost only_now = { λ disk image honest since. since };
 }
 
 impl<F: SharedFile> Watched for SnapshotDisk<F> {

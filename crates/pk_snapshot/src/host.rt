@@ -58,16 +58,25 @@ impl SharedFile for File {
     ghost marked_before = { λ file honest. absurd honest };
 }
 
+/// A shared lock of a whole file.
+pub struct SharedLock;
+
 /// By a shared lock of the whole file.
 impl HeldFile for File {
+    type Hold = SharedLock;
+
     ghost is_held = { λ _. false };
 
-    fn hold(&mut self) -> bool {
-        self.try_lock_shared().is_ok()
+    fn hold(&mut self) -> Option<SharedLock> {
+        match self.try_lock_shared() {
+            Ok(()) => Some(SharedLock),
+            Err(_) => None,
+        }
     }
 
     // A lock that can't be given back goes with the file.
-    fn release(&mut self) {
+    fn release(&mut self, hold: SharedLock) {
+        let SharedLock = hold;
         let _ = self.unlock();
     }
 }

@@ -13,8 +13,8 @@
 //! | all others, also the other gate | zeros |
 //!
 //! So the body that is shown is in force by itself. The disk has as many units as that body says, and
-//! the file may be longer: a store may grow meanwhile. A write fails; a sync succeeds and asks
-//! nothing.
+//! the file may be longer: a store may grow meanwhile. A write fails, and so does each sync behind it;
+//! one before it succeeds and asks nothing.
 //!
 //! The extents are sorted by their places at the opening. No two of a sound body overlap, so those
 //! that a range meets lie side by side, and a read finds both ends of their row by halving.
@@ -61,7 +61,8 @@
 //! `std::fs::File` is the system's file, and promises nothing: what it does, no clause says. Each of
 //! its calls is one of the system. `mark` does nothing: it names a moment, of which clauses speak.
 //! `HeldFile` is one whose writers can be kept away: the system's by a shared lock, which a writer's
-//! lock for itself alone does not go with.
+//! lock for itself alone does not go with. Who keeps them away has a `Hold`, a linear value that only
+//! the call takes which lets them come.
 //!
 //! # What is refused
 //!

@@ -4,7 +4,7 @@ use Rattle.pk_reader.specs.Asking.{request_of}
 use Rattle.pk_reader.proofs.ReadLemmas.{older_step}
 use Rattle.pk_reader.proofs.holding.ask_held.Goals as goal
 
-pub returns-in-Some : goal.returns-in-Some
-returns-in-Some g c =
-    older_step _ _ _ _ (request_of c.args.question) (reply_of c.in-Some.reply) c.loop.invariant
-    (rw c.in-Some.is at c.ask_again-reply.ensures.step)
+pub returns-in-Ok-Some : goal.returns-in-Ok-Some
+returns-in-Ok-Some g c =
+    older_step _ _ _ _ (request_of c.args.question) (reply_of c.in-Ok-Some.reply) c.loop.invariant
+    (rw (c.in-Ok-Some.is, c.in-Ok-Some.field-0-is) at c.ask_again-reply.ensures.step)

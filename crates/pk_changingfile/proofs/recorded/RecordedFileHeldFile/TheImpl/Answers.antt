@@ -4,6 +4,8 @@ use Rattle.pk_changingfile.proofs.recorded.RecordedFileHeldFile.TheImpl.Goals as
 pub hold-tells : goal.hold-tells
 hold-tells g c = record {
   evolves = λ h. absurd h;
+  failed = λ h. absurd h;
+  interrupted = λ h. absurd h;
   held = λ h. absurd h;
   not_held = c.ensures.not_held;
 }

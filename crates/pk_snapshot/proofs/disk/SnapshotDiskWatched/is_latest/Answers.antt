@@ -5,6 +5,7 @@ use Rattle.pk_snapshot.specs.Shown.{shown_bytes}
 use Rattle.pk_snapshot.proofs.AnotherLemmas.{gone_on}
 use Rattle.pk_snapshot.proofs.LatestLemmas.{if_honest, marked_low}
 use Rattle.pk_snapshot.proofs.ShownLemmas.{length_shown}
+use Rattle.pk_snapshot.proofs.WriteLemmas.{same_images}
 use Rattle.pk_snapshot.proofs.disk.SnapshotDiskWatched.is_latest.Goals as goal
 
 pub returns-clause-keeps : goal.returns-clause-keeps
@@ -18,8 +19,8 @@ returns-clause-keeps g c =
       read = λ h. record {
         bytes = ap shown (c.is_latest.ensures.marked h);
         positions = refl;
-        images = record { later = omega arith; each = λ t image le is. is ∙ ap shown (c.is_latest.ensures.marked h) };
-        known = λ t image le is. is ∙ ap shown (sym (c.is_latest.ensures.marked h));
+        images = record { later = omega arith; each = λ t image le is. same_images (shown start) (shown marked) disk.refused_at image (ap shown (c.is_latest.ensures.marked h)) is };
+        known = λ t image le is. same_images (shown marked) (shown start) disk.refused_at image (ap shown (sym (c.is_latest.ensures.marked h))) is;
       };
       size = length_shown disk.len disk.shown.extents.items marked ∙ sym (length_shown disk.len disk.shown.extents.items start);
       writes = refl;
