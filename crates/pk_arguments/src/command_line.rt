@@ -2,8 +2,15 @@
 
 ghost use Rattle.std.specs.Prelude.{◌≡◌, IfOk};
 ghost use Rattle.clap.specs.Words.{app_of, new_app, with_rule};
-ghost use Rattle.pk_arguments.specs.CommandLine.{IsArg, bare_app, path_rule, pk_find_app};
-ghost use Rattle.pk_arguments.specs.CommandLine.{units_rule};
+ghost use Rattle.pk_arguments.specs.CommandLine.{IsArg, bare_app, check_app, create_app};
+ghost use Rattle.pk_arguments.specs.CommandLine.{grow_app, path_rule, pk_find_app, read_app};
+ghost use Rattle.pk_arguments.specs.CommandLine.{run_app, units_rule};
+ghost use Rattle.pk_arguments.specs.Described.{IsDescribed};
+ghost use Rattle.pk_arguments.specs.declared.command_line.TheConstants.{CHECK_ABOUT, CHECK_HELP};
+ghost use Rattle.pk_arguments.specs.declared.command_line.TheConstants.{CREATE_ABOUT, CREATE_HELP};
+ghost use Rattle.pk_arguments.specs.declared.command_line.TheConstants.{GROW_ABOUT, GROW_HELP};
+ghost use Rattle.pk_arguments.specs.declared.command_line.TheConstants.{READ_ABOUT, READ_HELP};
+ghost use Rattle.pk_arguments.specs.declared.command_line.TheConstants.{RUN_ABOUT, RUN_HELP};
 
 use clap::builder::ValueParser;
 use clap::{Arg, Command};
@@ -143,12 +150,11 @@ fn with_path<'a>(
     about: &'a str,
     help: &'a str,
 ) -> Result<Command<'a>, AllocError>
-    ensures { IfOk result (λ c. app_of c ≡ with_rule (new_app name.now) path_rule) }
+    ensures app { IfOk result (λ c. app_of c ≡ with_rule (new_app name.now) path_rule) }
+    ensures texts { IfOk result (IsDescribed about.now help.now) }
 {
-    Command::new(alloc, name)
-        .about(about)
-        .after_help(help)
-        .arg(path(alloc))
+    let command = Command::new(alloc, name).arg(path(alloc))?;
+    Ok(command.about(about).after_help(help))
 }
 
 /// One that takes a number of units too.
@@ -158,10 +164,49 @@ fn with_units<'a>(
     about: &'a str,
     help: &'a str,
 ) -> Result<Command<'a>, AllocError>
-    ensures { IfOk result (λ c. app_of c
+    ensures app { IfOk result (λ c. app_of c
         ≡ with_rule (with_rule (new_app name.now) path_rule) units_rule) }
+    ensures texts { IfOk result (IsDescribed about.now help.now) }
 {
-    with_path(alloc, name, about, help)?.arg(units(alloc))
+    let command = Command::new(alloc, name)
+        .arg(path(alloc))?
+        .arg(units(alloc))?;
+    Ok(command.about(about).after_help(help))
+}
+
+fn create<'a>(alloc: Global) -> Result<Command<'a>, AllocError>
+    ensures app { IfOk result (λ c. app_of c ≡ create_app) }
+    ensures texts { IfOk result (IsDescribed CREATE_ABOUT.now CREATE_HELP.now) }
+{
+    with_units(alloc, "create", CREATE_ABOUT, CREATE_HELP)
+}
+
+fn grow<'a>(alloc: Global) -> Result<Command<'a>, AllocError>
+    ensures app { IfOk result (λ c. app_of c ≡ grow_app) }
+    ensures texts { IfOk result (IsDescribed GROW_ABOUT.now GROW_HELP.now) }
+{
+    with_units(alloc, "grow", GROW_ABOUT, GROW_HELP)
+}
+
+fn run<'a>(alloc: Global) -> Result<Command<'a>, AllocError>
+    ensures app { IfOk result (λ c. app_of c ≡ run_app) }
+    ensures texts { IfOk result (IsDescribed RUN_ABOUT.now RUN_HELP.now) }
+{
+    with_path(alloc, "run", RUN_ABOUT, RUN_HELP)
+}
+
+fn read<'a>(alloc: Global) -> Result<Command<'a>, AllocError>
+    ensures app { IfOk result (λ c. app_of c ≡ read_app) }
+    ensures texts { IfOk result (IsDescribed READ_ABOUT.now READ_HELP.now) }
+{
+    with_path(alloc, "read", READ_ABOUT, READ_HELP)
+}
+
+fn check<'a>(alloc: Global) -> Result<Command<'a>, AllocError>
+    ensures app { IfOk result (λ c. app_of c ≡ check_app) }
+    ensures texts { IfOk result (IsDescribed CHECK_ABOUT.now CHECK_HELP.now) }
+{
+    with_path(alloc, "check", CHECK_ABOUT, CHECK_HELP)
 }
 
 /// The program without its commands.
@@ -180,9 +225,9 @@ pub fn program<'a>(alloc: Global) -> Result<Command<'a>, AllocError>
     ensures { IfOk result (λ c. app_of c ≡ pk_find_app) }
 {
     bare(alloc)
-        .subcommand(with_units(alloc, "create", CREATE_ABOUT, CREATE_HELP)?)?
-        .subcommand(with_units(alloc, "grow", GROW_ABOUT, GROW_HELP)?)?
-        .subcommand(with_path(alloc, "run", RUN_ABOUT, RUN_HELP)?)?
-        .subcommand(with_path(alloc, "read", READ_ABOUT, READ_HELP)?)?
-        .subcommand(with_path(alloc, "check", CHECK_ABOUT, CHECK_HELP)?)
+        .subcommand(create(alloc)?)?
+        .subcommand(grow(alloc)?)?
+        .subcommand(run(alloc)?)?
+        .subcommand(read(alloc)?)?
+        .subcommand(check(alloc)?)
 }

@@ -17,13 +17,13 @@ plain a = a.top.is_plain
 
 pub returns : goal.returns
 returns c =
-    let with_create = c.in_ok-subcommand.ensures.shape (local _ _ _ _ (ap plain c.in_ok-with_units.ensures))
-    ∙ ap₂ with_subcommand c.bare.ensures (ap (λ (a : App). a.top) c.in_ok-with_units.ensures) in
-    let with_grow = c.in_ok-subcommand-2.ensures.shape (local _ _ _ _ (ap plain c.in_ok-with_units-2.ensures))
-    ∙ ap₂ with_subcommand with_create (ap (λ (a : App). a.top) c.in_ok-with_units-2.ensures) in
-    let with_run = c.in_ok-subcommand-3.ensures.shape (local _ _ _ _ (ap plain c.in_ok-with_path.ensures))
-    ∙ ap₂ with_subcommand with_grow (ap (λ (a : App). a.top) c.in_ok-with_path.ensures) in
-    let with_read = c.in_ok-subcommand-4.ensures.shape (local _ _ _ _ (ap plain c.in_ok-with_path-2.ensures))
-    ∙ ap₂ with_subcommand with_run (ap (λ (a : App). a.top) c.in_ok-with_path-2.ensures) in
-    IfOk-weaker c.subcommand-5.result _ _ (λ m h. h.shape (local _ _ _ _ (ap plain c.in_ok-with_path-3.ensures))
-    ∙ ap₂ with_subcommand with_read (ap (λ (a : App). a.top) c.in_ok-with_path-3.ensures)) c.subcommand-5.ensures
+    let with_create = c.in_ok-subcommand.ensures.shape (local _ _ _ _ (ap plain c.in_ok-create.ensures.app))
+    ∙ ap₂ with_subcommand c.bare.ensures (ap (λ (a : App). a.top) c.in_ok-create.ensures.app) in
+    let with_grow = c.in_ok-subcommand-2.ensures.shape (local _ _ _ _ (ap plain c.in_ok-grow.ensures.app))
+    ∙ ap₂ with_subcommand with_create (ap (λ (a : App). a.top) c.in_ok-grow.ensures.app) in
+    let with_run = c.in_ok-subcommand-3.ensures.shape (local _ _ _ _ (ap plain c.in_ok-run.ensures.app))
+    ∙ ap₂ with_subcommand with_grow (ap (λ (a : App). a.top) c.in_ok-run.ensures.app) in
+    let with_read = c.in_ok-subcommand-4.ensures.shape (local _ _ _ _ (ap plain c.in_ok-read.ensures.app))
+    ∙ ap₂ with_subcommand with_run (ap (λ (a : App). a.top) c.in_ok-read.ensures.app) in
+    IfOk-weaker c.subcommand-5.result _ _ (λ m h. h.shape (local _ _ _ _ (ap plain c.in_ok-check.ensures.app))
+    ∙ ap₂ with_subcommand with_read (ap (λ (a : App). a.top) c.in_ok-check.ensures.app)) c.subcommand-5.ensures
