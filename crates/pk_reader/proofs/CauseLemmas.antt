@@ -1,6 +1,6 @@
 -- Why a reader tells that the disk failed: from the calls of the file up to what it answers.
 use Rattle.std.proofs.Common.{◌≡◌, ◌⊎◌, inl, inr, ⊎_elim, ℕ, ◌+◌, ◌<◌, ◌≤◌, ◌^◌, Bool, true, false, List, length, Option, Some, None, Result, Ok, Err, refl, sym, subst, arith}
-use Rattle.std.specs.Prelude.{IfErr, IfSome, IsSomeAnd, MatchOption, cond}
+use Rattle.std.specs.Prelude.{IfSome, IsSomeAnd, MatchOption, cond}
 use Rattle.pk_disk.specs.declared.disk.Disk.{Ghosts}
 use Rattle.pk_disk.specs.Disk.{Rose}
 use Rattle.pk_disk.specs.Sizes.{least_units}

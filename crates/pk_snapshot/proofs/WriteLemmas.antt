@@ -1,11 +1,9 @@
 -- What a refused write leaves open, and that nothing was written where no image is new.
-use Rattle.std.proofs.Common.{◌≡◌, ◌⊎◌, inl, inr, ℕ, suc, ◌+◌, ◌-◌, ◌<◌, ◌≤◌, ◌==◌, ◌||◌, ◌++◌, Bool, true, false, List, [], ◌∷◌, length, get_or, take, drop, refl, sym, ◌∙◌, ap, subst, arith, Option, None, Some}
+use Rattle.std.proofs.Common.{◌≡◌, ◌⊎◌, ℕ, suc, ◌+◌, ◌-◌, ◌<◌, ◌≤◌, ◌==◌, ◌||◌, Bool, true, false, List, [], ◌∷◌, length, get_or, refl, sym, ◌∙◌, ap, subst, arith, Option, None, Some}
 use Rattle.std.proofs.lemmas.List.{ext_get_or}
-use Rattle.std.proofs.lemmas.Bool.{cases_Bool, eqb-true}
 use Rattle.std.proofs.lemmas.Bool.Decides.{nat_tests}
-use Rattle.pk_disk.specs.Disk.{IsImage, IsPartWritten, in_range, nowhere, opened, written}
-use Rattle.pk_disk.specs.Since.{OnlyNew, StayKnown}
-use Rattle.pk_disk.proofs.Images.{closed_image, image_of_part}
+use Rattle.pk_disk.specs.Disk.{IsImage, IsPartWritten, in_range, nowhere, written}
+use Rattle.pk_disk.proofs.Images.{closed_image}
 use Rattle.pk_disk.proofs.Ranges.{length-written, outside_range, written_in, written_other}
 use Rattle.pk_snapshot.specs.Writes.{open_at}
 

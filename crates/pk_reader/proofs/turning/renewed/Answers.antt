@@ -2,7 +2,6 @@
 use Rattle.std.proofs.Common.{◌∙◌, ◌+◌, ◌≤◌, length, ap, sym, subst}
 use Rattle.pk_manifest.specs.Evolves.{in_force}
 use Rattle.pk_snapshot.proofs.LatestLemmas.{shown_force}
-use Rattle.pk_reader.specs.Causes.{IsCausedBy}
 use Rattle.pk_reader.proofs.CauseLemmas.{caused_earlier}
 use Rattle.pk_reader.proofs.OrderLemmas.{as_fresh, if_err_then}
 use Rattle.pk_reader.proofs.turning.renewed.Goals as goal

@@ -1,12 +1,11 @@
 -- What is answered is read from what is shown, which is no older than what was in force; that the disk
 -- failed has its cause.
-use Rattle.std.proofs.Common.{ap, arith, subst, sym, ◌∙◌, ◌<◌, ◌≤◌, ◌+◌}
+use Rattle.std.proofs.Common.{ap, arith, subst, sym, ◌≤◌, ◌+◌}
 use Rattle.pk_manifest.specs.Evolves.{in_force}
 use Rattle.pk_model.specs.Views.{reply_of}
 use Rattle.pk_state.specs.Holds.{Holds}
 use Rattle.pk_snapshot.proofs.LatestLemmas.{shown_low}
 use Rattle.pk_reader.specs.Asking.{request_of}
-use Rattle.pk_reader.specs.Causes.{IsCausedBy, OnDisk}
 use Rattle.pk_reader.specs.Held.{held_bytes}
 use Rattle.pk_reader.proofs.CauseLemmas.{closed_cause, on_disk, rose_up, without_cause}
 use Rattle.pk_reader.proofs.OrderLemmas.{as_fresh, still_fresh}
