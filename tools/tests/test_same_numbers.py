@@ -272,7 +272,7 @@ OF_PYTHON = [
     ("docs/TESTING.md", r"(\d+) growths", T + "kill_test", "GROWTHS"),
     ("docs/TESTING.md", r"Behind (\S+) minutes", T + "smoke",
      lambda of: of(T + "smoke", "BEGUN_FOR") // 60),
-    ("CONTRIBUTING.md", r"is to take (\S+) minutes", T + "gate_time", "BUDGET_MINUTES"),
+    ("docs/PERFORMANCE.md", r"is to take (\S+) minutes", T + "gate_time", "BUDGET_MINUTES"),
     ("man/rubewola-shards.1", r"A shard has (\S+) seconds", S + "fleet", "ASKED"),
     ("man/rubewola-shards.1", r"for an answer, (\S+) for a batch", S + "fleet", "LOADED"),
 ]
