@@ -14,7 +14,8 @@ from rubewola.places import place_of
 
 from support import Stores, mail
 
-STEPS = 200
+# A test in five minutes has fewer.
+STEPS = 72 if os.environ.get("RUBEWOLA_QUICK") == "1" else 200
 
 
 class Maildirs(Stores):
@@ -318,7 +319,7 @@ class Living(Stores):
             if word in self.here:
                 self.assertEqual(doc["path"], str(self.here[word]))
 
-    def test_two_hundred_steps(self):
+    def test_many_steps(self):
         steps = [self.deliver, self.read, self.move, self.remove, self.restore, self.rename]
         weights = [40, 20, 12, 12, 8, 3]
         for _ in range(5):
