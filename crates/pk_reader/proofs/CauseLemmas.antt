@@ -1,5 +1,5 @@
 -- Why a reader tells that the disk failed: from the calls of the file up to what it answers.
-use Rattle.std.proofs.Common.{◌≡◌, ◌⊎◌, inl, inr, ⊎_elim, ℕ, ◌+◌, ◌<◌, ◌≤◌, ◌^◌, Bool, true, false, List, length, Option, Some, None, Result, Ok, Err, refl, sym, subst, arith}
+use Rattle.std.proofs.Common.{◌≡◌, inl, inr, ⊎_elim, ℕ, ◌+◌, ◌<◌, ◌≤◌, ◌^◌, Bool, true, false, List, length, Option, Some, None, Result, Ok, Err, refl, sym, subst, arith}
 use Rattle.std.specs.Prelude.{IfSome, IsSomeAnd, MatchOption, cond}
 use Rattle.pk_disk.specs.declared.disk.Disk.{Ghosts}
 use Rattle.pk_disk.specs.Disk.{Rose}
@@ -81,7 +81,7 @@ store_disk false opened.Disk is = (refl, refl)
 store_disk false opened.Memory is = absurd (cc)
 
 -- of bytes that were no more, earlier
-fewer : (first asked : List ℕ) → length first ≤ length asked → units_of_disk asked < least_units → units_of_disk first < least_units
+pub fewer : (first asked : List ℕ) → length first ≤ length asked → units_of_disk asked < least_units → units_of_disk first < least_units
 fewer first asked long few = grind (arith, long, few)
 
 pub caused_earlier : (first asked : List ℕ) (count : ℕ) (why : SnapshotFault) → length first ≤ length asked → IsCausedBy asked count why → IsCausedBy first count why

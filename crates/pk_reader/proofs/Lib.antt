@@ -4,3 +4,4 @@ pub mod ShownLemmas
 pub mod ReadLemmas
 pub mod RefusedLemmas
 pub mod CauseLemmas
+pub mod TryLemmas

@@ -1,6 +1,6 @@
 -- Generations in force and lengths, compared by what they are of.
 use Rattle.std.proofs.Common.{◌≡◌, ◌≤◌, ℕ, List, length, Result, Ok, Err, subst, arith}
-use Rattle.std.specs.Prelude.{IfErr, IfOk, IfSome, Option, None, Some}
+use Rattle.std.specs.Prelude.{IfErr, IfNone, IfOk, IfSome, Option, None, Some}
 use Rattle.pk_manifest.specs.Evolves.{Evolves, in_force}
 
 -- no less than one that is as great as the generation that is shown
@@ -26,6 +26,10 @@ if_ok_then P Q (Err e) then_so given = tt
 pub if_some_then : {T : Type 0} (P Q : T → Type 0) (o : Option T) → ((x : T) → P x → Q x) → IfSome o P → IfSome o Q
 if_some_then P Q (Some x) then_so given = then_so x given
 if_some_then P Q None then_so given = tt
+
+pub if_none_then : {T : Type 0} (P Q : Type 0) (o : Option T) → (P → Q) → IfNone o P → IfNone o Q
+if_none_then P Q (Some x) then_so given = tt
+if_none_then P Q None then_so given = then_so given
 
 pub if_err_then : {T E : Type 0} (P Q : E → Type 0) (result : Result T E) → ((e : E) → P e → Q e) → IfErr result P → IfErr result Q
 if_err_then P Q (Ok x) then_so given = tt

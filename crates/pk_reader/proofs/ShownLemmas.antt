@@ -8,7 +8,7 @@ use Rattle.pk_disk.specs.declared.disk.Disk.{Ghosts}
 use Rattle.pk_model.specs.Collection.{Collection, is_live}
 use Rattle.pk_model.specs.Steps.{Answer, Request, add, delete, find, show, commit, merge, tidy, count}
 use Rattle.pk_model.specs.declared.commands.Refusal.{Refusal}
-use Rattle.pk_model.specs.declared.commands.Refusal.TheVariants.{Reopen, NoSuchDocument}
+use Rattle.pk_model.specs.declared.commands.Refusal.TheVariants.{Reopen, NoSuchDocument, Damaged}
 use Rattle.pk_reader.specs.Asking.{request_of}
 use Rattle.pk_reader.specs.Reading.{IsMissingFrom, IsNamed, IsRightFor, reads_refuse}
 use Rattle.pk_reader.specs.declared.question.Question.{Question}
@@ -16,7 +16,7 @@ use Rattle.pk_reader.specs.declared.question.Question.TheVariants as question
 use Rattle.pk_state.specs.Holds.{Holds}
 use Rattle.pk_state.specs.Legal.{LegalStep, RefusesDue, State}
 use Rattle.pk_store.specs.Opening.{IsStoreOf, Opens}
-use Rattle.pk_store.specs.Steps.{IsFlagAnswer, Steps, may_refuse}
+use Rattle.pk_store.specs.Steps.{IsFlagAnswer, IsUndamaged, Steps, may_refuse}
 use Rattle.pk_store.specs.View.{IsLookedAt, Means, StoreView}
 use Rattle.pk_store.proofs.ReadSteps.{means_read, on_volume}
 
@@ -74,17 +74,18 @@ missing_from failed state (show n) state' legal clear =
     missing_by (is_live n state.now.documents) failed state n state' (by_clear state.reopen _ _ clear legal)
 missing_from failed state request state' legal clear = tt
 
-right_by : (failed : Bool) (state : State) (request : Request) (reply : Result Answer Refusal) (state' : State) → LegalStep failed state request reply state' → state.reopen ≡ false → IsRightFor request reply state.now
+right_by : (failed : Bool) (state : State) (request : Request) (reply : Result Answer Refusal) (state' : State) → LegalStep failed state request reply state' → IsUndamaged reply → state.reopen ≡ false → IsRightFor request reply state.now
 unfolding LegalStep
-right_by failed state request (Ok answer) state' legal clear = legal.reply
-right_by failed state request (Err NoSuchDocument) state' legal clear = missing_from failed state request state' legal clear
-right_by failed state request (Err why) state' legal clear = tt
+right_by failed state request (Ok answer) state' legal sound clear = legal.reply
+right_by failed state request (Err NoSuchDocument) state' legal sound clear = missing_from failed state request state' legal clear
+right_by failed state request (Err Damaged) state' legal sound clear = sound
+right_by failed state request (Err why) state' legal sound clear = tt
 
 pub right_of : {D : Type 0} (d : Ghosts D) (h : d.honest) (old new : StoreView D) (request : Request) (reply : Result Answer Refusal) → Steps d old request reply new → (c : Collection) → IsStoreOf d old c → IsRightFor request reply c
 right_of d h old new request reply step c of =
     let legal = step.legal h of.state of.means in
     let clear : of.state.reopen ≡ false = ap (λ (x : State). x.reopen) of.means.state_is ∙ of.clear in
-    subst (λ (x : Collection). IsRightFor request reply x) of.now_is (right_by step.failed of.state request reply legal.0 legal.2 clear)
+    subst (λ (x : Collection). IsRightFor request reply x) of.now_is (right_by step.failed of.state request reply legal.0 legal.2 (step.undamaged h of.state of.means) clear)
 
 missing_prop : (request : Request) (c : Collection) → IsProp (IsMissingFrom request c)
 missing_prop (show n) c = hlevel props
@@ -93,6 +94,7 @@ missing_prop request c = hlevel props
 pub right_prop : (request : Request) (reply : Result Answer Refusal) (c : Collection) → IsProp (IsRightFor request reply c)
 right_prop request (Ok answer) c = hlevel (props, ⊎_set)
 right_prop request (Err NoSuchDocument) c = missing_prop request c
+right_prop request (Err Damaged) c = hlevel props
 right_prop request (Err why) c = hlevel props
 
 -- IT GOES ON MEANING THAT, where its disk was only read

@@ -6,14 +6,19 @@ use Rattle.pk_snapshot.specs.declared.fault.SnapshotFault.TheVariants as shown
 use Rattle.pk_store.specs.declared.refused.OpenFault.{OpenFault}
 use Rattle.pk_store.specs.declared.refused.OpenFault.TheVariants as opened
 
--- none where the file may be opened again
+-- none where the file may be opened again at once
+abbrev pub lasting_fault : SnapshotFault → Option OpenFault
+lasting_fault shown.TooSmall = Some opened.TooSmall
+lasting_fault shown.NotAStore = None
+lasting_fault shown.Damaged = Some opened.Damaged
+lasting_fault shown.Memory = Some opened.Memory
+lasting_fault shown.Disk = Some opened.Disk
+lasting_fault shown.Changed = None
+
+-- none where it may be opened again later
 abbrev pub opening_fault : SnapshotFault → Option OpenFault
-opening_fault shown.TooSmall = Some opened.TooSmall
 opening_fault shown.NotAStore = Some opened.NotAStore
-opening_fault shown.Damaged = Some opened.Damaged
-opening_fault shown.Memory = Some opened.Memory
-opening_fault shown.Disk = Some opened.Disk
-opening_fault shown.Changed = None
+opening_fault why = lasting_fault why
 
 abbrev pub showing_fault : OpenFault → SnapshotFault
 showing_fault opened.TooSmall = shown.TooSmall

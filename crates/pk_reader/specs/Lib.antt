@@ -6,4 +6,6 @@ pub mod Held
 pub mod Replies
 pub mod Without
 pub mod Refused
+pub mod Outdated
+pub mod Unopened
 pub mod Causes

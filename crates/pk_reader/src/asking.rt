@@ -1,9 +1,10 @@
 //! A question, asked until there is a reply.
 
+ghost use Rattle.std.specs.Prelude.{◌+◌};
 ghost use Rattle.pk_model.specs.Views.{reply_of};
 ghost use Rattle.pk_reader.specs.Asking.{request_of};
-ghost use Rattle.pk_reader.specs.Held.{held_bytes};
-ghost use Rattle.pk_reader.specs.Reading.{ReadStep};
+ghost use Rattle.pk_reader.specs.Held.{held_bytes, held_count};
+ghost use Rattle.pk_reader.specs.Replies.{IsRead};
 
 use crate::holding::ask_held;
 use crate::opening::Caches;
@@ -25,13 +26,16 @@ pub fn ask<F: HeldFile + Drop, C: Clock>(
     first: Held<F>,
     question: Question<'_>,
 ) -> (Reply, Held<F>)
-    ensures { ReadStep F.SharedFile.honest
+    ensures { IsRead F.SharedFile.honest
         (held_bytes first F.SharedFile.content (λ s. F.SharedFile.content s.store.volume.disk.disk.file))
         (request_of question.entry) (reply_of result.0)
-        (held_bytes result.1 F.SharedFile.content (λ s. F.SharedFile.content s.store.volume.disk.disk.file)) }
+        (held_bytes result.1 F.SharedFile.content (λ s. F.SharedFile.content s.store.volume.disk.disk.file))
+        (held_count result.1 (λ f. F.SharedFile.failed f + F.SharedFile.interrupted f)
+        (λ s. F.SharedFile.failed s.store.volume.disk.disk.file
+        + F.SharedFile.interrupted s.store.volume.disk.disk.file)) }
 {
     let mut held = first;
-    for _ in 0..MOST_OPENINGS {
+    'tries: for _ in 0..MOST_OPENINGS {
         let (reply, now) = turn(alloc, caches, held, question);
         held = now;
         if let Some(reply) = reply {

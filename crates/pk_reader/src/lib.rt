@@ -12,7 +12,7 @@
 //! |---|---|
 //! | a question | looks whether what it shows is the latest, opens anew if not, and asks its store |
 //! | a question, and what it reads is outdated meanwhile | opens anew, and begins again |
-//! | the same for the eighth time | keeps writers away, where there are none, and begins again; beside a writer it begins again each 10 ms for a second, and then answers `Refusal::Disk` |
+//! | the same for the eighth time | keeps writers away, where there are none, and begins again; beside a writer it begins again 10 ms later; after a hundred such tries it answers `Refusal::Disk` |
 //!
 //! A reader that has to begin again doesn't wait, and takes no lock. One that would starve beside a
 //! writer that commits faster than it reads has the file to itself for one question, once that writer
@@ -24,13 +24,15 @@
 //! |---|---|
 //! | `NoSuchDocument` | no live document of that body has the number |
 //! | `Memory` | a growth of memory was refused |
-//! | `Damaged` | bytes of that body are no spelling of what should stand there |
-//! | `Disk` | a call of the file failed, the file is too small for a store, or each try was outdated: for a second beside a writer, or while writers were kept away |
+//! | `Damaged` | no sound body stands behind the gate, it opens as no store, or its bytes hold no collection |
+//! | `Disk` | a call of the file failed, the file is too small for a store, or each of 108 tries was outdated |
 //!
-//! After `Disk`, and where there was no store to ask, the next question opens anew. Beside writers one
-//! try tells `Disk` for a call that failed, or for a file that is too small, alone (`HasCause`). While
-//! they are kept away a reader has a linear value, and owes it to the call that lets them come
-//! (`HeldFile`).
+//! After `Disk`, and where there was no store to ask, the next question opens anew. One try tells `Disk`
+//! for a call that failed, or for a file that is too small, alone (`HasCause`). A try is outdated where
+//! both gates were seen shut, or a body was chosen or shown and then another was seen in its place, or
+//! its gate as shut (`IsOutdated`); only where all 108 were, one after the other, a question is told
+//! `Disk` for that (`HasReason`). While writers are kept away a reader has a linear value, and owes it to
+//! the call that lets them come (`HeldFile`).
 //!
 //! # The file
 //!
@@ -44,6 +46,7 @@
 
 mod asking;
 mod holding;
+pub mod laws;
 mod opening;
 mod question;
 mod reader;

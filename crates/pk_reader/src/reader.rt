@@ -1,14 +1,13 @@
 //! A reader, and its answers.
 
-ghost use Rattle.std.specs.Prelude.{◌≡◌, ◌≤◌, IfErr, IfOk};
+ghost use Rattle.std.specs.Prelude.{◌≡◌, ◌≤◌, ◌+◌, None, IfErr, IfOk};
 ghost use Rattle.pk_manifest.specs.Evolves.{in_force};
 ghost use Rattle.pk_model.specs.Views.{reply_of};
 ghost use Rattle.pk_reader.specs.Asking.{request_of};
-ghost use Rattle.pk_reader.specs.Faults.{opening_fault};
-ghost use Rattle.pk_reader.specs.Held.{file_bytes};
-ghost use Rattle.pk_reader.specs.Reading.{ReadStep};
-ghost use Rattle.pk_reader.specs.Refused.{WasRefused};
-ghost use Rattle.pk_reader.specs.Replies.{ReaderReplies};
+ghost use Rattle.pk_reader.specs.Faults.{lasting_fault};
+ghost use Rattle.pk_reader.specs.Held.{file_bytes, file_count};
+ghost use Rattle.pk_reader.specs.Replies.{IsRead, ReaderReplies};
+ghost use Rattle.pk_reader.specs.Unopened.{WasRefused};
 ghost use Rattle.pk_shell.specs.Asked.{is_quit, queries};
 ghost use Rattle.pk_shell.specs.Response.{is_bye, response_text};
 
@@ -34,28 +33,28 @@ pub struct Reader<V: View, C: Clock> {
     file: Option<V::File>,
     caches: Caches,
     clock: C,
+    ghost holds: { shown ≡ None → file ≡ None → ⊥ },
 }
 
-// Why there is nothing to be read: none where the file may be opened again.
-fn fault_of(why: SnapshotFault) -> Option<OpenFault>
-    ensures { result ≡ opening_fault why }
+// Why a file is not opened again at once: none where it may be.
+fn lasting_fault(why: SnapshotFault) -> Option<OpenFault>
+    ensures { result ≡ lasting_fault why }
 {
     match why {
         SnapshotFault::TooSmall => Some(OpenFault::TooSmall),
-        SnapshotFault::NotAStore => Some(OpenFault::NotAStore),
         SnapshotFault::Damaged => Some(OpenFault::Damaged),
         SnapshotFault::Memory => Some(OpenFault::Memory),
         SnapshotFault::Disk => Some(OpenFault::Disk),
-        SnapshotFault::Changed => None,
+        SnapshotFault::NotAStore | SnapshotFault::Changed => None,
     }
 }
 
 impl<V: View + Drop, C: Clock + Drop> Reader<V, C> {
     /// A reader of the store in a file.
     ///
-    /// Refused as `TooSmall` where the file has fewer than 64 units, as `NotAStore` where both gates
-    /// were seen shut eight times, as `Damaged`, as `Memory`, or as `Disk` where a read failed. One
-    /// that was outdated eight times is opened with the first question.
+    /// Refused as `TooSmall` where the file has fewer than 64 units, as `Damaged`, as `Memory`, as
+    /// `Disk` where a read failed, or as `NotAStore` where eight openings were outdated, and the last
+    /// saw both gates shut. Another that was outdated eight times is opened with the first question.
     pub fn open(
         alloc: Global,
         file: V::File,
@@ -69,7 +68,7 @@ impl<V: View + Drop, C: Clock + Drop> Reader<V, C> {
     {
         let mut alone = file;
         let mut last = SnapshotFault::Changed;
-        for _ in 0..MOST_OPENINGS {
+        'tries: for _ in 0..MOST_OPENINGS {
             match V::open(alloc, caches, alone) {
                 Ok(view) => {
                     return Ok(Reader {
@@ -80,18 +79,17 @@ impl<V: View + Drop, C: Clock + Drop> Reader<V, C> {
                     });
                 }
                 Err(Refused { file, why }) => {
+                    if let Some(fault) = lasting_fault(why) {
+                        return Err(fault);
+                    }
                     alone = file;
                     last = why;
                 }
             }
-            match last {
-                SnapshotFault::Changed | SnapshotFault::NotAStore => {}
-                _ => break,
-            }
         }
-        match fault_of(last) {
-            Some(fault) => Err(fault),
-            None => Ok(Reader {
+        match last {
+            SnapshotFault::NotAStore => Err(OpenFault::NotAStore),
+            _ => Ok(Reader {
                 shown: None,
                 file: Some(alone),
                 caches,
@@ -102,10 +100,12 @@ impl<V: View + Drop, C: Clock + Drop> Reader<V, C> {
 
     // The reply to a question.
     fn reply_to(&mut self, alloc: Global, question: Question<'_>) -> Reply
-        ensures { ReadStep V.File.SharedFile.honest
+        ensures { IsRead V.File.SharedFile.honest
             (file_bytes self.old.shown self.old.file V.File.SharedFile.content V.bytes)
             (request_of question.entry) (reply_of result)
-            (file_bytes self.new.shown self.new.file V.File.SharedFile.content V.bytes) }
+            (file_bytes self.new.shown self.new.file V.File.SharedFile.content V.bytes)
+            (file_count self.new.shown self.new.file
+            (λ f. V.File.SharedFile.failed f + V.File.SharedFile.interrupted f) V.count) }
     {
         let held = match (self.shown.take(), self.file.take()) {
             (Some(view), _) => Ok(view),
@@ -138,7 +138,9 @@ impl<V: View + Drop, C: Clock + Drop> Engine for Reader<V, C> {
     ghost use Rattle.std.specs.Prelude.{refl};
 
     ghost replies = { λ old what reply new. ReaderReplies old what reply new V.File.SharedFile.honest
-        (λ r. file_bytes r.shown r.file V.File.SharedFile.content V.bytes) };
+        (λ r. file_bytes r.shown r.file V.File.SharedFile.content V.bytes)
+        (λ r. file_count r.shown r.file
+        (λ f. V.File.SharedFile.failed f + V.File.SharedFile.interrupted f) V.count) };
 
     fn answer(&mut self, alloc: Global, ask: Ask<'_>) -> Response {
         match ask {

@@ -1,12 +1,14 @@
 //! A question, asked once of the newest that is in force.
 
-ghost use Rattle.std.specs.Prelude.{◌≡◌, ◌≤◌, ◌+◌, Err, None, IfErr, IfOk, IfSome, IsSomeAnd, MatchOption};
+ghost use Rattle.std.specs.Prelude.{◌≡◌, ◌≤◌, ◌+◌, Err, None, IfErr, IfNone, IfOk, IfSome, IsSomeAnd, MatchOption};
 ghost use Rattle.pk_manifest.specs.Evolves.{in_force};
 ghost use Rattle.pk_model.specs.Views.{reply_of};
 ghost use Rattle.pk_reader.specs.Asking.{request_of};
-ghost use Rattle.pk_reader.specs.Causes.{HasCause, IsCausedBy, held_count};
-ghost use Rattle.pk_reader.specs.Held.{held_bytes};
-ghost use Rattle.pk_reader.specs.Reading.{IsFailure, ReadStep};
+ghost use Rattle.pk_reader.specs.Causes.{HasCause, IsCausedBy};
+ghost use Rattle.pk_reader.specs.Held.{held_bytes, held_count};
+ghost use Rattle.pk_reader.specs.Outdated.{IsOutdated};
+ghost use Rattle.pk_reader.specs.Reading.{ReadStep};
+ghost use Rattle.pk_reader.specs.Refused.{RefusedOpening};
 ghost use Rattle.pk_reader.specs.Without.{refusal_without};
 
 use crate::opening::{Caches, Open, close, open_file};
@@ -44,9 +46,9 @@ fn newest<F: SharedFile + Drop>(
     ensures fresh { F.honest → IfOk result
         (λ s. in_force (held_bytes held F.content (λ s. F.content s.store.volume.disk.disk.file))
         ≤ in_force (⟦<PageCache<SnapshotDisk<F>> as Disk>⟧.content s.store.volume.disk)) }
-    ensures later { F.honest → IfErr result
-        (λ r. in_force (held_bytes held F.content (λ s. F.content s.store.volume.disk.disk.file))
-        ≤ in_force (F.content r.file)) }
+    ensures refused { F.honest → IfErr result (λ r. RefusedOpening
+        (held_bytes held F.content (λ s. F.content s.store.volume.disk.disk.file))
+        (F.content r.file) (F.marked r.file) r.why) }
     ensures cause { F.honest → IfErr result (λ r. IsCausedBy
         (held_bytes held F.content (λ s. F.content s.store.volume.disk.disk.file))
         (F.failed r.file + F.interrupted r.file) r.why) }
@@ -66,8 +68,9 @@ fn renewed<F: SharedFile + Drop>(
     ensures fresh { F.honest → IfOk result
         (λ s. in_force (F.content view.store.volume.disk.disk.file)
         ≤ in_force (⟦<PageCache<SnapshotDisk<F>> as Disk>⟧.content s.store.volume.disk)) }
-    ensures later { F.honest → IfErr result
-        (λ r. in_force (F.content view.store.volume.disk.disk.file) ≤ in_force (F.content r.file)) }
+    ensures refused { F.honest → IfErr result (λ r. RefusedOpening
+        (F.content view.store.volume.disk.disk.file)
+        (F.content r.file) (F.marked r.file) r.why) }
     ensures cause { F.honest → IfErr result (λ r. IsCausedBy
         (F.content view.store.volume.disk.disk.file)
         (F.failed r.file + F.interrupted r.file) r.why) }
@@ -82,7 +85,6 @@ fn renewed<F: SharedFile + Drop>(
 // What is told where there is no store: nothing where another body took the place meanwhile, or
 // where both gates were seen shut one after the other.
 fn reply_without(why: SnapshotFault) -> Option<Reply>
-    ensures failed { IfSome result (λ reply. IsFailure (reply_of reply)) }
     ensures told { MatchOption result (refusal_without why ≡ None)
         (λ reply. IsSomeAnd (refusal_without why) (λ it. reply_of reply ≡ Err it)) }
 {
@@ -106,9 +108,9 @@ pub fn turn<F: SharedFile + Drop>(
         (held_bytes held F.content (λ s. F.content s.store.volume.disk.disk.file))
         (request_of question.entry) (reply_of reply)
         (held_bytes result.1 F.content (λ s. F.content s.store.volume.disk.disk.file))) }
-    ensures later { F.honest
-        → in_force (held_bytes held F.content (λ s. F.content s.store.volume.disk.disk.file))
-        ≤ in_force (held_bytes result.1 F.content (λ s. F.content s.store.volume.disk.disk.file)) }
+    ensures outdated { F.honest → IfNone result.0 (IsOutdated
+        (held_bytes held F.content (λ s. F.content s.store.volume.disk.disk.file))
+        (held_bytes result.1 F.content (λ s. F.content s.store.volume.disk.disk.file))) }
     ensures cause { F.honest → IfSome result.0 (λ reply. HasCause
         (held_bytes held F.content (λ s. F.content s.store.volume.disk.disk.file))
         (held_count result.1 (λ f. F.failed f + F.interrupted f)

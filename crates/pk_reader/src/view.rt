@@ -5,9 +5,10 @@ ghost use Rattle.pk_manifest.specs.Evolves.{in_force};
 ghost use Rattle.pk_model.specs.Views.{reply_of};
 ghost use Rattle.pk_reader.specs.Asking.{request_of};
 ghost use Rattle.pk_reader.specs.Causes.{IsCausedBy};
-ghost use Rattle.pk_reader.specs.Held.{held_bytes};
-ghost use Rattle.pk_reader.specs.Reading.{ReadStep};
+ghost use Rattle.pk_reader.specs.Held.{held_bytes, held_count};
+ghost use Rattle.pk_reader.specs.Outdated.{IsOutdated, OnOutdated};
 ghost use Rattle.pk_reader.specs.Refused.{RefusedOpening};
+ghost use Rattle.pk_reader.specs.Replies.{IsRead};
 ghost use Rattle.pk_snapshot.specs.declared.fault.SnapshotFault.{SnapshotFault};
 
 use crate::asking::ask;
@@ -25,6 +26,9 @@ pub trait View: Sized {
     /// The bytes of the file.
     ghost bytes: { Self → List ℕ };
 
+    /// How many calls of the file failed or were interrupted.
+    ghost count: { Self → ℕ };
+
     /// What it says that a file was not opened for this reason, of the file before and after.
     ghost refuses: { Self.File → Self.File → SnapshotFault → Type 0 };
 
@@ -35,10 +39,12 @@ pub trait View: Sized {
         ensures later { Self.File.SharedFile.honest → IfErr result
             (λ r. in_force (Self.File.SharedFile.content file)
             ≤ in_force (Self.File.SharedFile.content r.file)) }
-        ensures refused { IfErr result (λ r. refuses file r.file r.why) };
+        ensures refused { IfErr result (λ r. refuses file r.file r.why) }
+        ensures outdated { Self.File.SharedFile.honest → IfErr result (λ r. OnOutdated r.why (IsOutdated
+            (Self.File.SharedFile.content file) (Self.File.SharedFile.content r.file))) };
 
-    /// Asks until there is a reply: eight times beside writers, and then for a second without them,
-    /// too.
+    /// Asks until there is a reply: eight times beside writers, and then a hundred times, each after
+    /// writers were asked to stay away.
     fn ask<C: Clock>(
         alloc: Global,
         caches: Caches,
@@ -46,16 +52,21 @@ pub trait View: Sized {
         first: Result<Self, Self::File>,
         question: Question<'_>,
     ) -> (Reply, Result<Self, Self::File>)
-        ensures { ReadStep Self.File.SharedFile.honest
+        ensures { IsRead Self.File.SharedFile.honest
             (held_bytes first Self.File.SharedFile.content bytes)
             (request_of question.entry) (reply_of result.0)
-            (held_bytes result.1 Self.File.SharedFile.content bytes) };
+            (held_bytes result.1 Self.File.SharedFile.content bytes)
+            (held_count result.1
+            (λ f. Self.File.SharedFile.failed f + Self.File.SharedFile.interrupted f) count) };
 }
 
 impl<F: HeldFile + Drop> View for Open<F> {
     type File = F;
 
     ghost bytes = { λ s. F.SharedFile.content s.store.volume.disk.disk.file };
+
+    ghost count = { λ s. F.SharedFile.failed s.store.volume.disk.disk.file
+        + F.SharedFile.interrupted s.store.volume.disk.disk.file };
 
     ghost refuses = { λ old new why. F.SharedFile.honest → RefusedOpening (F.SharedFile.content old)
         (F.SharedFile.content new) (F.SharedFile.marked new) why × IsCausedBy
@@ -72,12 +83,15 @@ impl<F: HeldFile + Drop> View for Open<F> {
         first: Result<Open<F>, F>,
         question: Question<'_>,
     ) -> (Reply, Result<Open<F>, F>)
-        ensures { ReadStep F.SharedFile.honest
+        ensures { IsRead F.SharedFile.honest
             (held_bytes first F.SharedFile.content
             (λ s. F.SharedFile.content s.store.volume.disk.disk.file))
             (request_of question.entry) (reply_of result.0)
             (held_bytes result.1 F.SharedFile.content
-            (λ s. F.SharedFile.content s.store.volume.disk.disk.file)) }
+            (λ s. F.SharedFile.content s.store.volume.disk.disk.file))
+            (held_count result.1 (λ f. F.SharedFile.failed f + F.SharedFile.interrupted f)
+            (λ s. F.SharedFile.failed s.store.volume.disk.disk.file
+            + F.SharedFile.interrupted s.store.volume.disk.disk.file)) }
     {
         ask(alloc, caches, clock, first, question)
     }

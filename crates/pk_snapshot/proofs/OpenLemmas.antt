@@ -18,7 +18,7 @@ use Rattle.pk_manifest.specs.Found.{IsFound}
 use Rattle.pk_snapshot.specs.Found.{HasNoBody, IsOfBody, IsOfConfirm, RefusedAs}
 use Rattle.pk_snapshot.specs.Order.{CoverAlike}
 use Rattle.pk_snapshot.specs.Shared.{IsChosen, SawNoGreater, SawShut}
-use Rattle.pk_snapshot.specs.Shown.{IsShown, body_extent, gate_extent, own_extents}
+use Rattle.pk_snapshot.specs.Shown.{IsBegun, IsShown, body_extent, gate_extent, own_extents}
 use Rattle.pk_manifest.proofs.Evolving.{evolves_then, kept_stamp, was_open}
 use Rattle.pk_snapshot.proofs.ConfirmLemmas.{confirmed_stamp}
 use Rattle.pk_snapshot.proofs.SeenLemmas.{below_or, if_none}
@@ -156,10 +156,10 @@ confirm_refused old new marked Damaged is = absurd is
 confirm_refused old new marked Memory is = absurd is
 confirm_refused old new marked Disk is = tt
 
-pub body_refused : (old new start marked : List ℕ) (half : Half) (g : ℕ) (why : SnapshotFault) → start ≡ marked → IsOfBody start half g why → RefusedAs old new marked why
-body_refused old new start marked half g TooSmall same is = absurd is
-body_refused old new start marked half g NotAStore same is = absurd is
-body_refused old new start marked half g Changed same is = tt
-body_refused old new start marked half g Damaged same is = subst HasNoBody same (record { half = half; generation = g; begun = is.0; none = is.1 })
-body_refused old new start marked half g Memory same is = tt
-body_refused old new start marked half g Disk same is = tt
+pub body_refused : (old new start marked : List ℕ) (half : Half) (g : ℕ) (why : SnapshotFault) → start ≡ marked → (IsBegun start half g → in_force old ≤ g) → IsOfBody start half g why → RefusedAs old new marked why
+body_refused old new start marked half g TooSmall same rises is = absurd is
+body_refused old new start marked half g NotAStore same rises is = absurd is
+body_refused old new start marked half g Changed same rises is = tt
+body_refused old new start marked half g Damaged same rises is = subst (HasNoBody old) same (record { half = half; generation = g; fresh = rises is.0; begun = is.0; none = is.1 })
+body_refused old new start marked half g Memory same rises is = tt
+body_refused old new start marked half g Disk same rises is = tt

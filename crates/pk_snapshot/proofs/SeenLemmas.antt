@@ -99,7 +99,7 @@ confirms_wider old mid new late half g before seen after = record {
   stamp_is = seen.stamp_is;
 }
 
-shut_wider : (old mid new late : List ℕ) (half : Half) → Evolves old mid → SawShut mid new half → Evolves new late → SawShut old late half
+pub shut_wider : (old mid new late : List ℕ) (half : Half) → Evolves old mid → SawShut mid new half → Evolves new late → SawShut old late half
 shut_wider old mid new late half before seen after = record {
   moment = seen.moment;
   since = evolves_then old mid seen.moment before seen.since;

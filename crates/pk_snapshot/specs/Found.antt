@@ -7,6 +7,7 @@ use Rattle.pk_snapshot.specs.declared.fault.SnapshotFault.{SnapshotFault}
 use Rattle.pk_snapshot.specs.declared.fault.SnapshotFault.TheVariants.{TooSmall, NotAStore, Changed, Damaged, Memory, Disk}
 use Rattle.pk_disk.specs.declared.units.Extent.{Extent}
 use Rattle.pk_manifest.specs.Current.{units_of_disk}
+use Rattle.pk_manifest.specs.Evolves.{in_force}
 use Rattle.pk_manifest.specs.Fields.{is_placed, table_at}
 use Rattle.pk_manifest.specs.Said.{units_said_in}
 use Rattle.pk_manifest.specs.Spelling.{Body}
@@ -23,10 +24,12 @@ pub record SaysPlace (most : ℕ) (body : List ℕ) (units : ℕ) (table : Exten
   pub placed : is_placed units body ≡ true
   pub table_is : table ≡ table_at body
 
--- A gate is open, and no sound body stands behind it.
-pub record HasNoBody (bytes : List ℕ) : Type 0 where
+-- A gate is open, over a generation no older than that in force was, and no sound body stands behind
+-- it.
+pub record HasNoBody (old bytes : List ℕ) : Type 0 where
   pub half : Half
   pub generation : ℕ
+  pub fresh : in_force old ≤ generation
   pub begun : IsBegun bytes half generation
   pub none : (body : Body) → IsFound bytes half generation body → ⊥
 
@@ -36,7 +39,7 @@ abbrev pub RefusedAs : List ℕ → List ℕ → List ℕ → SnapshotFault → 
 RefusedAs old new marked TooSmall = units_of_disk old < least_units
 RefusedAs old new marked NotAStore = SawShut old new A × SawShut old new B
 RefusedAs old new marked Changed = Unit {0}
-RefusedAs old new marked Damaged = HasNoBody marked
+RefusedAs old new marked Damaged = HasNoBody old marked
 RefusedAs old new marked Memory = Unit {0}
 RefusedAs old new marked Disk = Unit {0}
 

@@ -1,10 +1,24 @@
--- The reply is that of the last question, which was asked of what is no older.
+-- The reply is that of the last try, or each was outdated.
+use Rattle.std.proofs.Common.{◌≡◌, ℕ, arith, subst}
 use Rattle.pk_model.specs.Views.{reply_of}
 use Rattle.pk_reader.specs.Asking.{request_of}
-use Rattle.pk_reader.proofs.ReadLemmas.{older_step}
+use Rattle.pk_reader.specs.Held.{held_bytes}
+use Rattle.pk_reader.specs.Outdated.{OutdatedTimes, most_holds}
+use Rattle.pk_reader.proofs.TryLemmas.{asked_never, asked_once, once_more}
 use Rattle.pk_reader.proofs.holding.ask_held.Goals as goal
 
-pub returns-in-Ok-Some : goal.returns-in-Ok-Some
-returns-in-Ok-Some g c =
-    older_step _ _ _ _ (request_of c.args.question) (reply_of c.in-Ok-Some.reply) c.loop.invariant
-    (rw (c.in-Ok-Some.is, c.in-Ok-Some.field-0-is) at c.ask_again-reply.ensures.step)
+pub tries-preserved : goal.tries-preserved
+tries-preserved g c = λ h. once_more _ _ _ _ (c.tries.invariant h) (rw c.in_default.is at c.ask_again-reply.ensures.outdated h)
+
+pub returns-in-Some : goal.returns-in-Some
+returns-in-Some g c =
+    asked_once most_holds _ _ _ _ _ (request_of c.args.question) (reply_of c.in-Some.reply) _ c.tries.invariant
+    (rw c.in-Some.is at c.ask_again-reply.ensures.step) (rw c.in-Some.is at c.ask_again-reply.ensures.cause)
+
+pub returns : goal.returns
+returns g c =
+    let f = g.F.SharedFile in
+    let all : c.tries.counter ≡ most_holds = omega (arith, c.tries-test.false, c.tries.auto.counter-end) in
+    let asked = held_bytes c.args.first f.content (λ s. f.content s.store.volume.disk.disk.file) in
+    let now = held_bytes c.tries.held f.content (λ s. f.content s.store.volume.disk.disk.file) in
+    asked_never most_holds f.honest asked now (request_of c.args.question) _ (λ h. subst (λ (n : ℕ). OutdatedTimes n asked now) all (c.tries.invariant h))

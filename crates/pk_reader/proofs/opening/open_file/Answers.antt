@@ -44,7 +44,11 @@ returns-in-Err-open-clause-refused g c = λ h.
     let left = c.in-Err-open.refused.disk.disk in
     let why = c.in-Err-open.refused.why in
     let kept = subst (λ (l : List ℕ). RefusesOpening l why) (sym (c.in-Err-open.ensures.refused h)) (c.in-Err-open.ensures.why h) in
-    let said = open_refused (f.content c.args.file) (f.content left.file) (f.marked left.file) left.half left.generation left.len left.shown.extents.items (left.snapshot h) left.outdated (left.gone h) why kept in
+    let d = c.in-Ok.disk in
+    let same = c.in-Err-open.ensures.refused h ∙ ap (λ x. shown_bytes x.len x.shown.extents.items (f.marked x.file)) c.new-disk.ensures.disk in
+    let low : in_force (f.content c.args.file) ≤ left.generation =
+    omega (arith, c.in-Ok.ensures.fresh h, ap in_force same, shown_force (f.marked d.file) d.half d.generation d.len d.shown.extents.items (d.snapshot h), shown_force (f.marked left.file) left.half left.generation left.len left.shown.extents.items (left.snapshot h)) in
+    let said = open_refused (f.content c.args.file) (f.content left.file) (f.marked left.file) left.half left.generation left.len left.shown.extents.items (left.snapshot h) low left.outdated (left.gone h) why kept in
     rw (c.hand_back.ensures.file, c.hand_back.ensures.why, c.fault_of.ensures) said
 
 pub returns-in-Err-clause-cause : goal.returns-in-Err-clause-cause

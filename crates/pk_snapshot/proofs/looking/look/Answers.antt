@@ -7,7 +7,7 @@ use Rattle.pk_snapshot.specs.declared.looking.Chosen.{Chosen}
 use Rattle.pk_manifest.specs.Evolves.{Evolves, in_force}
 use Rattle.pk_snapshot.specs.Latest.{IsSnapshot}
 use Rattle.pk_snapshot.specs.Shared.{Confirms, IsChosen}
-use Rattle.pk_snapshot.specs.Shown.{own_extents}
+use Rattle.pk_snapshot.specs.Shown.{IsBegun, own_extents}
 use Rattle.pk_manifest.proofs.Evolving.{evolves_here, evolves_then}
 use Rattle.pk_snapshot.proofs.AnotherLemmas.{changed_since}
 use Rattle.pk_snapshot.proofs.CallLemmas.{fails_then, fails_within, no_calls}
@@ -53,6 +53,17 @@ module _ (g : given.Over) (c : goal.After-read_manifest g) (h : g.F.SharedFile.h
       evolves_marked (f.content c.args.file.now) (f.content c.choose.new.file) (f.content c.confirm.new.file) (f.content c.mark.new.self) (f.marked c.read_manifest.new.file) (f.content c.read_manifest.new.file)
       (evolves_from (c.length_of.ensures.bytes h) (c.in-Ok-choose.ensures.evolves h)) (c.in_ok-confirm.ensures.evolves h) (c.mark.ensures.evolves h) marks (g.met.F.SharedFile.marked_before c.read_manifest.new.file h)
 
+  rises : IsBegun (g.F.SharedFile.content c.length_of-2.new.file) c.in-Some.field-0.half c.in-Some.field-0.generation → in_force (g.F.SharedFile.content c.args.file.now) ≤ c.in-Some.field-0.generation
+  rises begun =
+      let f = g.F.SharedFile in
+      let before = f.content c.length_of.new.file in
+      let looked = f.content c.choose.new.file in
+      let start = f.content c.length_of-2.new.file in
+      let after : Evolves looked start = evolves_to (c.length_of-2.ensures.bytes h) (evolves_then looked (f.content c.confirm.new.file) (f.content c.mark.new.self) (c.in_ok-confirm.ensures.evolves h) (c.mark.ensures.evolves h)) in
+      let whole : Evolves before start = evolves_then before looked start (c.in-Ok-choose.ensures.evolves h) after in
+      let rose = fresh before looked start c.in-Some.field-0.half c.in-Some.field-0.generation chosen after whole begun.gate begun.stamp_is in
+      omega (arith, rose, ap in_force (c.length_of.ensures.bytes h))
+
 -- what is shown of it
 snapshot : (g : given.Over) (c : goal.After-from g) → g.F.SharedFile.honest → c.in-Some.field-0.generation ≤ in_force (g.F.SharedFile.content c.length_of-2.new.file)
     → g.F.SharedFile.content c.length_of-2.new.file ≡ g.F.SharedFile.marked c.read_manifest.new.file
@@ -69,16 +80,9 @@ snapshot g c h there is =
 
 pub returns-clause-fresh : goal.returns-clause-fresh
 returns-clause-fresh g c = λ h.
-    let f = g.F.SharedFile in
     let w = (goal.at.returns-clause-fresh g c).After-read_manifest in
-    let before = f.content c.length_of.new.file in
-    let looked = f.content c.choose.new.file in
-    let start = f.content c.length_of-2.new.file in
     let found = c.in_ok-manifest.ensures.found h (low g w h) in
-    let after : Evolves looked start = evolves_to (c.length_of-2.ensures.bytes h) (evolves_then looked (f.content c.confirm.new.file) (f.content c.mark.new.self) (c.in_ok-confirm.ensures.evolves h) (c.mark.ensures.evolves h)) in
-    let whole : Evolves before start = evolves_then before looked start (c.in-Ok-choose.ensures.evolves h) after in
-    let rose = fresh before looked start c.in-Some.field-0.half c.in-Some.field-0.generation (chosen g w h) after whole found.gate found.stamp_is in
-    omega (arith, rose, ap in_force (c.length_of.ensures.bytes h))
+    rises g w h (record { gate = found.gate; stamp_is = found.stamp_is })
 
 pub returns-clause-shows : goal.returns-clause-shows
 returns-clause-shows g c = λ h.
@@ -102,7 +106,7 @@ returns-in_err-manifest-clause-refused g c = λ h.
     let w = (goal.at.returns-in_err-manifest-clause-refused g c).After-read_manifest in
     let p = err_from_is_err_and c.from_residual-in_err-manifest.result c.from_residual-in_err-manifest.ensures.1 in
     rw (p.1, p.2) (body_refused (f.content c.args.file.now) (f.content c.read_manifest.new.file) (f.content c.length_of-2.new.file) (f.marked c.read_manifest.new.file) c.in-Some.field-0.half c.in-Some.field-0.generation
-    c.in_err-manifest.field-0.0 (same g w h) (c.in_err-manifest.ensures.refused h (low g w h)))
+    c.in_err-manifest.field-0.0 (same g w h) (rises g w h) (c.in_err-manifest.ensures.refused h (low g w h)))
 
 pub returns-in_err-confirm-clause-evolves : goal.returns-in_err-confirm-clause-evolves
 returns-in_err-confirm-clause-evolves g c = λ h. evolves_then _ _ _ (evolves_from (c.length_of.ensures.bytes h) (c.in-Ok-choose.ensures.evolves h)) (c.in_err-confirm.ensures.evolves h)

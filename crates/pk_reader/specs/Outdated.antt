@@ -1,0 +1,33 @@
+-- That what was read was outdated, once and time after time.
+use Rattle.std.specs.Prelude.{◌≡◌, ◌⊎◌, ℕ, zero, suc, List}
+use Rattle.pk_reader.specs.Refused.{RefusedOpening}
+use Rattle.pk_snapshot.specs.declared.fault.SnapshotFault.{SnapshotFault}
+use Rattle.pk_snapshot.specs.declared.fault.SnapshotFault.TheVariants.{TooSmall, NotAStore, Changed, Damaged, Memory, Disk}
+
+-- how often a file is opened for a question, or at first, before writers are kept away, and how often
+-- it is tried to keep them away
+abbrev pub most_openings : ℕ
+most_openings = 8
+
+abbrev pub most_holds : ℕ
+most_holds = 100
+
+-- WHAT WAS READ WAS OUTDATED: both gates were seen shut, or a body was chosen or shown, and then another
+-- was seen in its half, or its gate as shut.
+abbrev pub IsOutdated : List ℕ → List ℕ → Type 0
+IsOutdated asked now = (marked : List ℕ)
+    × (RefusedOpening asked now marked NotAStore ⊎ RefusedOpening asked now marked Changed)
+
+-- SO MANY TIMES, one after the other
+abbrev pub OutdatedTimes : ℕ → List ℕ → List ℕ → Type 0
+OutdatedTimes zero first now = now ≡ first
+OutdatedTimes (suc n) first now = (mid : List ℕ) × OutdatedTimes n first mid × IsOutdated mid now
+
+-- where a file was not shown for that reason
+abbrev pub OnOutdated : SnapshotFault → Type 0 → Type 0
+OnOutdated TooSmall P = Unit {0}
+OnOutdated NotAStore P = P
+OnOutdated Changed P = P
+OnOutdated Damaged P = Unit {0}
+OnOutdated Memory P = Unit {0}
+OnOutdated Disk P = Unit {0}
