@@ -116,37 +116,37 @@ times_then (suc n) m first mid now times (last, more, is) =
     subst (λ (k : ℕ). OutdatedTimes k first now) (let one : suc (n + m) ≡ suc n + m = omega arith in one) (last, times_then n m first mid last times more, is)
 
 -- A QUESTION that is answered by one try, after some that were outdated
-once_reason : (tries n : ℕ) (first mid now : List ℕ) (count : ℕ) (outcome : Result Answer Refusal) → OutdatedTimes n first mid → HasCause mid count outcome → HasReason tries first count now outcome
-once_reason tries n first mid now count (Ok answer) times cause = tt
-once_reason tries n first mid now count (Err Disk) times cause = inl (record { tries = n; asked = mid; outdated = times; failed = cause })
-once_reason tries n first mid now count (Err why) times cause = tt
+once_reason : (tries n : ℕ) (first mid now : List ℕ) (count : ℕ) (Waited : Type 0) (outcome : Result Answer Refusal) → OutdatedTimes n first mid → HasCause mid count outcome → HasReason tries first count now Waited outcome
+once_reason tries n first mid now count Waited (Ok answer) times cause = tt
+once_reason tries n first mid now count Waited (Err Disk) times cause = inl (record { tries = n; asked = mid; outdated = times; failed = cause })
+once_reason tries n first mid now count Waited (Err why) times cause = tt
 
-pub asked_once : (tries n : ℕ) (honest : Type 0) (first mid now : List ℕ) (request : Request) (outcome : Result Answer Refusal) (count : ℕ) → (honest → OutdatedTimes n first mid) → ReadStep honest mid request outcome now → (honest → HasCause mid count outcome) → IsAsked tries honest first request outcome now count
-asked_once tries n honest first mid now request outcome count times step cause = record {
+pub asked_once : (tries n : ℕ) (honest : Type 0) (first mid now : List ℕ) (request : Request) (outcome : Result Answer Refusal) (count : ℕ) (Waited : Type 0) → (honest → OutdatedTimes n first mid) → ReadStep honest mid request outcome now → (honest → HasCause mid count outcome) → IsAsked tries honest first request outcome now count Waited
+asked_once tries n honest first mid now request outcome count Waited times step cause = record {
   step = older_step honest first mid now request outcome (λ h. times_low n first mid (times h)) step;
-  reason = λ h. once_reason tries n first mid now count outcome (times h) (cause h);
+  reason = λ h. once_reason tries n first mid now count Waited outcome (times h) (cause h);
 }
 
 -- by none
-pub asked_never : (tries : ℕ) (honest : Type 0) (first now : List ℕ) (request : Request) (count : ℕ) → (honest → OutdatedTimes tries first now) → IsAsked tries honest first request (Err Disk) now count
-asked_never tries honest first now request count times = record {
+pub asked_never : (tries : ℕ) (honest : Type 0) (first now : List ℕ) (request : Request) (count : ℕ) (Waited : Type 0) → (honest → OutdatedTimes tries first now) → Waited → IsAsked tries honest first request (Err Disk) now count Waited
+asked_never tries honest first now request count Waited times waited = record {
   step = record { named = refl; reads = λ h. tt };
-  reason = λ h. inr (times h);
+  reason = λ h. inr (times h, waited);
 }
 
 -- and by as many more
-more_reason : (n m : ℕ) (first mid now : List ℕ) (count : ℕ) (outcome : Result Answer Refusal) → OutdatedTimes m first mid → HasReason n mid count now outcome → HasReason (n + m) first count now outcome
-more_reason n m first mid now count (Ok answer) times reason = tt
-more_reason n m first mid now count (Err Disk) times reason = ⊎_elim
+more_reason : (n m : ℕ) (first mid now : List ℕ) (count : ℕ) (Waited : Type 0) (outcome : Result Answer Refusal) → OutdatedTimes m first mid → HasReason n mid count now Waited outcome → HasReason (n + m) first count now Waited outcome
+more_reason n m first mid now count Waited (Ok answer) times reason = tt
+more_reason n m first mid now count Waited (Err Disk) times reason = ⊎_elim
     (λ fails. inl (record { tries = fails.tries + m; asked = fails.asked; outdated = times_then fails.tries m first mid fails.asked times fails.outdated; failed = fails.failed }))
-    (λ more. inr (times_then n m first mid now times more))
+    (λ more. inr (times_then n m first mid now times more.0, more.1))
     reason
-more_reason n m first mid now count (Err why) times reason = tt
+more_reason n m first mid now count Waited (Err why) times reason = tt
 
-pub asked_more : (n m : ℕ) (honest : Type 0) (first mid now : List ℕ) (request : Request) (outcome : Result Answer Refusal) (count : ℕ) → (honest → OutdatedTimes m first mid) → IsAsked n honest mid request outcome now count → IsAsked (n + m) honest first request outcome now count
-asked_more n m honest first mid now request outcome count times is = record {
+pub asked_more : (n m : ℕ) (honest : Type 0) (first mid now : List ℕ) (request : Request) (outcome : Result Answer Refusal) (count : ℕ) (Waited : Type 0) → (honest → OutdatedTimes m first mid) → IsAsked n honest mid request outcome now count Waited → IsAsked (n + m) honest first request outcome now count Waited
+asked_more n m honest first mid now request outcome count Waited times is = record {
   step = older_step honest first mid now request outcome (λ h. times_low m first mid (times h)) is.step;
-  reason = λ h. more_reason n m first mid now count outcome (times h) (is.reason h);
+  reason = λ h. more_reason n m first mid now count Waited outcome (times h) (is.reason h);
 }
 
 -- A READER that is not opened: of an opening that saw both gates shut

@@ -30,10 +30,10 @@ pub record FailsAfter (first : List ℕ) (count : ℕ) : Type 0 where
   pub outdated : OutdatedTimes tries first asked
   pub failed : HasFailed asked count
 
--- THE SAME OF A QUESTION: one try failed, or so many were outdated.
-abbrev pub HasReason : ℕ → List ℕ → ℕ → List ℕ → Result Answer Refusal → Type 0
-HasReason tries first count now outcome =
-    OnDisk outcome (FailsAfter first count ⊎ OutdatedTimes tries first now)
+-- THE SAME OF A QUESTION: one try failed, or so many were outdated, and it was waited between them.
+abbrev pub HasReason : ℕ → List ℕ → ℕ → List ℕ → Type 0 → Result Answer Refusal → Type 0
+HasReason tries first count now Waited outcome =
+    OnDisk outcome (FailsAfter first count ⊎ (OutdatedTimes tries first now × Waited))
 
 -- the same of a file that was not shown
 abbrev pub IsCausedBy : List ℕ → ℕ → SnapshotFault → Type 0

@@ -12,6 +12,10 @@ most_openings = 8
 abbrev pub most_holds : ℕ
 most_holds = 100
 
+-- how many milliseconds are waited after each of these
+abbrev pub wait_millis : ℕ
+wait_millis = 10
+
 -- WHAT WAS READ WAS OUTDATED: both gates were seen shut, or a body was chosen or shown, and then another
 -- was seen in its half, or its gate as shut.
 abbrev pub IsOutdated : List ℕ → List ℕ → Type 0

@@ -7,18 +7,18 @@ ghost use Rattle.pk_reader.specs.Causes.{HasCause};
 ghost use Rattle.pk_reader.specs.Held.{held_bytes, held_count};
 ghost use Rattle.pk_reader.specs.Outdated.{IsOutdated, most_holds};
 ghost use Rattle.pk_reader.specs.Reading.{ReadStep};
-ghost use Rattle.pk_reader.specs.Replies.{IsAsked};
+ghost use Rattle.pk_reader.specs.Replies.{HasWaited, IsAsked};
 
 use crate::opening::Caches;
 use crate::question::Question;
 use crate::turning::{Held, file_of, turn};
+use crate::waiting::Waits;
 use pk_model::{Refusal, Reply};
 use pk_snapshot::HeldFile;
 use std::alloc::Global;
-use std::time::{Clock, Duration};
 
-/// How often writers are asked to stay away, and how many milliseconds are waited beside one: a second
-/// in all.
+/// How often writers are asked to stay away, and how many milliseconds are waited after each try: a
+/// second in all.
 const MOST_HOLDS: u32 = 100;
 
 const WAIT_MILLIS: u64 = 10;
@@ -47,11 +47,10 @@ fn ask_alone<F: HeldFile + Drop>(
     (reply, file)
 }
 
-// Asks once while no one writes, or, where there is a writer, once beside it a little later.
-fn ask_again<F: HeldFile + Drop, C: Clock>(
+// Asks once while no one writes, or, where there is a writer, once beside it.
+fn ask_again<F: HeldFile + Drop>(
     alloc: Global,
     caches: Caches,
-    clock: &C,
     held: Held<F>,
     question: Question<'_>,
 ) -> (Option<Reply>, Held<F>)
@@ -74,19 +73,16 @@ fn ask_again<F: HeldFile + Drop, C: Clock>(
             let (reply, file) = ask_alone(alloc, caches, file, hold, question);
             (reply, Err(file))
         }
-        None => {
-            clock.sleep(Duration::from_millis(WAIT_MILLIS));
-            turn(alloc, caches, Err(file), question)
-        }
+        None => turn(alloc, caches, Err(file), question),
     }
 }
 
 /// Asks while no one writes, and beside writers between two tries at that, for a second:
 /// `Refusal::Disk` where all that is read is outdated.
-pub fn ask_held<F: HeldFile + Drop, C: Clock>(
+pub fn ask_held<F: HeldFile + Drop, C: Waits>(
     alloc: Global,
     caches: Caches,
-    clock: &C,
+    clock: &mut C,
     first: Held<F>,
     question: Question<'_>,
 ) -> (Reply, Held<F>)
@@ -96,15 +92,17 @@ pub fn ask_held<F: HeldFile + Drop, C: Clock>(
         (held_bytes result.1 F.SharedFile.content (λ s. F.SharedFile.content s.store.volume.disk.disk.file))
         (held_count result.1 (λ f. F.SharedFile.failed f + F.SharedFile.interrupted f)
         (λ s. F.SharedFile.failed s.store.volume.disk.disk.file
-        + F.SharedFile.interrupted s.store.volume.disk.disk.file)) }
+        + F.SharedFile.interrupted s.store.volume.disk.disk.file))
+        (HasWaited C.honest (C.waited clock.old) (C.waited clock.new)) }
 {
     let mut held = first;
     'tries: for _ in 0..MOST_HOLDS {
-        let (reply, now) = ask_again(alloc, caches, clock, held, question);
+        let (reply, now) = ask_again(alloc, caches, held, question);
         held = now;
         if let Some(reply) = reply {
             return (reply, held);
         }
+        clock.wait(WAIT_MILLIS);
     }
     (Reply::Refused(Refusal::Disk), held)
 }

@@ -54,8 +54,10 @@ mod shown;
 mod system;
 mod turning;
 mod view;
+mod waiting;
 
 pub use opening::{Caches, Open};
 pub use reader::Reader;
 pub use system::{OpensShared, SharedFault};
 pub use view::View;
+pub use waiting::Waits;

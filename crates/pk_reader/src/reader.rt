@@ -6,7 +6,7 @@ ghost use Rattle.pk_model.specs.Views.{reply_of};
 ghost use Rattle.pk_reader.specs.Asking.{request_of};
 ghost use Rattle.pk_reader.specs.Faults.{lasting_fault};
 ghost use Rattle.pk_reader.specs.Held.{file_bytes, file_count};
-ghost use Rattle.pk_reader.specs.Replies.{IsRead, ReaderReplies};
+ghost use Rattle.pk_reader.specs.Replies.{HasWaited, IsRead, ReaderReplies};
 ghost use Rattle.pk_reader.specs.Unopened.{WasRefused};
 ghost use Rattle.pk_shell.specs.Asked.{is_quit, queries};
 ghost use Rattle.pk_shell.specs.Response.{is_bye, response_text};
@@ -14,13 +14,13 @@ ghost use Rattle.pk_shell.specs.Response.{is_bye, response_text};
 use crate::opening::Caches;
 use crate::question::Question;
 use crate::view::View;
+use crate::waiting::Waits;
 use pk_model::{Refusal, Reply};
 use pk_query::parse;
 use pk_shell::{Ask, Engine, Response};
 use pk_snapshot::{HeldFile, Refused, SnapshotFault};
 use pk_store::OpenFault;
 use std::alloc::Global;
-use std::time::Clock;
 
 /// How often a file is opened at most, at first.
 const MOST_OPENINGS: u32 = 8;
@@ -28,7 +28,7 @@ const MOST_OPENINGS: u32 = 8;
 /// A store in a file that another program may be writing. It holds a store over what is shown of the
 /// file, or the file alone.
 #[derive(Drop)]
-pub struct Reader<V: View, C: Clock> {
+pub struct Reader<V: View, C: Waits> {
     shown: Option<V>,
     file: Option<V::File>,
     caches: Caches,
@@ -49,7 +49,7 @@ fn lasting_fault(why: SnapshotFault) -> Option<OpenFault>
     }
 }
 
-impl<V: View + Drop, C: Clock + Drop> Reader<V, C> {
+impl<V: View + Drop, C: Waits + Drop> Reader<V, C> {
     /// A reader of the store in a file.
     ///
     /// Refused as `TooSmall` where the file has fewer than 64 units, as `Damaged`, as `Memory`, as
@@ -105,14 +105,15 @@ impl<V: View + Drop, C: Clock + Drop> Reader<V, C> {
             (request_of question.entry) (reply_of result)
             (file_bytes self.new.shown self.new.file V.File.SharedFile.content V.bytes)
             (file_count self.new.shown self.new.file
-            (λ f. V.File.SharedFile.failed f + V.File.SharedFile.interrupted f) V.count) }
+            (λ f. V.File.SharedFile.failed f + V.File.SharedFile.interrupted f) V.count)
+            (HasWaited C.honest (C.waited self.old.clock) (C.waited self.new.clock)) }
     {
         let held = match (self.shown.take(), self.file.take()) {
             (Some(view), _) => Ok(view),
             (None, Some(alone)) => Err(alone),
             (None, None) => return Reply::Refused(Refusal::Disk),
         };
-        let (reply, held) = V::ask(alloc, self.caches, &self.clock, held, question);
+        let (reply, held) = V::ask(alloc, self.caches, &mut self.clock, held, question);
         match held {
             Ok(view) => self.shown = Some(view),
             Err(alone) => self.file = Some(alone),
@@ -134,13 +135,14 @@ impl<V: View + Drop, C: Clock + Drop> Reader<V, C> {
 }
 
 /// A reader takes the commands that only read.
-impl<V: View + Drop, C: Clock + Drop> Engine for Reader<V, C> {
+impl<V: View + Drop, C: Waits + Drop> Engine for Reader<V, C> {
     ghost use Rattle.std.specs.Prelude.{refl};
 
     ghost replies = { λ old what reply new. ReaderReplies old what reply new V.File.SharedFile.honest
         (λ r. file_bytes r.shown r.file V.File.SharedFile.content V.bytes)
         (λ r. file_count r.shown r.file
-        (λ f. V.File.SharedFile.failed f + V.File.SharedFile.interrupted f) V.count) };
+        (λ f. V.File.SharedFile.failed f + V.File.SharedFile.interrupted f) V.count)
+        (λ o n. HasWaited C.honest (C.waited o.clock) (C.waited n.clock)) };
 
     fn answer(&mut self, alloc: Global, ask: Ask<'_>) -> Response {
         match ask {

@@ -8,16 +8,16 @@ ghost use Rattle.pk_reader.specs.Causes.{IsCausedBy};
 ghost use Rattle.pk_reader.specs.Held.{held_bytes, held_count};
 ghost use Rattle.pk_reader.specs.Outdated.{IsOutdated, OnOutdated};
 ghost use Rattle.pk_reader.specs.Refused.{RefusedOpening};
-ghost use Rattle.pk_reader.specs.Replies.{IsRead};
+ghost use Rattle.pk_reader.specs.Replies.{HasWaited, IsRead};
 ghost use Rattle.pk_snapshot.specs.declared.fault.SnapshotFault.{SnapshotFault};
 
 use crate::asking::ask;
 use crate::opening::{Caches, Open, open_file};
 use crate::question::Question;
+use crate::waiting::Waits;
 use pk_model::Reply;
 use pk_snapshot::{HeldFile, Refused};
 use std::alloc::Global;
-use std::time::Clock;
 
 /// A store over what is shown of a file: what a reader holds while it answers.
 pub trait View: Sized {
@@ -45,10 +45,10 @@ pub trait View: Sized {
 
     /// Asks until there is a reply: eight times beside writers, and then a hundred times, each after
     /// writers were asked to stay away.
-    fn ask<C: Clock>(
+    fn ask<C: Waits>(
         alloc: Global,
         caches: Caches,
-        clock: &C,
+        clock: &mut C,
         first: Result<Self, Self::File>,
         question: Question<'_>,
     ) -> (Reply, Result<Self, Self::File>)
@@ -57,7 +57,8 @@ pub trait View: Sized {
             (request_of question.entry) (reply_of result.0)
             (held_bytes result.1 Self.File.SharedFile.content bytes)
             (held_count result.1
-            (λ f. Self.File.SharedFile.failed f + Self.File.SharedFile.interrupted f) count) };
+            (λ f. Self.File.SharedFile.failed f + Self.File.SharedFile.interrupted f) count)
+            (HasWaited C.honest (C.waited clock.old) (C.waited clock.new)) };
 }
 
 impl<F: HeldFile + Drop> View for Open<F> {
@@ -76,10 +77,10 @@ impl<F: HeldFile + Drop> View for Open<F> {
         open_file(alloc, caches, file)
     }
 
-    fn ask<C: Clock>(
+    fn ask<C: Waits>(
         alloc: Global,
         caches: Caches,
-        clock: &C,
+        clock: &mut C,
         first: Result<Open<F>, F>,
         question: Question<'_>,
     ) -> (Reply, Result<Open<F>, F>)
@@ -91,7 +92,8 @@ impl<F: HeldFile + Drop> View for Open<F> {
             (λ s. F.SharedFile.content s.store.volume.disk.disk.file))
             (held_count result.1 (λ f. F.SharedFile.failed f + F.SharedFile.interrupted f)
             (λ s. F.SharedFile.failed s.store.volume.disk.disk.file
-            + F.SharedFile.interrupted s.store.volume.disk.disk.file)) }
+            + F.SharedFile.interrupted s.store.volume.disk.disk.file))
+            (HasWaited C.honest (C.waited clock.old) (C.waited clock.new)) }
     {
         ask(alloc, caches, clock, first, question)
     }

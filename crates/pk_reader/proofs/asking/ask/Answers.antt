@@ -12,7 +12,7 @@ tries-preserved g c = λ h. once_more _ _ _ _ (c.tries.invariant h) (rw c.in_def
 
 pub returns-in-Some : goal.returns-in-Some
 returns-in-Some g c =
-    asked_once (most_holds + most_openings) _ _ _ _ _ (request_of c.args.question) (reply_of c.in-Some.reply) _ c.tries.invariant
+    asked_once (most_holds + most_openings) _ _ _ _ _ (request_of c.args.question) (reply_of c.in-Some.reply) _ _ c.tries.invariant
     (rw c.in-Some.is at c.turn-reply.ensures.step) (rw c.in-Some.is at c.turn-reply.ensures.cause)
 
 pub returns : goal.returns
@@ -21,4 +21,4 @@ returns g c =
     let all : c.tries.counter ≡ most_openings = omega (arith, c.tries-test.false, c.tries.auto.counter-end) in
     let asked = held_bytes c.args.first f.content (λ s. f.content s.store.volume.disk.disk.file) in
     let mid = held_bytes c.tries.held f.content (λ s. f.content s.store.volume.disk.disk.file) in
-    asked_more most_holds most_openings f.honest asked mid _ (request_of c.args.question) (reply_of c.ask_held.result.0) _ (λ h. subst (λ (n : ℕ). OutdatedTimes n asked mid) all (c.tries.invariant h)) c.ask_held.ensures
+    asked_more most_holds most_openings f.honest asked mid _ (request_of c.args.question) (reply_of c.ask_held.result.0) _ _ (λ h. subst (λ (n : ℕ). OutdatedTimes n asked mid) all (c.tries.invariant h)) c.ask_held.ensures
