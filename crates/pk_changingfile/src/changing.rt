@@ -146,6 +146,8 @@ impl HeldFile for ChangingFile {
 
     ghost is_held = { λ _. false };
 
+    ghost asked_at = { λ _. Unit {0} };
+
     fn hold(&mut self) -> Option<()> {
         None
     }

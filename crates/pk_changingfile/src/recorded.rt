@@ -147,6 +147,8 @@ impl<'a> HeldFile for RecordedFile<'a> {
 
     ghost is_held = { λ f. f.is_held };
 
+    ghost asked_at = { λ _. Unit {0} };
+
     fn hold(&mut self) -> Option<()>
         ensures holds { self.new.is_held ≡ true }
         ensures not_held { IfNone result (self.new.is_held ≡ false) }

@@ -13,14 +13,13 @@ use Rattle.pk_model.specs.declared.commands.Refusal.TheVariants.{Disk}
 use Rattle.pk_model.specs.declared.commands.Reply.{Reply}
 use Rattle.pk_reader.specs.Causes.{HasCause, HasReason}
 use Rattle.pk_reader.specs.Faults.{lasting_fault, opening_fault}
-use Rattle.pk_reader.specs.Outdated.{IsOutdated, OnOutdated, OutdatedTimes, most_openings}
+use Rattle.pk_reader.specs.Outdated.{GivesUp, IsOutdated, OnOutdated, OutdatedTimes, WasOutdated, most_holds, most_openings}
 use Rattle.pk_reader.specs.Reading.{ReadStep}
 use Rattle.pk_reader.specs.Refused.{IsGone, RefusedOpening}
 use Rattle.pk_reader.specs.Replies.{IsAsked}
 use Rattle.pk_reader.specs.Unopened.{WasRefused}
 use Rattle.pk_reader.specs.Without.{refusal_without}
 use Rattle.pk_reader.proofs.ReadLemmas.{older_step}
-use Rattle.pk_reader.proofs.RefusedLemmas.{refused_earlier}
 use Rattle.pk_snapshot.specs.Changed.{SawChange}
 use Rattle.pk_snapshot.specs.declared.fault.SnapshotFault.{SnapshotFault}
 use Rattle.pk_snapshot.specs.declared.fault.SnapshotFault.TheVariants as shown
@@ -50,11 +49,7 @@ opening_outdated asked now marked shown.Damaged is = tt
 opening_outdated asked now marked shown.Memory is = tt
 opening_outdated asked now marked shown.Disk is = tt
 
--- of bytes that were there earlier, and of those that they go on to
-pub outdated_earlier : (first asked now : List ℕ) → Evolves first asked → IsOutdated asked now → IsOutdated first now
-outdated_earlier first asked now since (marked, inl is) = (marked, inl (refused_earlier first asked now marked since shown.NotAStore is))
-outdated_earlier first asked now since (marked, inr is) = (marked, inr (refused_earlier first asked now marked since shown.Changed is))
-
+-- of bytes that they go on to
 change_later : (asked mid now : List ℕ) → Evolves mid now → SawChange asked mid → SawChange asked now
 change_later asked mid now since is = record {
   half = is.half;
@@ -102,51 +97,52 @@ outdated_low asked now (marked, inr (inl changed)) = change_low asked now change
 outdated_low asked now (marked, inr (inr gone)) = ∥∥₁_elim gone (hlevel props) (gone_low asked marked now)
 
 -- SO MANY TIMES
-pub times_low : (n : ℕ) (first now : List ℕ) → OutdatedTimes n first now → in_force first ≤ in_force now
-times_low zero first now is = subst (λ (l : List ℕ). in_force first ≤ in_force l) (sym is) (omega arith)
-times_low (suc n) first now (mid, times, is) = let low = times_low n first mid times in let last = outdated_low mid now is in omega (arith, low, last)
+was_low : (At : List ℕ → Type 0) (first now : List ℕ) → WasOutdated At first now → in_force first ≤ in_force now
+was_low At first now (asked, since, at, is) = let low = outdated_low asked now is in omega (arith, since.rises, low)
 
-pub once_more : (n : ℕ) (first mid now : List ℕ) → OutdatedTimes n first mid → IsOutdated mid now → OutdatedTimes (n + 1) first now
-once_more n first mid now times is = subst (λ (k : ℕ). OutdatedTimes k first now) (let one : suc n ≡ n + 1 = omega arith in one) (mid, times, is)
+pub times_low : (At : List ℕ → Type 0) (n : ℕ) (first now : List ℕ) → OutdatedTimes At n first now → in_force first ≤ in_force now
+times_low At zero first now is = subst (λ (l : List ℕ). in_force first ≤ in_force l) (sym is) (omega arith)
+times_low At (suc n) first now (mid, times, is) = let low = times_low At n first mid times in let last = was_low At mid now is in omega (arith, low, last)
 
-pub times_then : (n m : ℕ) (first mid now : List ℕ) → OutdatedTimes m first mid → OutdatedTimes n mid now → OutdatedTimes (n + m) first now
-times_then zero m first mid now times is =
-    subst (λ (k : ℕ). OutdatedTimes k first now) (let none : m ≡ zero + m = omega arith in none) (subst (λ (l : List ℕ). OutdatedTimes m first l) (sym is) times)
-times_then (suc n) m first mid now times (last, more, is) =
-    subst (λ (k : ℕ). OutdatedTimes k first now) (let one : suc (n + m) ≡ suc n + m = omega arith in one) (last, times_then n m first mid last times more, is)
+pub once_more : (At : List ℕ → Type 0) (n : ℕ) (first mid now : List ℕ) → OutdatedTimes At n first mid → WasOutdated At mid now → OutdatedTimes At (n + 1) first now
+once_more At n first mid now times is = subst (λ (k : ℕ). OutdatedTimes At k first now) (let one : suc n ≡ n + 1 = omega arith in one) (mid, times, is)
+
+-- of what was there
+pub at_once : (first now : List ℕ) → IsOutdated first now → WasOutdated (λ bytes. Unit {0}) first now
+at_once first now is = (first, evolves_here first, tt, is)
 
 -- A QUESTION that is answered by one try, after some that were outdated
-once_reason : (tries n : ℕ) (first mid now : List ℕ) (count : ℕ) (Waited : Type 0) (outcome : Result Answer Refusal) → OutdatedTimes n first mid → HasCause mid count outcome → HasReason tries first count now Waited outcome
-once_reason tries n first mid now count Waited (Ok answer) times cause = tt
-once_reason tries n first mid now count Waited (Err Disk) times cause = inl (record { tries = n; asked = mid; outdated = times; failed = cause })
-once_reason tries n first mid now count Waited (Err why) times cause = tt
+once_reason : (first mid : List ℕ) (count : ℕ) (GaveUp : Type 0) (outcome : Result Answer Refusal) → in_force first ≤ in_force mid → HasCause mid count outcome → HasReason first count GaveUp outcome
+once_reason first mid count GaveUp (Ok answer) low cause = tt
+once_reason first mid count GaveUp (Err Disk) low cause = inl (record { asked = mid; later = low; failed = cause })
+once_reason first mid count GaveUp (Err why) low cause = tt
 
-pub asked_once : (tries n : ℕ) (honest : Type 0) (first mid now : List ℕ) (request : Request) (outcome : Result Answer Refusal) (count : ℕ) (Waited : Type 0) → (honest → OutdatedTimes n first mid) → ReadStep honest mid request outcome now → (honest → HasCause mid count outcome) → IsAsked tries honest first request outcome now count Waited
-asked_once tries n honest first mid now request outcome count Waited times step cause = record {
-  step = older_step honest first mid now request outcome (λ h. times_low n first mid (times h)) step;
-  reason = λ h. once_reason tries n first mid now count Waited outcome (times h) (cause h);
+pub asked_once : (At : List ℕ → Type 0) (n : ℕ) (honest : Type 0) (first mid now : List ℕ) (request : Request) (outcome : Result Answer Refusal) (count : ℕ) (GaveUp : Type 0) → (honest → OutdatedTimes At n first mid) → ReadStep honest mid request outcome now → (honest → HasCause mid count outcome) → IsAsked honest first request outcome now count GaveUp
+asked_once At n honest first mid now request outcome count GaveUp times step cause = record {
+  step = older_step honest first mid now request outcome (λ h. times_low At n first mid (times h)) step;
+  reason = λ h. once_reason first mid count GaveUp outcome (times_low At n first mid (times h)) (cause h);
 }
 
 -- by none
-pub asked_never : (tries : ℕ) (honest : Type 0) (first now : List ℕ) (request : Request) (count : ℕ) (Waited : Type 0) → (honest → OutdatedTimes tries first now) → Waited → IsAsked tries honest first request (Err Disk) now count Waited
-asked_never tries honest first now request count Waited times waited = record {
+pub asked_never : (honest : Type 0) (first now : List ℕ) (request : Request) (count : ℕ) (GaveUp : Type 0) → (honest → GaveUp) → IsAsked honest first request (Err Disk) now count GaveUp
+asked_never honest first now request count GaveUp gave = record {
   step = record { named = refl; reads = λ h. tt };
-  reason = λ h. inr (times h, waited);
+  reason = λ h. inr (gave h);
 }
 
--- and by as many more
-more_reason : (n m : ℕ) (first mid now : List ℕ) (count : ℕ) (Waited : Type 0) (outcome : Result Answer Refusal) → OutdatedTimes m first mid → HasReason n mid count now Waited outcome → HasReason (n + m) first count now Waited outcome
-more_reason n m first mid now count Waited (Ok answer) times reason = tt
-more_reason n m first mid now count Waited (Err Disk) times reason = ⊎_elim
-    (λ fails. inl (record { tries = fails.tries + m; asked = fails.asked; outdated = times_then fails.tries m first mid fails.asked times fails.outdated; failed = fails.failed }))
-    (λ more. inr (times_then n m first mid now times more.0, more.1))
+-- by as many more, after writers were asked to stay away
+held_reason : (Asked : List ℕ → Type 0) (first mid now : List ℕ) (count : ℕ) (Waited : Type 0) (outcome : Result Answer Refusal) → OutdatedTimes (λ bytes. Unit {0}) most_openings first mid → HasReason mid count (OutdatedTimes Asked most_holds mid now × Waited) outcome → HasReason first count (GivesUp Asked first now Waited) outcome
+held_reason Asked first mid now count Waited (Ok answer) times reason = tt
+held_reason Asked first mid now count Waited (Err Disk) times reason = ⊎_elim
+    (λ fails. let low = times_low (λ bytes. Unit {0}) most_openings first mid times in inl (record { asked = fails.asked; later = omega (arith, low, fails.later); failed = fails.failed }))
+    (λ more. inr (record { mid = mid; beside = times; held = more.0; waited = more.1 }))
     reason
-more_reason n m first mid now count Waited (Err why) times reason = tt
+held_reason Asked first mid now count Waited (Err why) times reason = tt
 
-pub asked_more : (n m : ℕ) (honest : Type 0) (first mid now : List ℕ) (request : Request) (outcome : Result Answer Refusal) (count : ℕ) (Waited : Type 0) → (honest → OutdatedTimes m first mid) → IsAsked n honest mid request outcome now count Waited → IsAsked (n + m) honest first request outcome now count Waited
-asked_more n m honest first mid now request outcome count Waited times is = record {
-  step = older_step honest first mid now request outcome (λ h. times_low m first mid (times h)) is.step;
-  reason = λ h. more_reason n m first mid now count Waited outcome (times h) (is.reason h);
+pub asked_more : (Asked : List ℕ → Type 0) (honest : Type 0) (first mid now : List ℕ) (request : Request) (outcome : Result Answer Refusal) (count : ℕ) (Waited : Type 0) → (honest → OutdatedTimes (λ bytes. Unit {0}) most_openings first mid) → IsAsked honest mid request outcome now count (OutdatedTimes Asked most_holds mid now × Waited) → IsAsked honest first request outcome now count (GivesUp Asked first now Waited)
+asked_more Asked honest first mid now request outcome count Waited times is = record {
+  step = older_step honest first mid now request outcome (λ h. times_low (λ bytes. Unit {0}) most_openings first mid (times h)) is.step;
+  reason = λ h. held_reason Asked first mid now count Waited outcome (times h) (is.reason h);
 }
 
 -- A READER that is not opened: of an opening that saw both gates shut
@@ -155,7 +151,7 @@ pub record WasShut {F : Type 0} (honest : Type 0) (content : F → List ℕ) (re
   pub later : honest → in_force (content first) ≤ in_force (content before)
   pub refused : refuses before after shown.NotAStore
 
-pub shut_refused : {F : Type 0} (honest : Type 0) (content : F → List ℕ) (refuses : F → F → SnapshotFault → Type 0) (first after : F) → WasShut honest content refuses first after → (honest → OutdatedTimes most_openings (content first) (content after)) → WasRefused honest content refuses first opened.NotAStore
+pub shut_refused : {F : Type 0} (honest : Type 0) (content : F → List ℕ) (refuses : F → F → SnapshotFault → Type 0) (first after : F) → WasShut honest content refuses first after → (honest → OutdatedTimes (λ bytes. Unit {0}) most_openings (content first) (content after)) → WasRefused honest content refuses first opened.NotAStore
 shut_refused honest content refuses first after was times = record {
   before = was.before;
   after = after;

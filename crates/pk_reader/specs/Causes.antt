@@ -1,11 +1,11 @@
 -- Why a reader tells that the disk failed.
-use Rattle.std.specs.Prelude.{◌⊎◌, ◌<◌, ℕ, List, Result, Err}
+use Rattle.std.specs.Prelude.{◌⊎◌, ◌<◌, ◌≤◌, ℕ, List, Result, Err}
 use Rattle.pk_disk.specs.Sizes.{least_units}
 use Rattle.pk_manifest.specs.Current.{units_of_disk}
+use Rattle.pk_manifest.specs.Evolves.{in_force}
 use Rattle.pk_model.specs.Steps.{Answer}
 use Rattle.pk_model.specs.declared.commands.Refusal.{Refusal}
 use Rattle.pk_model.specs.declared.commands.Refusal.TheVariants.{Disk}
-use Rattle.pk_reader.specs.Outdated.{OutdatedTimes}
 use Rattle.pk_snapshot.specs.declared.fault.SnapshotFault.{SnapshotFault}
 use Rattle.pk_snapshot.specs.declared.fault.SnapshotFault.TheVariants as shown
 
@@ -23,17 +23,15 @@ HasFailed asked count = (0 < count) ⊎ (units_of_disk asked < least_units)
 abbrev pub HasCause : List ℕ → ℕ → Result Answer Refusal → Type 0
 HasCause asked count outcome = OnDisk outcome (HasFailed asked count)
 
--- one try failed, after some that were outdated
+-- one try failed, of bytes in which nothing older was in force
 pub record FailsAfter (first : List ℕ) (count : ℕ) : Type 0 where
-  pub tries : ℕ
   pub asked : List ℕ
-  pub outdated : OutdatedTimes tries first asked
+  pub later : in_force first ≤ in_force asked
   pub failed : HasFailed asked count
 
--- THE SAME OF A QUESTION: one try failed, or so many were outdated, and it was waited between them.
-abbrev pub HasReason : ℕ → List ℕ → ℕ → List ℕ → Type 0 → Result Answer Refusal → Type 0
-HasReason tries first count now Waited outcome =
-    OnDisk outcome (FailsAfter first count ⊎ (OutdatedTimes tries first now × Waited))
+-- THE SAME OF A QUESTION: one try failed, or the reader gave up.
+abbrev pub HasReason : List ℕ → ℕ → Type 0 → Result Answer Refusal → Type 0
+HasReason first count GaveUp outcome = OnDisk outcome (FailsAfter first count ⊎ GaveUp)
 
 -- the same of a file that was not shown
 abbrev pub IsCausedBy : List ℕ → ℕ → SnapshotFault → Type 0

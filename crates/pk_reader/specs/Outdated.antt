@@ -1,5 +1,6 @@
 -- That what was read was outdated, once and time after time.
 use Rattle.std.specs.Prelude.{◌≡◌, ◌⊎◌, ℕ, zero, suc, List}
+use Rattle.pk_manifest.specs.Evolves.{Evolves}
 use Rattle.pk_reader.specs.Refused.{RefusedOpening}
 use Rattle.pk_snapshot.specs.declared.fault.SnapshotFault.{SnapshotFault}
 use Rattle.pk_snapshot.specs.declared.fault.SnapshotFault.TheVariants.{TooSmall, NotAStore, Changed, Damaged, Memory, Disk}
@@ -22,10 +23,24 @@ abbrev pub IsOutdated : List ℕ → List ℕ → Type 0
 IsOutdated asked now = (marked : List ℕ)
     × (RefusedOpening asked now marked NotAStore ⊎ RefusedOpening asked now marked Changed)
 
+-- the same of bytes that are no earlier, at which this was so
+abbrev pub WasOutdated : (List ℕ → Type 0) → List ℕ → List ℕ → Type 0
+WasOutdated At first now =
+    (asked : List ℕ) × Evolves first asked × At asked × IsOutdated asked now
+
 -- SO MANY TIMES, one after the other
-abbrev pub OutdatedTimes : ℕ → List ℕ → List ℕ → Type 0
-OutdatedTimes zero first now = now ≡ first
-OutdatedTimes (suc n) first now = (mid : List ℕ) × OutdatedTimes n first mid × IsOutdated mid now
+abbrev pub OutdatedTimes : (List ℕ → Type 0) → ℕ → List ℕ → List ℕ → Type 0
+OutdatedTimes At zero first now = now ≡ first
+OutdatedTimes At (suc n) first now =
+    (mid : List ℕ) × OutdatedTimes At n first mid × WasOutdated At mid now
+
+-- A READER GIVES UP: it tried eight times, and then a hundred times, each after writers were asked to
+-- stay away, and waited meanwhile.
+pub record GivesUp (Asked : List ℕ → Type 0) (first now : List ℕ) (Waited : Type 0) : Type 0 where
+  pub mid : List ℕ
+  pub beside : OutdatedTimes (λ bytes. Unit {0}) most_openings first mid
+  pub held : OutdatedTimes Asked most_holds mid now
+  pub waited : Waited
 
 -- where a file was not shown for that reason
 abbrev pub OnOutdated : SnapshotFault → Type 0 → Type 0

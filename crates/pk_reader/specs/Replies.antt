@@ -4,7 +4,7 @@ use Rattle.pk_model.specs.Steps.{Request, Answer}
 use Rattle.pk_model.specs.declared.commands.Refusal.{Refusal}
 use Rattle.pk_reader.specs.Asking.{read_only}
 use Rattle.pk_reader.specs.Causes.{HasReason}
-use Rattle.pk_reader.specs.Outdated.{most_holds, most_openings, wait_millis}
+use Rattle.pk_reader.specs.Outdated.{GivesUp, most_holds, wait_millis}
 use Rattle.pk_reader.specs.Reading.{ReadStep}
 use Rattle.pk_shell.specs.Asked.{Asked}
 use Rattle.pk_shell.specs.Script.{IsReply}
@@ -13,21 +13,23 @@ use Rattle.pk_shell.specs.Script.{IsReply}
 abbrev pub HasWaited : Type 0 → ℕ → ℕ → Type 0
 HasWaited honest before after = honest → before + most_holds * wait_millis ≤ after
 
--- A QUESTION, tried no more often than this: a step, and a reason where the disk is told to have failed
-pub record IsAsked (tries : ℕ) (honest : Type 0) (asked : List ℕ) (request : Request)
-    (outcome : Result Answer Refusal) (now : List ℕ) (count : ℕ) (Waited : Type 0) : Type 0 where
+-- A QUESTION: a step, and a reason where the disk is told to have failed
+pub record IsAsked (honest : Type 0) (asked : List ℕ) (request : Request)
+    (outcome : Result Answer Refusal) (now : List ℕ) (count : ℕ) (GaveUp : Type 0) : Type 0 where
   pub step : ReadStep honest asked request outcome now
-  pub reason : honest → HasReason tries asked count now Waited outcome
+  pub reason : honest → HasReason asked count GaveUp outcome
 
--- as often as a reader tries
-abbrev pub IsRead : Type 0 → List ℕ → Request → Result Answer Refusal → List ℕ → ℕ → Type 0 → Type 0
-IsRead = IsAsked (most_holds + most_openings)
+-- of a reader
+abbrev pub IsRead : Type 0 → (List ℕ → Type 0) → List ℕ → Request → Result Answer Refusal → List ℕ → ℕ
+    → Type 0 → Type 0
+IsRead honest At asked request outcome now count Waited =
+    IsAsked honest asked request outcome now count (GivesUp At asked now Waited)
 
 -- what a line asks, less what changes the store, is answered as a question to a reader whose file has
 -- these bytes, of which so many calls failed or were interrupted, and which waits so
-abbrev pub ReaderReplies : {S : Type 0} → S → Asked → List ℕ → S → Type 0 → (S → List ℕ) → (S → ℕ)
-    → (S → S → Type 0) → Type 0
-ReaderReplies s what reply s' honest bytes count Waited =
+abbrev pub ReaderReplies : {S : Type 0} → S → Asked → List ℕ → S → Type 0 → (List ℕ → Type 0)
+    → (S → List ℕ) → (S → ℕ) → (S → S → Type 0) → Type 0
+ReaderReplies s what reply s' honest At bytes count Waited =
     IsReply
-    (λ o request outcome n. IsRead honest (bytes o) request outcome (bytes n) (count n) (Waited o n))
+    (λ o request outcome n. IsRead honest At (bytes o) request outcome (bytes n) (count n) (Waited o n))
     s (read_only what) reply s'

@@ -18,4 +18,4 @@ pub record WasRefused {F : Type 0} (honest : Type 0) (content : F → List ℕ)
   pub refused : refuses before after why
   pub told : opening_fault why ≡ Some fault
   pub often : honest → why ≡ shown.NotAStore
-      → OutdatedTimes most_openings (content first) (content after)
+      → OutdatedTimes (λ bytes. Unit {0}) most_openings (content first) (content after)

@@ -26,7 +26,7 @@ pub fn ask<F: HeldFile + Drop, C: Waits>(
     first: Held<F>,
     question: Question<'_>,
 ) -> (Reply, Held<F>)
-    ensures { IsRead F.SharedFile.honest
+    ensures { IsRead F.SharedFile.honest F.asked_at
         (held_bytes first F.SharedFile.content (λ s. F.SharedFile.content s.store.volume.disk.disk.file))
         (request_of question.entry) (reply_of result.0)
         (held_bytes result.1 F.SharedFile.content (λ s. F.SharedFile.content s.store.volume.disk.disk.file))

@@ -5,7 +5,7 @@ ghost use Rattle.pk_model.specs.Views.{reply_of};
 ghost use Rattle.pk_reader.specs.Asking.{request_of};
 ghost use Rattle.pk_reader.specs.Causes.{HasCause};
 ghost use Rattle.pk_reader.specs.Held.{held_bytes, held_count};
-ghost use Rattle.pk_reader.specs.Outdated.{IsOutdated, most_holds};
+ghost use Rattle.pk_reader.specs.Outdated.{IsOutdated, OutdatedTimes, WasOutdated, most_holds};
 ghost use Rattle.pk_reader.specs.Reading.{ReadStep};
 ghost use Rattle.pk_reader.specs.Replies.{HasWaited, IsAsked};
 
@@ -63,7 +63,7 @@ fn ask_again<F: HeldFile + Drop>(
         (held_count result.1 (λ f. F.SharedFile.failed f + F.SharedFile.interrupted f)
         (λ s. F.SharedFile.failed s.store.volume.disk.disk.file
         + F.SharedFile.interrupted s.store.volume.disk.disk.file)) (reply_of reply)) }
-    ensures outdated { F.SharedFile.honest → IfNone result.0 (IsOutdated
+    ensures outdated { F.SharedFile.honest → IfNone result.0 (WasOutdated F.asked_at
         (held_bytes held F.SharedFile.content (λ s. F.SharedFile.content s.store.volume.disk.disk.file))
         (held_bytes result.1 F.SharedFile.content (λ s. F.SharedFile.content s.store.volume.disk.disk.file))) }
 {
@@ -86,14 +86,17 @@ pub fn ask_held<F: HeldFile + Drop, C: Waits>(
     first: Held<F>,
     question: Question<'_>,
 ) -> (Reply, Held<F>)
-    ensures { IsAsked most_holds F.SharedFile.honest
+    ensures { IsAsked F.SharedFile.honest
         (held_bytes first F.SharedFile.content (λ s. F.SharedFile.content s.store.volume.disk.disk.file))
         (request_of question.entry) (reply_of result.0)
         (held_bytes result.1 F.SharedFile.content (λ s. F.SharedFile.content s.store.volume.disk.disk.file))
         (held_count result.1 (λ f. F.SharedFile.failed f + F.SharedFile.interrupted f)
         (λ s. F.SharedFile.failed s.store.volume.disk.disk.file
         + F.SharedFile.interrupted s.store.volume.disk.disk.file))
-        (HasWaited C.honest (C.waited clock.old) (C.waited clock.new)) }
+        (OutdatedTimes F.asked_at most_holds
+        (held_bytes first F.SharedFile.content (λ s. F.SharedFile.content s.store.volume.disk.disk.file))
+        (held_bytes result.1 F.SharedFile.content (λ s. F.SharedFile.content s.store.volume.disk.disk.file))
+        × HasWaited C.honest (C.waited clock.old) (C.waited clock.new)) }
 {
     let mut held = first;
     'tries: for _ in 0..MOST_HOLDS {

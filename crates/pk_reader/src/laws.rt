@@ -6,6 +6,6 @@ ghost use Rattle.pk_reader.specs.Outdated.{OutdatedTimes};
 
 /// However often what was read was outdated, the generation in force did not fall.
 pub fn outdated_tries_lose_nothing()
-    ensures { (n : ℕ) (first now : List ℕ) → OutdatedTimes n first now
+    ensures { (n : ℕ) (first now : List ℕ) → OutdatedTimes (λ bytes. Unit {0}) n first now
         → in_force first ≤ in_force now }
 {}

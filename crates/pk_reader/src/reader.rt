@@ -100,7 +100,7 @@ impl<V: View + Drop, C: Waits + Drop> Reader<V, C> {
 
     // The reply to a question.
     fn reply_to(&mut self, alloc: Global, question: Question<'_>) -> Reply
-        ensures { IsRead V.File.SharedFile.honest
+        ensures { IsRead V.File.SharedFile.honest V.File.asked_at
             (file_bytes self.old.shown self.old.file V.File.SharedFile.content V.bytes)
             (request_of question.entry) (reply_of result)
             (file_bytes self.new.shown self.new.file V.File.SharedFile.content V.bytes)
@@ -139,6 +139,7 @@ impl<V: View + Drop, C: Waits + Drop> Engine for Reader<V, C> {
     ghost use Rattle.std.specs.Prelude.{refl};
 
     ghost replies = { λ old what reply new. ReaderReplies old what reply new V.File.SharedFile.honest
+        V.File.asked_at
         (λ r. file_bytes r.shown r.file V.File.SharedFile.content V.bytes)
         (λ r. file_count r.shown r.file
         (λ f. V.File.SharedFile.failed f + V.File.SharedFile.interrupted f) V.count)

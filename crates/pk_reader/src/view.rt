@@ -52,7 +52,7 @@ pub trait View: Sized {
         first: Result<Self, Self::File>,
         question: Question<'_>,
     ) -> (Reply, Result<Self, Self::File>)
-        ensures { IsRead Self.File.SharedFile.honest
+        ensures { IsRead Self.File.SharedFile.honest Self.File.asked_at
             (held_bytes first Self.File.SharedFile.content bytes)
             (request_of question.entry) (reply_of result.0)
             (held_bytes result.1 Self.File.SharedFile.content bytes)
@@ -84,7 +84,7 @@ impl<F: HeldFile + Drop> View for Open<F> {
         first: Result<Open<F>, F>,
         question: Question<'_>,
     ) -> (Reply, Result<Open<F>, F>)
-        ensures { IsRead F.SharedFile.honest
+        ensures { IsRead F.SharedFile.honest F.asked_at
             (held_bytes first F.SharedFile.content
             (λ s. F.SharedFile.content s.store.volume.disk.disk.file))
             (request_of question.entry) (reply_of result.0)

@@ -1,7 +1,7 @@
 //! A shared file whose writers can be kept away.
 
 ghost use Rattle.std.specs.Option.{is_some};
-ghost use Rattle.std.specs.Prelude.{◌≡◌, Bool, false, IfNone};
+ghost use Rattle.std.specs.Prelude.{◌≡◌, ℕ, Bool, List, false, IfNone};
 ghost use Rattle.pk_manifest.specs.Evolves.{Evolves};
 
 use crate::shared::SharedFile;
@@ -16,6 +16,9 @@ pub trait HeldFile: SharedFile {
     /// Whether writers are kept away through this opening of the file.
     ghost is_held: { Self → Bool };
 
+    /// That writers were asked to stay away when these were the bytes.
+    ghost asked_at: { List ℕ → Type 0 };
+
     /// Keeps writers away until the `Hold` is given back. There is none where there is a writer.
     fn hold(&mut self) -> Option<Self::Hold>
         ensures evolves { Self.SharedFile.honest
@@ -24,6 +27,7 @@ pub trait HeldFile: SharedFile {
             → Self.SharedFile.failed self.new ≡ Self.SharedFile.failed self.old }
         ensures interrupted { Self.SharedFile.honest
             → Self.SharedFile.interrupted self.new ≡ Self.SharedFile.interrupted self.old }
+        ensures asked { asked_at (Self.SharedFile.content self.new) }
         ensures held { Self.SharedFile.honest → is_held self.new ≡ is_some result }
         ensures not_held { IfNone result (is_held self.new ≡ false) };
 

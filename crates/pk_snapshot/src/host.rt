@@ -67,6 +67,8 @@ impl HeldFile for File {
 
     ghost is_held = { λ _. false };
 
+    ghost asked_at = { λ _. Unit {0} };
+
     fn hold(&mut self) -> Option<SharedLock> {
         match self.try_lock_shared() {
             Ok(()) => Some(SharedLock),

@@ -7,7 +7,6 @@ use Rattle.pk_reader.specs.Held.{held_bytes, held_count}
 use Rattle.pk_reader.proofs.CauseLemmas.{cause_earlier}
 use Rattle.pk_reader.proofs.OrderLemmas.{if_none_then, if_some_then}
 use Rattle.pk_reader.proofs.ReadLemmas.{older_step}
-use Rattle.pk_reader.proofs.TryLemmas.{outdated_earlier}
 use Rattle.pk_reader.proofs.holding.ask_again.Given as given
 use Rattle.pk_reader.proofs.holding.ask_again.Goals as goal
 use Rattle.pk_reader.proofs.holding.ask_again.Goals.{After-hold}
@@ -40,7 +39,7 @@ returns-in-Some-clause-outdated g c = λ h.
     let f = g.F.SharedFile in
     let w = (goal.at.returns-in-Some-clause-outdated g c).After-hold in
     let below = held_bytes c.args.held f.content (λ s. f.content s.store.volume.disk.disk.file) in
-    if_none_then _ _ c.ask_alone-reply.result.0 (outdated_earlier below (f.content c.hold.new.self) (f.content c.ask_alone-reply.result.1) (since g w h)) (c.ask_alone-reply.ensures.outdated h)
+    if_none_then _ _ c.ask_alone-reply.result.0 (λ is. (f.content c.hold.new.self, since g w h, c.hold.ensures.asked, is)) (c.ask_alone-reply.ensures.outdated h)
 
 pub returns-in-None-clause-step : goal.returns-in-None-clause-step
 returns-in-None-clause-step g c =
@@ -68,4 +67,4 @@ returns-in-None-clause-outdated g c = λ h.
     let w = (goal.at.returns-in-None-clause-outdated g c).After-hold in
     let below = held_bytes c.args.held f.content (λ s. f.content s.store.volume.disk.disk.file) in
     let now = held_bytes c.turn.result.1 f.content (λ s. f.content s.store.volume.disk.disk.file) in
-    if_none_then _ _ c.turn.result.0 (outdated_earlier below (f.content c.hold.new.self) now (since g w h)) (c.turn.ensures.outdated h)
+    if_none_then _ _ c.turn.result.0 (λ is. (f.content c.hold.new.self, since g w h, c.hold.ensures.asked, is)) (c.turn.ensures.outdated h)

@@ -8,6 +8,6 @@ abbrev pub invariant-tries : goal.invariant-tries
 invariant-tries g l =
     let f = g.F.SharedFile in
     record {
-      tries : f.honest → OutdatedTimes l.counter (held_bytes l.fn.first f.content (λ s. f.content s.store.volume.disk.disk.file)) (held_bytes l.held f.content (λ s. f.content s.store.volume.disk.disk.file));
+      tries : f.honest → OutdatedTimes g.F.HeldFile.asked_at l.counter (held_bytes l.fn.first f.content (λ s. f.content s.store.volume.disk.disk.file)) (held_bytes l.held f.content (λ s. f.content s.store.volume.disk.disk.file));
       waited : g.C.Waits.honest → g.C.Waits.waited l.clock ≡ g.C.Waits.waited l.initial.clock + l.counter * wait_millis;
     }

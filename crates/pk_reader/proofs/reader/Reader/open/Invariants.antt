@@ -9,6 +9,6 @@ abbrev pub invariant-tries : goal.invariant-tries
 invariant-tries g l =
     let f = g.V.File.SharedFile in
     record {
-      tries : f.honest → OutdatedTimes l.counter (f.content l.fn.file) (f.content l.alone);
+      tries : f.honest → OutdatedTimes (λ bytes. Unit {0}) l.counter (f.content l.fn.file) (f.content l.alone);
       last : l.last ≡ shown.NotAStore → WasShut f.honest f.content g.V.View.refuses l.fn.file l.alone;
     }
