@@ -6,6 +6,7 @@ hold-tells g c = record {
   evolves = λ h. absurd h;
   failed = λ h. absurd h;
   interrupted = λ h. absurd h;
+  asked = tt;
   held = λ h. absurd h;
   not_held = c.ensures.not_held;
 }
