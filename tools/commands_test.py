@@ -69,6 +69,29 @@ class CommandLines(ProgramTest):
                 self.assertEqual((status, told), (0, b""))
                 self.assertIn(words, printed)
 
+    # What it does, and where its own help ends.
+    COMMANDS = {
+        "create": ("Makes a file with an empty store in it",
+                   "makes a store of 32 MiB in the file `notes`, which must not be there yet."),
+        "grow": ("Gives the store in a file more units",
+                 "else can write the store meanwhile."),
+        "run": ("Answers commands from standard input, with the store in a file",
+                "only once the machine was restarted: until then it may show bytes that it could not "
+                "write."),
+        "read": ("Answers questions from standard input, beside whoever writes the file",
+                 "on beside them for a second, and then answers `refused disk`."),
+        "check": ("Reads all that is committed in the store of a file, and compares it",
+                  "takes to make, and nobody else can write the store meanwhile."),
+    }
+
+    def test_each_command_has_its_own_help(self):
+        listed = self.run_program("--help")[1].decode().splitlines()
+        for name, (line, end) in self.COMMANDS.items():
+            with self.subTest(name=name):
+                self.assertIn(f"  {name:<6}  {line}", listed)
+                told = self.run_program(name, "--help")[1].decode().splitlines()
+                self.assertEqual((told[0], told[-1]), (line, end))
+
 
 class Files(ProgramTest):
     """Stores in files, and files that are none."""

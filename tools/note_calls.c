@@ -2,9 +2,10 @@
 // loaded over the program by LD_PRELOAD.
 //
 // FAIL_CALL is the number of the call that fails, counted from 1, with the error number FAIL_WITH,
-// or else 5, EIO. Writes to the standard outputs are noted, and not counted. MOST is how many bytes
-// a read or a write of a file moves at most. TELL and LET are the numbers of open files: before each
-// call that is counted its name is written to TELL, a line, and a byte is awaited from LET.
+// or else 5, EIO. Writes to the standard outputs are noted, and not counted, and so are waits, with
+// their milliseconds. MOST is how many bytes a read or a write of a file moves at most. TELL and LET
+// are the numbers of open files: before each call that is counted its name is written to TELL, a line,
+// and a byte is awaited from LET.
 typedef unsigned long size_t;
 
 extern void *dlsym(void *, const char *);
@@ -22,6 +23,9 @@ typedef int opens(const char *, int, int);
 typedef int takes_one(int);
 typedef int looks(int, const char *, int, unsigned, void *);
 typedef long moves(int, void *, size_t, long);
+
+typedef struct { long seconds, nanoseconds; } duration;
+typedef int waits(const duration *, duration *);
 
 static long number_of(const char *name, long without) {
     const char *text = getenv(name);
@@ -94,6 +98,11 @@ long pread(int file, void *to, size_t n, long at) {
 long pwrite(int file, const void *from, size_t n, long at) {
     note("write", 0, file, at, n);
     return fails("write") ? -1 : ((moves *)NEXT("pwrite"))(file, (void *)from, most(n), at);
+}
+
+int nanosleep(const duration *asked, duration *left) {
+    note("wait", 0, 0, 0, 1000 * asked->seconds + asked->nanoseconds / 1000000);
+    return ((waits *)NEXT("nanosleep"))(asked, left);
 }
 
 long write(int file, const void *from, size_t n) {

@@ -359,6 +359,7 @@ class ThatCannotGetAhead(WithAStore, NotedTest):
         reply, calls = self.stepped("find x", before)
         self.assertEqual(reply, "refused disk")
         self.assertEqual(calls.count("lock"), 100)
+        self.assertEqual(self.waits(), ["wait 0 0 10"] * 100)
         self.assertEqual(writer.ask("count"), f"count {writer.commits} next {writer.commits + 1}")
 
     def test_the_reader_goes_on_once_the_writer_rests(self):
@@ -388,6 +389,11 @@ class ThatCannotGetAhead(WithAStore, NotedTest):
         self.assertEqual(reply, found(range(1, writer.commits + 1)))
         self.assertEqual(len(locks), 1)
         self.assertEqual(writer.end()[0], 0)
+
+    def waits(self):
+        """How the reader waited, in milliseconds."""
+        with open(self.notes, encoding="utf-8") as notes:
+            return [note for note in notes.read().splitlines() if note.startswith("wait")]
 
     def committed(self):
         """How many documents the store has."""
