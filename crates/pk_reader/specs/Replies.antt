@@ -1,5 +1,6 @@
 -- Which replies of a reader are right.
-use Rattle.std.specs.Prelude.{◌≤◌, ◌+◌, ◌*◌, ℕ, List, Result}
+use Rattle.std.specs.Prelude.{◌≤◌, ◌+◌, ◌*◌, ℕ, List, Result, min}
+use Rattle.pk_disk.specs.Disk.{full_count}
 use Rattle.pk_model.specs.Steps.{Request, Answer}
 use Rattle.pk_model.specs.declared.commands.Refusal.{Refusal}
 use Rattle.pk_reader.specs.Asking.{read_only}
@@ -9,9 +10,10 @@ use Rattle.pk_reader.specs.Reading.{ReadStep}
 use Rattle.pk_shell.specs.Asked.{Asked}
 use Rattle.pk_shell.specs.Script.{IsReply}
 
--- milliseconds before and after: on an honest clock it was waited after each try but the first ones
+-- milliseconds before and after: on an honest clock it was waited after each try but the first ones,
+-- or no more are counted
 abbrev pub HasWaited : Type 0 → ℕ → ℕ → Type 0
-HasWaited honest before after = honest → before + most_holds * wait_millis ≤ after
+HasWaited honest before after = honest → min (before + most_holds * wait_millis) full_count ≤ after
 
 -- A QUESTION: a step, and a reason where the disk is told to have failed
 pub record IsAsked (honest : Type 0) (asked : List ℕ) (request : Request)

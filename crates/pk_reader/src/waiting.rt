@@ -1,20 +1,21 @@
 //! Time that is waited.
 
-ghost use Rattle.std.specs.Prelude.{◌≡◌, ◌+◌, ℕ};
+ghost use Rattle.std.specs.Prelude.{◌≤◌, ◌+◌, ℕ, min};
+ghost use Rattle.pk_disk.specs.Disk.{full_count};
 
 use std::time::{Clock, Duration};
 
 /// What waits for a time.
 pub trait Waits {
-    /// How many milliseconds were waited.
+    /// How many milliseconds were waited, counted up to 2^64 - 1.
     ghost waited: { Self → ℕ };
 
     /// That as long is waited as was asked for.
     ghost honest: { Type 0 };
 
-    /// Waits so many milliseconds.
+    /// Waits so many milliseconds at least.
     fn wait(&mut self, millis: u64)
-        ensures { honest → waited self.new ≡ waited self.old + millis };
+        ensures { honest → min (waited self.old + millis) full_count ≤ waited self.new };
 }
 
 /// A clock. How long it waits, no clause says.

@@ -5,13 +5,12 @@
 use crate::beside::{end_of, recorded, row_before};
 use crate::recorder::Recorder;
 use pk_changingfile::{Course, RecordedFile};
-use pk_reader::{Caches, Open, Reader};
+use pk_reader::{Caches, Open, Reader, Waits};
 use pk_shell::{Ended, serve_engine};
 use pk_store::OpenFault;
 use std::alloc::{AllocError, Global};
 use std::process::Abort;
 use std::test::Fail;
-use std::time::Clock;
 
 /// What is asked.
 static LINES: &str =
@@ -33,8 +32,24 @@ static REPLIES: [[&str; 3]; 4] = [
 static REST: &str =
     "refused read only\nrefused read only\nrefused read only\nrefused read only\nrefused read only\nrefused query unexpected at 1\nrefused unknown\nbye\n";
 
+/// Time that is counted, and not waited.
+#[derive(Drop)]
+struct Counted {
+    millis: u64,
+}
+
+impl Waits for Counted {
+    ghost waited = { λ counted. counted.millis };
+
+    ghost honest = { Unit {0} };
+
+    fn wait(&mut self, millis: u64) {
+        self.millis = self.millis.saturating_add(millis);
+    }
+}
+
 /// What a session writes over a file, or why it didn't begin.
-fn session_over<T: Abort + Clock>(
+fn session_over<T: Abort>(
     rt: &T,
     alloc: Global,
     file: RecordedFile<'_>,
@@ -43,7 +58,10 @@ fn session_over<T: Abort + Clock>(
         pages: 64,
         blocks: 4,
     };
-    let mut reader = match Reader::<Open<RecordedFile<'_>>, &T>::open(alloc, file, caches, rt) {
+    let clock = Counted { millis: 0 };
+    let mut reader = match Reader::<Open<RecordedFile<'_>>, Counted>::open(
+        alloc, file, caches, clock,
+    ) {
         Ok(reader) => reader,
         Err(why) => return Ok(Err(why)),
     };
