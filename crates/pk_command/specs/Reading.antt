@@ -1,5 +1,5 @@
 -- What a session that only reads came to.
-use Rattle.std.specs.Prelude.{◌≡◌, ◌≤◌, ◌⊎◌, ℕ, List, Option, Result, Ok, Err}
+use Rattle.std.specs.Prelude.{◌≡◌, ◌≤◌, ◌⊎◌, ℕ, List, Option, Ok, Err}
 use Rattle.pk_command.specs.Endings.{IsTold, done, failed}
 use Rattle.pk_command.specs.Reasons.{file_words, opening_words, session_words}
 use Rattle.pk_filedisk.specs.declared.fault.FileFault.TheVariants as file

@@ -62,7 +62,7 @@ use pk_arguments::{Asked, asked_by_words};
 use pk_disk::Disk;
 use pk_filedisk::{FileDisk, FileSystem, RawFile};
 use pk_pages::PageCache;
-use pk_reader::{Open, OpensShared, Reader};
+use pk_reader::{Open, OpensShared, Reader, Sleeper};
 use pk_shell::Engine;
 use pk_snapshot::HeldFile;
 use pk_within::Shortened;
@@ -92,7 +92,7 @@ where
     S: FileSystem<File = F> + OpensShared<Shared = G> + Clock,
     ensures ended { CommandOutcome ⟦<FileDisk<F> as Disk>⟧ ⟦<Shortened<FileDisk<F>> as Disk>⟧
         ⟦<PageCache<Shortened<FileDisk<F>>> as Disk>⟧ F.RawFile (λ s. s.disk) (λ p. p.disk.disk)
-        (λ d. d.file) (S.may_hold rt.old) ⟦<Reader<Open<G>, &'a S> as Engine>⟧.replies
+        (λ d. d.file) (S.may_hold rt.old) ⟦<Reader<Open<G>, Sleeper<&'a S>> as Engine>⟧.replies
         (λ path r. IsBegun G.SharedFile.honest (S.may_share rt.old path) (file_bytes r.shown r.file
         G.SharedFile.content (λ s. G.SharedFile.content s.store.volume.disk.disk.file))) (map string_bytes words.now)
         (R.remaining input.old) (R.remaining input.new)

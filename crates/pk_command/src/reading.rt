@@ -7,7 +7,7 @@ ghost use Rattle.pk_reader.specs.Held.{file_bytes};
 use crate::reporting::{DONE, fail, file_reason, opening_reason, session_reason};
 use crate::running::{CACHE_BLOCKS, PAGES};
 use pk_filedisk::FileFault;
-use pk_reader::{Caches, Open, OpensShared, Reader, SharedFault};
+use pk_reader::{Caches, Open, OpensShared, Reader, SharedFault, Sleeper};
 use pk_shell::{Engine, serve_engine};
 use pk_snapshot::HeldFile;
 use pk_store::OpenFault;
@@ -55,7 +55,7 @@ pub fn read<'a, F, S, R: Read, W: Write, E: Write>(
 where
     F: HeldFile + Drop,
     S: OpensShared<Shared = F> + Clock,
-    ensures { ReadOutcome ⟦<Reader<Open<F>, &'a S> as Engine>⟧.replies
+    ensures { ReadOutcome ⟦<Reader<Open<F>, Sleeper<&'a S>> as Engine>⟧.replies
         (λ r. IsBegun F.SharedFile.honest (S.may_share rt.now path.now) (file_bytes r.shown r.file
         F.SharedFile.content (λ s. F.SharedFile.content s.store.volume.disk.disk.file)))
         (R.remaining input.old) (R.remaining input.new)
@@ -66,7 +66,8 @@ where
         Ok(file) => file,
         Err(fault) => return fail(faults, shared_reason(fault)),
     };
-    let mut reader = match Reader::<Open<F>, &'a S>::open(alloc, file, CACHES, rt) {
+    let clock = Sleeper { clock: rt };
+    let mut reader = match Reader::<Open<F>, Sleeper<&'a S>>::open(alloc, file, CACHES, clock) {
         Ok(reader) => reader,
         Err(fault) => return fail(faults, reading_reason(fault)),
     };

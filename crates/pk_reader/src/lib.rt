@@ -60,4 +60,4 @@ pub use opening::{Caches, Open};
 pub use reader::Reader;
 pub use system::{OpensShared, SharedFault};
 pub use view::View;
-pub use waiting::Waits;
+pub use waiting::{Sleeper, Waits};

@@ -18,13 +18,18 @@ pub trait Waits {
         ensures { honest → min (waited self.old + millis) full_count ≤ waited self.new };
 }
 
-/// A clock. How long it waits, no clause says.
-impl<C: Clock> Waits for C {
+/// Who sleeps by a clock. How long, no clause says.
+#[derive(Drop)]
+pub struct Sleeper<C: Clock> {
+    pub clock: C,
+}
+
+impl<C: Clock> Waits for Sleeper<C> {
     ghost waited = { λ _. 0 };
 
     ghost honest = { ⊥ };
 
     fn wait(&mut self, millis: u64) {
-        self.sleep(Duration::from_millis(millis));
+        self.clock.sleep(Duration::from_millis(millis));
     }
 }
