@@ -12,7 +12,7 @@
 //! |---|---|
 //! | a question | looks whether what it shows is the latest, opens anew if not, and asks its store |
 //! | a question, and what it reads is outdated meanwhile | opens anew, and begins again |
-//! | the same for the eighth time | keeps writers away, where there are none, and begins again; beside a writer it begins again 10 ms later; after a hundred such tries it answers `Refusal::Disk` |
+//! | the same for the eighth time | begins again up to a hundred times, 10 ms after one another: with writers kept away, where there are none, and else beside them; then it answers `Refusal::Disk` |
 //!
 //! A reader that has to begin again doesn't wait, and takes no lock. One that would starve beside a
 //! writer that commits faster than it reads has the file to itself for one question, once that writer
