@@ -82,12 +82,11 @@ fn main(rt: HostRuntime) -> ExitCode {
 
 /// Makes a store, keeps notes, and crashes; what comes is told.
 fn session(alloc: Global, told: &mut String) -> Result<(), Fault> {
-    let mut store = two_notes(alloc)?;
-    store.add(alloc, "more milk")?;
-    tell_found(alloc, &mut store, told)?;
-
+    let mut store = created(alloc)?;
+    let kept = keep_notes(alloc, &mut store, told);
     // The third note was not committed: a crash takes it, and nothing else.
     let bytes = after_a_crash(alloc, store.close(), told)?;
+    kept?;
     for call in 1..=CALLS {
         let disk = MemoryDisk::of_bytes(alloc, bytes.to_vec(alloc)?);
         if crash_in_commit(alloc, disk, call, told)? {
@@ -97,24 +96,37 @@ fn session(alloc: Global, told: &mut String) -> Result<(), Fault> {
     Ok(())
 }
 
-/// A new store with two notes, both committed.
-fn two_notes(alloc: Global) -> Result<Store<NotesDisk>, Fault> {
+/// A new store.
+fn created(alloc: Global) -> Result<Store<NotesDisk>, Fault> {
     let disk = MemoryDisk::of_bytes(alloc, vec![in alloc; 0u8; BYTES]?);
-    let Ok(mut store) = Store::create(alloc, FaultDisk::new(disk, NEVER), 0) else {
-        return Err(Fault::Create);
-    };
+    match Store::create(alloc, FaultDisk::new(disk, NEVER), 0) {
+        Ok(store) => Ok(store),
+        Err(_) => Err(Fault::Create),
+    }
+}
+
+/// Adds three notes, of which two are committed.
+fn keep_notes(alloc: Global, store: &mut Store<NotesDisk>, told: &mut String) -> Result<(), Fault> {
     store.add(alloc, "buy milk and bread")?;
     store.add(alloc, "take the book to the library")?;
     store.commit(alloc)?;
-    Ok(store)
+    store.add(alloc, "more milk")?;
+    tell_found(alloc, store, told)
 }
 
 /// Tells what is found once the disk has crashed, and gives the bytes that are left.
 fn after_a_crash(alloc: Global, disk: NotesDisk, told: &mut String) -> Result<Vec<u8>, Fault> {
     let mut store = opened(alloc, disk.into_inner().crash(&[]))?;
+    let found = tell_left(alloc, &mut store, told);
+    let bytes = store.close().into_inner().into_bytes();
+    found?;
+    Ok(bytes)
+}
+
+/// Tells which notes a crash left.
+fn tell_left(alloc: Global, store: &mut Store<NotesDisk>, told: &mut String) -> Result<(), Fault> {
     told.push_str("after a crash ")?;
-    tell_found(alloc, &mut store, told)?;
-    Ok(store.close().into_inner().into_bytes())
+    tell_found(alloc, store, told)
 }
 
 /// The store on a disk.
@@ -127,13 +139,18 @@ fn opened(alloc: Global, disk: MemoryDisk) -> Result<Store<NotesDisk>, Fault> {
 
 /// Tells which notes have the word.
 fn tell_found(alloc: Global, store: &mut Store<NotesDisk>, told: &mut String) -> Result<(), Fault> {
-    let query = Query::Term(String::from_str(alloc, "milk")?);
     told.push_str("milk stands in")?;
-    for DocNo(number) in store.find(alloc, &query)? {
+    for DocNo(number) in &found(alloc, store)? {
         write!(told, " {number}")?;
     }
     told.push_str("\n")?;
     Ok(())
+}
+
+/// The numbers of the notes that have the word.
+fn found(alloc: Global, store: &mut Store<NotesDisk>) -> Result<Vec<DocNo>, Fault> {
+    let query = Query::Term(String::from_str(alloc, "milk")?);
+    store.find(alloc, &query).map_err(Fault::from)
 }
 
 /// Adds a note and commits on a disk that fails from a call on; then loses what no sync has made
@@ -149,9 +166,9 @@ fn crash_in_commit(
     let Ok(mut store) = Store::open_on(alloc, FaultDisk::new(disk, call), 0) else {
         return Ok(false); // The call was one of the opening's.
     };
-    store.add(alloc, "call the library")?;
-    let is_acknowledged = store.commit(alloc).is_ok();
+    let committed = commit_a_note(alloc, &mut store);
     let notes = left_by_a_crash(alloc, store.close())?;
+    let is_acknowledged = committed?;
     let word = if is_acknowledged {
         "acknowledged"
     } else {
@@ -164,10 +181,18 @@ fn crash_in_commit(
     Ok(is_acknowledged)
 }
 
+/// Adds a note, and gives whether its commit was acknowledged.
+fn commit_a_note(alloc: Global, store: &mut Store<NotesDisk>) -> Result<bool, Fault> {
+    store.add(alloc, "call the library")?;
+    Ok(store.commit(alloc).is_ok())
+}
+
 /// How many notes are there once the disk has crashed: that leaves any bytes where no sync came,
 /// here 255.
 fn left_by_a_crash(alloc: Global, disk: NotesDisk) -> Result<u64, Fault> {
     let picks = vec![in alloc; 255u8; BYTES]?;
     let store = opened(alloc, disk.into_inner().crash(&picks))?;
-    Ok(store.counts()?.documents)
+    let counts = store.counts();
+    store.close();
+    Ok(counts?.documents)
 }

@@ -1,4 +1,5 @@
 -- The definitions of the crate.
+pub mod Added
 pub mod CommandLine
 pub mod Described
 pub mod Sizes

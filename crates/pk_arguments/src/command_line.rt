@@ -2,6 +2,7 @@
 
 ghost use Rattle.std.specs.Prelude.{◌≡◌, IfOk};
 ghost use Rattle.clap.specs.Words.{app_of, new_app, with_rule};
+ghost use Rattle.pk_arguments.specs.Added.{IsWith};
 ghost use Rattle.pk_arguments.specs.CommandLine.{IsArg, bare_app, check_app, create_app};
 ghost use Rattle.pk_arguments.specs.CommandLine.{grow_app, path_rule, pk_find_app, read_app};
 ghost use Rattle.pk_arguments.specs.CommandLine.{run_app, units_rule};
@@ -220,14 +221,23 @@ fn bare<'a>(alloc: Global) -> Command<'a>
         .arg_required_else_help(true)
 }
 
+/// The program with one more command, where there is memory for both.
+fn with<'a>(
+    program: Command<'a>,
+    command: Result<Command<'a>, AllocError>,
+) -> Result<Command<'a>, AllocError>
+    ensures { IfOk result (λ c. IsWith (app_of program.entry) command.entry (app_of c)) }
+{
+    program.subcommand(command?)
+}
+
 /// What the command line may say.
 pub fn program<'a>(alloc: Global) -> Result<Command<'a>, AllocError>
     ensures { IfOk result (λ c. app_of c ≡ pk_find_app) }
 {
-    bare(alloc)
-        .subcommand(create(alloc)?)?
-        .subcommand(grow(alloc)?)?
-        .subcommand(run(alloc)?)?
-        .subcommand(read(alloc)?)?
-        .subcommand(check(alloc)?)
+    let program = with(bare(alloc), create(alloc))?;
+    let program = with(program, grow(alloc))?;
+    let program = with(program, run(alloc))?;
+    let program = with(program, read(alloc))?;
+    with(program, check(alloc))
 }

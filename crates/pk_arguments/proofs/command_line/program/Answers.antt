@@ -1,29 +1,26 @@
 -- Each command is added to those before it.
-use Rattle.std.proofs.Common.{Bool, ◌&&◌, not, ap, ap₂, refl, sym, true, false, ◌≡◌, ◌∙◌}
+use Rattle.std.proofs.Common.{ap, refl, true, ◌≡◌, ◌∙◌, IfOk, Ok, Err, Result}
 use Rattle.std.proofs.lemmas.Result.{IfOk-weaker}
-use Rattle.clap.specs.Words.{App, with_subcommand}
+use Rattle.std.specs.declared.alloc.AllocError.{AllocError}
+use Rattle.clap.specs.Words.{App, app_of, with_subcommand}
+use Rattle.clap.specs.declared.builder.command.Command.{Command}
+use Rattle.pk_arguments.specs.Added.{IsWith}
+use Rattle.pk_arguments.specs.CommandLine.{check_app, create_app, grow_app, read_app, run_app}
 use Rattle.pk_arguments.proofs.command_line.program.Goals as goal
 
--- a plain command has no global argument
-local : (groups external globals others : Bool)
-    → (groups && (not external && (not globals && others))) ≡ true → globals ≡ false
-local true false false others is = refl
-local true false true others is = sym is
-local true true globals others is = absurd (cc)
-local false external globals others is = absurd (cc)
-
-abbrev plain : App → Bool
-plain a = a.top.is_plain
+-- a plain command stands behind those before it
+added : (command : Result Command AllocError) (wanted before old new : App) → wanted.top.is_plain ≡ true
+    → IfOk command (λ c. app_of c ≡ wanted) → IsWith old command new → old ≡ before
+    → new ≡ with_subcommand before wanted.top
+added (Ok command) wanted before old new is_plain is adds is_old = adds (ap (λ (a : App). a.top.is_plain) is ∙ is_plain)
+    ∙ ap (λ (a : App). with_subcommand old a.top) is ∙ ap (λ (a : App). with_subcommand a wanted.top) is_old
+added (Err fault) wanted before old new is_plain is adds is_old = absurd adds
 
 pub returns : goal.returns
 returns c =
-    let with_create = c.in_ok-subcommand.ensures.shape (local _ _ _ _ (ap plain c.in_ok-create.ensures.app))
-    ∙ ap₂ with_subcommand c.bare.ensures (ap (λ (a : App). a.top) c.in_ok-create.ensures.app) in
-    let with_grow = c.in_ok-subcommand-2.ensures.shape (local _ _ _ _ (ap plain c.in_ok-grow.ensures.app))
-    ∙ ap₂ with_subcommand with_create (ap (λ (a : App). a.top) c.in_ok-grow.ensures.app) in
-    let with_run = c.in_ok-subcommand-3.ensures.shape (local _ _ _ _ (ap plain c.in_ok-run.ensures.app))
-    ∙ ap₂ with_subcommand with_grow (ap (λ (a : App). a.top) c.in_ok-run.ensures.app) in
-    let with_read = c.in_ok-subcommand-4.ensures.shape (local _ _ _ _ (ap plain c.in_ok-read.ensures.app))
-    ∙ ap₂ with_subcommand with_run (ap (λ (a : App). a.top) c.in_ok-read.ensures.app) in
-    IfOk-weaker c.subcommand-5.result _ _ (λ m h. h.shape (local _ _ _ _ (ap plain c.in_ok-check.ensures.app))
-    ∙ ap₂ with_subcommand with_read (ap (λ (a : App). a.top) c.in_ok-check.ensures.app)) c.subcommand-5.ensures
+    let with_create = added c.create.result create_app _ _ _ refl c.create.ensures.app c.in_ok-program.ensures c.bare.ensures in
+    let with_grow = added c.grow.result grow_app _ _ _ refl c.grow.ensures.app c.in_ok-program-2.ensures with_create in
+    let with_run = added c.run.result run_app _ _ _ refl c.run.ensures.app c.in_ok-program-3.ensures with_grow in
+    let with_read = added c.read.result read_app _ _ _ refl c.read.ensures.app c.in_ok-program-4.ensures with_run in
+    IfOk-weaker c.with-5.result _ _
+    (λ p adds. added c.check.result check_app _ _ _ refl c.check.ensures.app adds with_read) c.with-5.ensures
