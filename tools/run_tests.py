@@ -12,8 +12,8 @@ usage: tools/run_tests.py SUITE [K/N]      at the top of the repository; K/N: th
 Behind the tests each one that was skipped is named with its reason, and the command that installs
 what they want: the packages of tools/packages.txt. RUBEWOLA_SKIPPED names a file to which these lines
 are added. With RUBEWOLA_MUST_RUN=1 the status is 1 where a test was skipped that a package mends.
-With RUBEWOLA_UNTIL, a moment in seconds since 1970, no test is begun behind it; how many were left out
-is told in the last line.
+With RUBEWOLA_QUICK=1 long tests are left out; with RUBEWOLA_UNTIL, a moment in seconds since 1970, no
+test is begun behind it. How many were left out so is told in the last lines.
 """
 import os
 import pathlib
@@ -34,10 +34,14 @@ SUITES = {
     "shards": ("clients/python/tests/shards", None, [CLIENT, CLIENT / "tests"]),
     "tools": ("tools/tests", None, []),
 }
-# The modules that RUBEWOLA_QUICK=1 leaves, in this order: the others play long rows, or many.
+# The modules that RUBEWOLA_QUICK=1 leaves, in this order: the others are long, or have many rows.
 QUICK = {
     "rows": ["tests.test_rows", "tests.test_player", "tests.test_scripts", "tests.test_sweeps"],
     "layers": ["tests.layers.test_scripts", "tests.layers.test_segments"],
+    "client": [f"test_{name}" for name in (
+        "browser side_by_side formats shard_numbers tables config queries places filters jsonlines "
+        "starts orders folders following digests accents commands mailboxes readers shard_sessions "
+        "maildirs examples page mails harm logs").split()],
 }
 INSTALL = "apt-get install -y --no-install-recommends"
 
@@ -64,14 +68,24 @@ def module_of(suite):
     return type(suite).__module__
 
 
+def folder_of(module):
+    """What a module's name has before its last part: those of one suite have the same."""
+    return module.rpartition(".")[0]
+
+
 def chosen(suite, name, part):
-    """The tests of a part of the modules, the quick ones alone where these are asked for."""
+    """The tests of a part of the modules, the quick ones alone where these are asked for, and how
+    many others the part has."""
     number, parts = map(int, part.split("/"))
-    modules = [each for each in suite if each.countTestCases()]
+    modules, others = [each for each in suite if each.countTestCases()], []
     if name in QUICK and os.environ.get("RUBEWOLA_QUICK") == "1":
-        modules = [each for each in modules if module_of(each) in QUICK[name]]
-        modules.sort(key=lambda each: QUICK[name].index(module_of(each)))
-    return unittest.TestSuite(modules[number - 1::parts])
+        quick, folder = QUICK[name], folder_of(QUICK[name][0])
+        others = [each for each in modules
+                  if module_of(each) not in quick and folder_of(module_of(each)) == folder]
+        modules = [each for each in modules if module_of(each) in quick]
+        modules.sort(key=lambda each: quick.index(module_of(each)))
+    left = sum(each.countTestCases() for each in others[number - 1::parts])
+    return unittest.TestSuite(modules[number - 1::parts]), left
 
 
 def packages():
@@ -128,10 +142,13 @@ def main():
     os.environ["PYTHONPATH"] = os.pathsep.join([*map(str, paths), *([before] if before else [])])
     os.environ.setdefault("RUBEWOLA_PROGRAM", str(PROGRAM))
     sys.path[:0] = [str(path) for path in paths]
-    tests = chosen(unittest.defaultTestLoader.discover(start, top_level_dir=top), suite, part)
+    found = unittest.defaultTestLoader.discover(start, top_level_dir=top)
+    tests, long = chosen(found, suite, part)
     count = tests.countTestCases()
     result = unittest.TextTestRunner(resultclass=Result).run(tests)
     lacks = tell(suite, result)
+    if long:
+        print(f"{long} tests of {suite} were left out as long")
     if time.time() > result.until:
         left = count - result.testsRun
         print(f"{left} of {count} tests of {suite} were left out for want of time")
