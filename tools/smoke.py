@@ -104,6 +104,7 @@ def last_line(ended, seconds):
 def main():
     os.chdir(pathlib.Path(__file__).resolve().parent.parent)
     with tempfile.TemporaryDirectory() as folder, concurrent.futures.ThreadPoolExecutor(4) as pool:
+        os.chmod(folder, 0o755)  # Tests run the program as another user too.
         parts = [
             pool.submit(over, "pk_find", "RUBEWOLA_PROGRAM", "client", 4, folder),
             pool.submit(over, "pk_player", "RUBEWOLA_PLAYER", "rows", 1, folder),
