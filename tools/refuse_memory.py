@@ -28,9 +28,7 @@ MARK = "short_of_memory"
 # The tests of the layers' worked rows, which end with want of memory as it comes; and how they tell
 # of it: of a disk's record, as a call that failed.
 WORKED = {
-    "tests_meaning": ("words::the_words_of_texts", "plans::queries_have_their_plans"),
     "tests_disk": ("space::the_first_run_that_fits_is_taken",),
-    "tests_engine": ("buffer::documents_come_and_leave",),
 }
 ENDINGS = ("error: AllocError\n", "error: AllocFailed { .. }\n", "error: Memory\n", "error: Disk\n")
 PROGRAM = os.path.join(TOP, "crates/pk_find/out/pk_find")

@@ -246,19 +246,27 @@ impl Disks {
         told: &mut Told,
     ) -> Result<(), Fault> {
         match name {
-            "disk" => self.make(words)?,
-            "set" => self.set(words)?,
-            "bytes" => self.tell_bytes(words, told)?,
-            "crash" => self.crash(words)?,
+            "disk" => self.make(words),
+            "set" => self.set(words),
+            "bytes" => self.tell_bytes(words, told),
+            "crash" => self.crash(words),
+            "calls" => self.tell_calls(*words, told),
+            "pages" => self.tell_paged(words, told),
+            _ if self.tell_plan(name, words, told) => Ok(()),
+            _ => self.tell_formats(name, words, told),
+        }
+    }
+
+    /// Plans which calls fail, or tells what needs none, where that is asked.
+    fn tell_plan(&mut self, name: &str, words: &mut Words<'_>, told: &mut Told) -> bool {
+        match name {
             "fail" => self.plan(words.long(), true),
             "stop" => self.plan(words.long(), false),
-            "calls" => self.tell_calls(*words, told)?,
-            "pages" => self.tell_paged(words, told)?,
             "extent" => tell_extent(words, told),
             "reads" => told.number(self.bytes_read),
             "units" => told.number(u64::from(units_in(words.long()))),
-            _ => self.tell_formats(name, words, told)?,
+            _ => return false,
         }
-        Ok(())
+        true
     }
 }

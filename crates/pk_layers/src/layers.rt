@@ -2,6 +2,7 @@
 
 use crate::dictionaries::{tell_in, tell_looked_up, tell_prefix, tell_windows, tell_written};
 use crate::disks::Disks;
+use crate::index::tell_index;
 use crate::lists::{
     tell_blocks, tell_dead, tell_decoded, tell_encoded, tell_lent, tell_put_into, tell_read,
     tell_shape, tell_skip, tell_walk,
@@ -12,7 +13,9 @@ use crate::numbers::{
     tell_put, tell_restored, tell_rising, tell_sets, tell_sums, tell_taken, tell_unpacked,
     tell_width,
 };
+use crate::queries::{tell_parsed, tell_plan};
 use crate::segments::tell_built;
+use crate::texts::{tell_folded, tell_in_row, tell_part, tell_place, tell_words};
 use crate::told::{Fault, Told};
 use crate::words::Words;
 use std::alloc::{AllocError, Global};
@@ -56,113 +59,110 @@ impl Layers {
 
     /// Tells what is asked by a name.
     fn tell(&mut self, name: &str, words: &mut Words<'_>, told: &mut Told) -> Result<(), Fault> {
+        let is_told = self.take(name, words)?
+            || self.read(name, words, told)?
+            || tell_list(self.alloc, name, words, told)?
+            || tell_number(name, words, told)?
+            || tell_text(name, words, told)?;
+        if !is_told {
+            self.disks.tell(name, words, told)?;
+        }
+        Ok(())
+    }
+
+    /// Takes what later lines are about, where that is asked.
+    fn take(&mut self, name: &str, words: &mut Words<'_>) -> Result<bool, Fault> {
         match name {
-            "source" | "other" | "pivots" => self.take(name, words),
-            "walk"
-            | "blocks"
-            | "look"
-            | "prefix"
-            | "look-in"
+            "source" => self.source = words.bytes()?,
+            "other" => self.other = words.bytes()?,
+            "pivots" => self.pivots = words.longs()?,
+            _ => return Ok(false),
+        }
+        Ok(true)
+    }
+
+    /// Reads what was taken, where that is asked.
+    fn read(&mut self, name: &str, words: &mut Words<'_>, told: &mut Told) -> Result<bool, Fault> {
+        let source = &self.source;
+        match name {
+            "walk" => tell_walk(source, words, told)?,
+            "blocks" => tell_blocks(self.alloc, source, &self.other, words, told)?,
+            "look" => tell_looked_up(self.alloc, source, words, told)?,
+            "prefix" => tell_prefix(self.alloc, source, words, told)?,
+            "window" => tell_windows(source, words, told)?,
+            "look-in"
             | "near-in"
             | "prefix-in"
             | "passed-in"
             | "look-windows"
             | "near-windows"
-            | "prefix-windows"
-            | "window" => self.read(name, words, told),
-            "encode"
-            | "into"
-            | "decode"
-            | "shape"
-            | "skip"
-            | "lend"
-            | "dead"
-            | "alive"
-            | "dict"
-            | "sets"
-            | "build"
-            | "choose" => tell_list(self.alloc, name, words, told),
-            "put"
-            | "take"
-            | "digits"
-            | "key"
-            | "around"
-            | "keep"
-            | "width"
-            | "pack"
-            | "unpack"
-            | "sums"
-            | "differ"
-            | "restore"
-            | "ascending"
-            | "rising" => tell_number(name, words, told),
-            _ => self.disks.tell(name, words, told),
+            | "prefix-windows" => tell_in(name, source, &mut self.pivots, words, told)?,
+            _ => return Ok(false),
         }
-    }
-
-    /// Takes what later lines are about.
-    fn take(&mut self, name: &str, words: &mut Words<'_>) -> Result<(), Fault> {
-        match name {
-            "source" => self.source = words.bytes()?,
-            "other" => self.other = words.bytes()?,
-            _ => self.pivots = words.longs()?,
-        }
-        Ok(())
-    }
-
-    /// Reads what was taken.
-    fn read(&mut self, name: &str, words: &mut Words<'_>, told: &mut Told) -> Result<(), Fault> {
-        let source = &self.source;
-        match name {
-            "walk" => tell_walk(source, words, told),
-            "blocks" => tell_blocks(self.alloc, source, &self.other, words, told),
-            "look" => tell_looked_up(self.alloc, source, words, told),
-            "prefix" => tell_prefix(self.alloc, source, words, told),
-            "window" => tell_windows(source, words, told),
-            _ => tell_in(name, source, &mut self.pivots, words, told),
-        }
+        Ok(true)
     }
 }
 
-/// Tells what is asked of lists, sets, a dictionary or a segment that is built.
+/// Tells what is asked of lists, sets, a dictionary or a segment that is built, if the name is of
+/// one of these.
 fn tell_list(
     alloc: Global,
     name: &str,
     words: &mut Words<'_>,
     told: &mut Told,
-) -> Result<(), Fault> {
+) -> Result<bool, Fault> {
     match name {
-        "encode" => tell_encoded(alloc, words, told),
-        "into" => tell_put_into(alloc, words, told),
-        "decode" => tell_decoded(alloc, words, told),
-        "shape" => tell_shape(words, told),
-        "skip" => tell_skip(words, told),
-        "lend" => tell_lent(words, told),
-        "dead" => tell_dead(alloc, words, told),
-        "alive" => tell_read(alloc, words, told),
-        "sets" => tell_sets(alloc, words, told),
-        "build" => tell_built(alloc, words, told),
-        "choose" => tell_chosen(words, told),
-        _ => tell_written(alloc, words, told),
+        "encode" => tell_encoded(alloc, words, told)?,
+        "into" => tell_put_into(alloc, words, told)?,
+        "decode" => tell_decoded(alloc, words, told)?,
+        "shape" => tell_shape(words, told)?,
+        "skip" => tell_skip(words, told)?,
+        "lend" => tell_lent(words, told)?,
+        "dead" => tell_dead(alloc, words, told)?,
+        "alive" => tell_read(alloc, words, told)?,
+        "sets" => tell_sets(alloc, words, told)?,
+        "build" => tell_built(alloc, words, told)?,
+        "choose" => tell_chosen(words, told)?,
+        "dict" => tell_written(alloc, words, told)?,
+        _ => return Ok(false),
     }
+    Ok(true)
 }
 
-/// Tells what is asked of a number, a key or a block.
-fn tell_number(name: &str, words: &mut Words<'_>, told: &mut Told) -> Result<(), Fault> {
+/// The same of a number, a key or a block.
+fn tell_number(name: &str, words: &mut Words<'_>, told: &mut Told) -> Result<bool, Fault> {
     match name {
-        "put" => tell_put(words, told),
-        "take" => tell_taken(words, told),
-        "digits" => tell_digits(words, told),
-        "key" => tell_key(words, told),
-        "around" => tell_around(words, told),
-        "keep" => tell_kept(words, told),
-        "width" => tell_width(words, told),
-        "pack" => tell_packed(words, told),
-        "unpack" => tell_unpacked(words, told),
-        "sums" => tell_sums(words, told),
-        "differ" => tell_differences(words, told),
-        "restore" => tell_restored(words, told),
-        "ascending" => tell_ascending(words, told),
-        _ => tell_rising(words, told),
+        "put" => tell_put(words, told)?,
+        "take" => tell_taken(words, told)?,
+        "digits" => tell_digits(words, told)?,
+        "key" => tell_key(words, told)?,
+        "around" => tell_around(words, told)?,
+        "keep" => tell_kept(words, told)?,
+        "width" => tell_width(words, told)?,
+        "pack" => tell_packed(words, told)?,
+        "unpack" => tell_unpacked(words, told)?,
+        "sums" => tell_sums(words, told)?,
+        "differ" => tell_differences(words, told)?,
+        "restore" => tell_restored(words, told)?,
+        "ascending" => tell_ascending(words, told)?,
+        "rising" => tell_rising(words, told)?,
+        _ => return Ok(false),
     }
+    Ok(true)
+}
+
+/// The same of texts, queries and an index.
+fn tell_text(name: &str, words: &mut Words<'_>, told: &mut Told) -> Result<bool, Fault> {
+    match name {
+        "words" => tell_words(words, told)?,
+        "in-row" => tell_in_row(words, told)?,
+        "word-from" => tell_place(words, told)?,
+        "part" => tell_part(words, told)?,
+        "lower" | "fold" => tell_folded(name, words, told)?,
+        "read" => tell_parsed(words, told)?,
+        "plan" => tell_plan(words, told)?,
+        "index" => tell_index(*words, told)?,
+        _ => return Ok(false),
+    }
+    Ok(true)
 }

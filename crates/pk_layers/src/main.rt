@@ -1,5 +1,5 @@
 //! Answers lines that ask a lower layer one thing each: a list's bytes, what bytes spell, where a
-//! cursor comes to, what a disk holds.
+//! cursor comes to, what a disk holds, what a text reads as.
 //!
 //!     pk_layers < LINES
 //!
@@ -78,6 +78,24 @@
 //!   bytes, on a disk of 2,048
 //! - `merge-nothing`: whether anything is left of no input
 //! - `prepare XS YS`, `merge-into XS YS`: how long that is in kind 2; also written into unit 3
+//! - `words TEXT WORD ..`: the words of a text in its order, a bar, the same as a set, which may be
+//!   `empty`, a bar, and of each word whether the set has it
+//! - `in-row TEXT PHRASE`: whether the words of the phrase stand in the text in a row
+//! - `word-from TEXT AT`: the place of the first word of ASCII from a boundary on
+//! - `part TEXT`: where its first part ends
+//! - `lower TEXT ..`, `fold TEXT ..`: texts in small letters, or folded, each put in place of the
+//!   one before
+//! - `read TEXT`: what is wrong with a query, and where; then the query, with a bracket around each
+//!   operator and what it is applied to, and how many terms it has, or what is wrong with it
+//! - `plan TEXT XS`: the words of a query, and behind a bar its plan, where these words have those
+//!   frequencies: an intersection in brackets, a union in braces, a difference in round brackets,
+//!   all as `*`, and a phrase behind what is asked for it and a colon
+//! - `index STEP ..`: the numbers that a new index has by `list:WORD`, and the words by `terms`;
+//!   where a document comes by `add:N:TEXT`, and is live until `remove:N`, or comes by
+//!   `lose:N:TEXT`, and is not; and all leave by `clear`
+//!
+//! A text, a word, a phrase and a query are written as their bytes, and told so; where bytes are no
+//! UTF-8, the answer is `no text`.
 //!
 //! A source whose call behind `PASSES` others is made fails then, once. Below the answers of such
 //! a line stands how often it was asked, and how often it failed.
@@ -87,11 +105,14 @@ mod bodies;
 mod dictionaries;
 mod disks;
 mod failing;
+mod index;
 mod layers;
 mod lists;
 mod merges;
 mod numbers;
+mod queries;
 mod segments;
+mod texts;
 mod told;
 mod tried;
 mod words;

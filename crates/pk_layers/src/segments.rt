@@ -107,7 +107,138 @@ fn tell_directory<S: ByteSource>(
     Ok(())
 }
 
-/// What a reader of a segment answers.
+/// The number of documents, the first and the last number.
+fn tell_ends(segment: &Segment, told: &mut Told) {
+    for n in [segment.count(), segment.first(), segment.last()] {
+        told.number(u64::from(n));
+    }
+}
+
+/// The bytes that the source lends from a place on.
+fn tell_lent<S: ByteSource>(source: &mut S, stretch: &str, told: &mut Told) -> Result<(), Fault> {
+    let (at, n) = halves(stretch);
+    told.bytes(source.bytes(number(at), number(n).min(4096))?);
+    Ok(())
+}
+
+/// All numbers.
+fn tell_numbers<S: ByteSource>(
+    alloc: Global,
+    segment: &Segment,
+    source: &mut S,
+    told: &mut Told,
+) -> Result<(), Fault> {
+    told.numbers(&segment.numbers(alloc, source)?);
+    Ok(())
+}
+
+/// The text of a number.
+fn tell_text<S: ByteSource>(
+    alloc: Global,
+    segment: &Segment,
+    source: &mut S,
+    number: u32,
+    told: &mut Told,
+) -> Result<(), Fault> {
+    match segment.text_of(alloc, source, number)? {
+        Some(text) => told.bytes(text.as_bytes()),
+        None => told.word("none"),
+    }
+    Ok(())
+}
+
+/// Where the dictionary lies.
+fn tell_place<S: ByteSource>(
+    segment: &Segment,
+    source: &mut S,
+    told: &mut Told,
+) -> Result<(), Fault> {
+    let place = segment.dictionary(source)?;
+    for n in [place.at, place.bytes, place.terms] {
+        told.number(u64::from(n));
+    }
+    Ok(())
+}
+
+/// The entry of a word.
+fn tell_list<S: ByteSource>(
+    alloc: Global,
+    segment: &Segment,
+    source: &mut S,
+    word: &str,
+    told: &mut Told,
+) -> Result<(), Fault> {
+    let word = bytes_of(alloc, word)?;
+    told.entry(segment.list_of(alloc, source, &word)?);
+    Ok(())
+}
+
+/// All words with their entries.
+fn tell_terms<S: ByteSource>(
+    alloc: Global,
+    segment: &Segment,
+    source: &mut S,
+    told: &mut Told,
+) -> Result<(), Fault> {
+    told.entries(&segment.terms(alloc, source)?);
+    Ok(())
+}
+
+/// Those that begin so.
+fn tell_prefix<S: ByteSource>(
+    alloc: Global,
+    segment: &Segment,
+    source: &mut S,
+    prefix: &str,
+    told: &mut Told,
+) -> Result<(), Fault> {
+    let prefix = bytes_of(alloc, prefix)?;
+    told.entries(&segment.entries_of(alloc, source, &prefix)?);
+    Ok(())
+}
+
+/// What a reader of a segment's documents answers, where it is asked.
+fn tell_of_documents<S: ByteSource>(
+    alloc: Global,
+    segment: &Segment,
+    source: &mut S,
+    step: &str,
+    told: &mut Told,
+) -> Result<bool, Fault> {
+    let (name, rest) = halves(step);
+    match name {
+        "ends" => tell_ends(segment, told),
+        "numbers" => tell_numbers(alloc, segment, source, told)?,
+        "has" => told.truth(segment.contains(source, number(rest))?),
+        "text" => tell_text(alloc, segment, source, number(rest), told)?,
+        "document" => tell_document_at(alloc, segment, source, number(rest), told)?,
+        "directory" => tell_directory(alloc, segment, source, told)?,
+        _ => return Ok(false),
+    }
+    Ok(true)
+}
+
+/// What a reader of its words answers, where it is asked.
+fn tell_of_words<S: ByteSource>(
+    alloc: Global,
+    segment: &Segment,
+    source: &mut S,
+    step: &str,
+    told: &mut Told,
+) -> Result<bool, Fault> {
+    let (name, rest) = halves(step);
+    match name {
+        "postings" => told.number(u64::from(segment.postings())),
+        "dictionary" => tell_place(segment, source, told)?,
+        "list" => tell_list(alloc, segment, source, rest, told)?,
+        "terms" => tell_terms(alloc, segment, source, told)?,
+        "prefix" => tell_prefix(alloc, segment, source, rest, told)?,
+        _ => return Ok(false),
+    }
+    Ok(true)
+}
+
+/// What a reader of a segment answers, or its source.
 fn tell_reader<S: ByteSource>(
     alloc: Global,
     segment: &Segment,
@@ -115,43 +246,52 @@ fn tell_reader<S: ByteSource>(
     step: &str,
     told: &mut Told,
 ) -> Result<(), Fault> {
-    let (name, rest) = halves(step);
-    match name {
-        "ends" => {
-            for n in [segment.count(), segment.first(), segment.last()] {
-                told.number(u64::from(n));
-            }
-        }
-        "postings" => told.number(u64::from(segment.postings())),
-        "asked" => told.number(source.asked()),
-        "lend" => {
-            let (at, n) = halves(rest);
-            told.bytes(source.bytes(number(at), number(n).min(4096))?);
-        }
-        "numbers" => told.numbers(&segment.numbers(alloc, source)?),
-        "has" => told.truth(segment.contains(source, number(rest))?),
-        "text" => match segment.text_of(alloc, source, number(rest))? {
-            Some(text) => told.bytes(text.as_bytes()),
-            None => told.word("none"),
-        },
-        "document" => tell_document_at(alloc, segment, source, number(rest), told)?,
-        "directory" => tell_directory(alloc, segment, source, told)?,
-        "dictionary" => {
-            let place = segment.dictionary(source)?;
-            for n in [place.at, place.bytes, place.terms] {
-                told.number(u64::from(n));
-            }
-        }
-        "list" => told.entry(segment.list_of(alloc, source, &bytes_of(alloc, rest)?)?),
-        "terms" => told.entries(&segment.terms(alloc, source)?),
-        "prefix" => told.entries(&segment.entries_of(alloc, source, &bytes_of(alloc, rest)?)?),
+    if tell_of_documents(alloc, segment, source, step, told)?
+        || tell_of_words(alloc, segment, source, step, told)?
+    {
+        return Ok(());
+    }
+    match halves(step) {
+        ("asked", _) => told.number(source.asked()),
+        ("lend", stretch) => return tell_lent(source, stretch, told),
         _ => told.word("-"),
     }
     Ok(())
 }
 
-/// Opens a segment of a kind and a length in an extent, and tells what its readers answer, each
-/// behind a bar. One that is damaged, or whose read fails, stops no other.
+/// The same behind a bar; what is damaged, and a read that fails, stops no other reader.
+fn tell_tried<S: ByteSource>(
+    alloc: Global,
+    segment: &Segment,
+    source: &mut S,
+    step: &str,
+    told: &mut Told,
+) -> Result<(), Fault> {
+    told.word("|");
+    match tell_reader(alloc, segment, source, step, told) {
+        Err(fault) if fault != MEMORY => {
+            told.fault(fault);
+            Ok(())
+        }
+        other => other,
+    }
+}
+
+/// What readers of a segment answer.
+fn tell_readers<S: ByteSource>(
+    alloc: Global,
+    segment: &Segment,
+    source: &mut S,
+    words: Words<'_>,
+    told: &mut Told,
+) -> Result<(), Fault> {
+    for step in words.each() {
+        tell_tried(alloc, segment, source, step, told)?;
+    }
+    Ok(())
+}
+
+/// Opens a segment of a kind and a length in an extent, and tells what its readers answer.
 pub(crate) fn tell_segment(
     alloc: Global,
     disk: &mut Tried,
@@ -166,12 +306,5 @@ pub(crate) fn tell_segment(
     let mut source = ExtentSource::on(disk, place);
     let segment = Segment::open(&mut source, size, kind)?;
     told.word("open");
-    for step in words.each() {
-        told.word("|");
-        match tell_reader(alloc, &segment, &mut source, step, told) {
-            Err(fault) if fault != MEMORY => told.fault(fault),
-            other => other?,
-        }
-    }
-    Ok(())
+    tell_readers(alloc, &segment, &mut source, *words, told)
 }

@@ -225,6 +225,12 @@ impl Told {
         self.keep(put);
     }
 
+    /// A text behind what is there, with no blank.
+    pub(crate) fn put(&mut self, text: &str) {
+        let put = self.text.push_str(text);
+        self.keep(put);
+    }
+
     /// A fault.
     pub(crate) fn fault(&mut self, fault: Fault) {
         self.word(fault.0);

@@ -1,5 +1,6 @@
 //! The words of a line, and what they write.
 
+use crate::told::Fault;
 use std::alloc::{AllocError, Global};
 
 /// The words of a line that are left.
@@ -44,6 +45,14 @@ pub(crate) fn bytes_of(alloc: Global, word: &str) -> Result<Vec<u8>, AllocError>
     Ok(bytes)
 }
 
+/// The text whose bytes are written so.
+pub(crate) fn text_of(alloc: Global, word: &str) -> Result<String, Fault> {
+    match String::from_utf8(bytes_of(alloc, word)?) {
+        Ok(text) => Ok(text),
+        Err(_) => Err(Fault("no text")),
+    }
+}
+
 impl<'a> Words<'a> {
     /// Those of a line.
     pub(crate) fn of(alloc: Global, line: &'a str) -> Words<'a> {
@@ -80,6 +89,11 @@ impl<'a> Words<'a> {
     /// The bytes that it writes.
     pub(crate) fn bytes(&mut self) -> Result<Vec<u8>, AllocError> {
         bytes_of(self.alloc, self.next())
+    }
+
+    /// The text whose bytes it writes.
+    pub(crate) fn text(&mut self) -> Result<String, Fault> {
+        text_of(self.alloc, self.next())
     }
 
     /// The numbers that it writes.
