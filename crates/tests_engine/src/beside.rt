@@ -124,22 +124,36 @@ struct Tally {
     calls: u64,
 }
 
+/// Whether a store finds what a row has, and whether it finds: on an outdated disk it does not.
+fn finds<D: Disk>(
+    alloc: Global,
+    store: &mut Store<D>,
+    row: &Row,
+) -> Result<(bool, bool), AllocError> {
+    let query = Query::Term(String::from_str(alloc, "alpha")?);
+    Ok(match store.find(alloc, &query) {
+        Ok(numbers) => (numbers.as_slice() == row.found, true),
+        Err(why) => (why == Refusal::Disk, false),
+    })
+}
+
+/// The same of what it shows.
+fn shows<D: Disk>(alloc: Global, store: &mut Store<D>, row: &Row) -> (bool, bool) {
+    match store.show(alloc, DocNo(1)) {
+        Ok(text) => (row.text == Some(text.as_str()), true),
+        Err(Refusal::NoSuchDocument) => (row.text.is_none(), true),
+        Err(why) => (why == Refusal::Disk, false),
+    }
+}
+
 /// Whether what a store says is what a row has. Where the disk is outdated nothing is said.
 fn says<D: Disk>(
     alloc: Global,
     store: &mut Store<D>,
     row: &Row,
 ) -> Result<(bool, bool), AllocError> {
-    let query = Query::Term(String::from_str(alloc, "alpha")?);
-    let (finds, is_found) = match store.find(alloc, &query) {
-        Ok(numbers) => (numbers.as_slice() == row.found, true),
-        Err(why) => (why == Refusal::Disk, false),
-    };
-    let (shows, is_shown) = match store.show(alloc, DocNo(1)) {
-        Ok(text) => (row.text == Some(text.as_str()), true),
-        Err(Refusal::NoSuchDocument) => (row.text.is_none(), true),
-        Err(why) => (why == Refusal::Disk, false),
-    };
+    let (finds, is_found) = finds(alloc, store, row)?;
+    let (shows, is_shown) = shows(alloc, store, row);
     Ok((finds && shows, is_found && is_shown))
 }
 
@@ -149,29 +163,74 @@ fn row_of<D: Disk>(store: &Store<D>, least: usize) -> Option<&'static Row> {
     ROWS.iter().skip(least).find(|row| row.documents == counts.documents && row.next == counts.next)
 }
 
+/// A store over a snapshot.
+type Shown<'a> = Store<SnapshotDisk<RecordedFile<'a>>>;
+
+/// Asks a store over a snapshot, and answers whether it was told all.
+fn is_told(
+    rt: &impl Abort,
+    alloc: Global,
+    store: &mut Shown<'_>,
+    least: usize,
+) -> Result<bool, AllocError> {
+    let Some(row) = row_of(store, least) else {
+        assert!(rt; false, "older than row {least}, or of no row");
+        return Ok(false);
+    };
+    let (is_right, is_whole) = says(alloc, store, row)?;
+    assert!(rt; is_right, "not of row {least} or a later one");
+    Ok(is_whole)
+}
+
+impl Tally {
+    /// A store on a disk was asked, and told all or not: it didn't where the disk is outdated.
+    fn count(&mut self, rt: &impl Abort, disk: &SnapshotDisk<RecordedFile<'_>>, is_whole: bool) {
+        assert_eq!(rt; disk.is_outdated(), !is_whole);
+        if is_whole {
+            self.answered = self.answered.saturating_add(1);
+        } else {
+            self.outdated = self.outdated.saturating_add(1);
+        }
+    }
+
+    /// No snapshot was opened.
+    fn count_unopened(&mut self, rt: &impl Abort, why: SnapshotFault) {
+        assert!(rt; why == SnapshotFault::Changed || why == SnapshotFault::NotAStore);
+        self.not_opened = self.not_opened.saturating_add(1);
+    }
+}
+
 /// Asks a store over a snapshot.
 fn ask(
     rt: &impl Abort,
     alloc: Global,
-    mut store: Store<SnapshotDisk<RecordedFile<'_>>>,
+    mut store: Shown<'_>,
     least: usize,
     tally: &mut Tally,
 ) -> Result<(), AllocError> {
-    let Some(row) = row_of(&store, least) else {
-        assert!(rt; false, "older than row {least}, or of no row");
-        return Ok(());
-    };
-    let (is_right, is_whole) = says(alloc, &mut store, row)?;
-    assert!(rt; is_right, "not of row {least} or a later one");
+    let is_whole = is_told(rt, alloc, &mut store, least)?;
     let disk = store.close();
-    assert_eq!(rt; disk.is_outdated(), !is_whole);
-    if is_whole {
-        tally.answered = tally.answered.saturating_add(1);
-    } else {
-        tally.outdated = tally.outdated.saturating_add(1);
-    }
+    tally.count(rt, &disk, is_whole);
     tally.calls = disk.into_file().into_calls();
     Ok(())
+}
+
+/// Opens a store over a snapshot, and asks it.
+fn read_snapshot(
+    rt: &impl Abort,
+    alloc: Global,
+    disk: SnapshotDisk<RecordedFile<'_>>,
+    least: usize,
+    tally: &mut Tally,
+) -> Result<(), AllocError> {
+    match Store::open_on(alloc, disk, 0) {
+        Ok(store) => ask(rt, alloc, store, least, tally),
+        Err(refused) => {
+            assert!(rt; refused.why == OpenFault::Disk);
+            tally.count(rt, &refused.disk, false);
+            Ok(())
+        }
+    }
 }
 
 /// Opens a snapshot of a file, and a store over it, and asks that.
@@ -182,20 +241,10 @@ fn read(
     least: usize,
     tally: &mut Tally,
 ) -> Result<(), AllocError> {
-    let disk = match SnapshotDisk::open(alloc, file) {
-        Ok(disk) => disk,
+    match SnapshotDisk::open(alloc, file) {
+        Ok(disk) => read_snapshot(rt, alloc, disk, least, tally),
         Err(Refused { why, .. }) => {
-            assert!(rt; why == SnapshotFault::Changed || why == SnapshotFault::NotAStore);
-            tally.not_opened = tally.not_opened.saturating_add(1);
-            return Ok(());
-        }
-    };
-    match Store::open_on(alloc, disk, 0) {
-        Ok(store) => ask(rt, alloc, store, least, tally),
-        Err(refused) => {
-            assert!(rt; refused.why == OpenFault::Disk);
-            assert!(rt; refused.disk.is_outdated());
-            tally.outdated = tally.outdated.saturating_add(1);
+            tally.count_unopened(rt, why);
             Ok(())
         }
     }
@@ -203,10 +252,13 @@ fn read(
 
 /// The row that a session which ended before a place left.
 pub fn row_before(ends: &[usize], place: usize) -> usize {
-    ends.iter()
-        .filter(|end| **end <= place)
-        .count()
-        .saturating_sub(1)
+    let mut sessions = 0usize;
+    for end in ends {
+        if *end <= place {
+            sessions = sessions.saturating_add(1);
+        }
+    }
+    sessions.saturating_sub(1)
 }
 
 /// The calls in whose course a file is changed: every third, since a reading takes milliseconds.
@@ -243,18 +295,23 @@ fn places(disk: &Recorder) -> Range<usize> {
     disk.ends.first().copied().unwrap_or(0)..disk.contents.len()
 }
 
-#[test]
-fn a_file_that_stands_still(rt: HostRuntime) -> Result<(), Fail> {
-    let alloc = rt.alloc();
-    let disk = recorded(alloc)?;
+/// Reads each of the contents.
+fn read_each(rt: &impl Abort, alloc: Global, disk: &Recorder) -> Result<(), AllocError> {
     let mut tally = NONE;
-    let places = places(&disk);
+    let places = places(disk);
     let count = places.len() as u64;
     for place in places {
         let file = RecordedFile::new(&disk.contents, place, Course::To(place), 0);
-        read(&rt, alloc, file, row_before(&disk.ends, place), &mut tally)?;
+        read(rt, alloc, file, row_before(&disk.ends, place), &mut tally)?;
     }
     assert_eq!(rt; tally.answered, count);
+    Ok(())
+}
+
+#[test]
+fn a_file_that_stands_still(rt: HostRuntime) -> Result<(), Fail> {
+    let disk = recorded(rt.alloc())?;
+    read_each(&rt, rt.alloc(), &disk)?;
     Ok(())
 }
 
@@ -305,14 +362,36 @@ pub fn end_of(disk: &Recorder, session: usize) -> usize {
     disk.ends.get(session).copied().unwrap_or(0)
 }
 
-/// A content, and the same made longer by bytes that are no whole units.
-fn made_longer(alloc: Global, content: &[u8]) -> Result<Vec<Vec<u8>>, AllocError> {
+/// A content that is made longer by bytes that are no whole units.
+fn longer(alloc: Global, content: &[u8]) -> Result<Vec<u8>, AllocError> {
     let mut longer = content.to_vec(alloc)?;
     longer.extend_from_slice(&[0xA7; 700])?;
+    Ok(longer)
+}
+
+/// A content, and the same made longer.
+fn made_longer(alloc: Global, content: &[u8]) -> Result<Vec<Vec<u8>>, AllocError> {
     let mut contents = Vec::new(alloc);
     contents.push(content.to_vec(alloc)?)?;
-    contents.push(longer)?;
+    contents.push(longer(alloc, content)?)?;
     Ok(contents)
+}
+
+/// Reads the first of two contents, which goes on to the second in the course of one call after
+/// another.
+fn read_beside_second(
+    rt: &impl Abort,
+    alloc: Global,
+    contents: &[Vec<u8>],
+    least: usize,
+    tally: &mut Tally,
+) -> Result<(), AllocError> {
+    let calls = tally.calls;
+    for left in 0..calls {
+        let file = RecordedFile::new(contents, 0, Course::To(1), left);
+        read(rt, alloc, file, least, tally)?;
+    }
+    Ok(())
 }
 
 /// Reads what a session left, which is made longer in the course of one call after another, and
@@ -327,24 +406,23 @@ fn read_made_longer(
     let Some(content) = disk.contents.get(end) else {
         return Ok(0);
     };
-    let contents = made_longer(alloc, content)?;
-    let least = row_before(&disk.ends, end);
     let calls = calls_of(rt, alloc, disk, end)?;
-    for left in 0..calls {
-        let file = RecordedFile::new(&contents, 0, Course::To(1), left);
-        read(rt, alloc, file, least, tally)?;
-    }
+    tally.calls = calls;
+    let contents = made_longer(alloc, content)?;
+    read_beside_second(rt, alloc, &contents, row_before(&disk.ends, end), tally)?;
     Ok(calls)
 }
 
-#[test]
-fn a_file_that_is_made_longer(rt: HostRuntime) -> Result<(), Fail> {
-    let alloc = rt.alloc();
-    let disk = recorded(alloc)?;
+/// Reads what each session left so: all is answered each time.
+fn read_each_made_longer(
+    rt: &impl Abort,
+    alloc: Global,
+    disk: &Recorder,
+) -> Result<(), AllocError> {
     let mut tally = NONE;
     let mut readings = 0u64;
     for end in &disk.ends {
-        let count = read_made_longer(&rt, alloc, &disk, *end, &mut tally)?;
+        let count = read_made_longer(rt, alloc, disk, *end, &mut tally)?;
         readings = readings.saturating_add(count);
     }
     assert!(rt; readings > 0);
@@ -352,64 +430,92 @@ fn a_file_that_is_made_longer(rt: HostRuntime) -> Result<(), Fail> {
     Ok(())
 }
 
-// The gate that is shown stays open beside one replacement, so no snapshot is outdated. An opening whose
-// first look meets the spare half as that is written may be told to begin again.
 #[test]
-fn beside_one_commit(rt: HostRuntime) -> Result<(), Fail> {
-    let alloc = rt.alloc();
-    let disk = recorded(alloc)?;
-    let (start, end) = (end_of(&disk, 0), end_of(&disk, 1));
-    let tally = leap(&rt, alloc, &disk, up_to(start, start), behind(start, end))?;
+fn a_file_that_is_made_longer(rt: HostRuntime) -> Result<(), Fail> {
+    let disk = recorded(rt.alloc())?;
+    read_each_made_longer(&rt, rt.alloc(), &disk)?;
+    Ok(())
+}
+
+/// Reads beside leaps from the end of the first session into the second: none is outdated.
+fn leap_into_one_commit(rt: &impl Abort, alloc: Global, disk: &Recorder) -> Result<(), AllocError> {
+    let (start, end) = (end_of(disk, 0), end_of(disk, 1));
+    let tally = leap(rt, alloc, disk, up_to(start, start), behind(start, end))?;
     assert!(rt; tally.answered > 0);
     assert_eq!(rt; tally.outdated, 0);
     Ok(())
 }
 
+// The gate that is shown stays open beside one replacement, so no snapshot is outdated. An opening whose
+// first look meets the spare half as that is written may be told to begin again.
+#[test]
+fn beside_one_commit(rt: HostRuntime) -> Result<(), Fail> {
+    let disk = recorded(rt.alloc())?;
+    leap_into_one_commit(&rt, rt.alloc(), &disk)?;
+    Ok(())
+}
+
+/// Reads beside leaps over more than one replacement: some of it is outdated.
+fn leap_far(
+    rt: &impl Abort,
+    alloc: Global,
+    disk: &Recorder,
+    starts: Range<usize>,
+    ends: Range<usize>,
+) -> Result<(), AllocError> {
+    let tally = leap(rt, alloc, disk, starts, ends)?;
+    assert!(rt; tally.answered > 0 && tally.outdated > 0);
+    Ok(())
+}
+
 #[test]
 fn beside_two_replacements(rt: HostRuntime) -> Result<(), Fail> {
-    let alloc = rt.alloc();
-    let disk = recorded(alloc)?;
-    let (start, second, third) = (end_of(&disk, 0), end_of(&disk, 1), end_of(&disk, 2));
-    let tally = leap(
-        &rt,
-        alloc,
-        &disk,
-        up_to(start, start),
-        behind(second, third),
-    )?;
-    assert!(rt; tally.answered > 0 && tally.outdated > 0);
+    let disk = recorded(rt.alloc())?;
+    let start = end_of(&disk, 0);
+    let ends = behind(end_of(&disk, 1), end_of(&disk, 2));
+    leap_far(&rt, rt.alloc(), &disk, up_to(start, start), ends)?;
     Ok(())
 }
 
 #[test]
 fn opened_amid_a_commit(rt: HostRuntime) -> Result<(), Fail> {
-    let alloc = rt.alloc();
-    let disk = recorded(alloc)?;
-    let (start, second, third) = (end_of(&disk, 0), end_of(&disk, 1), end_of(&disk, 2));
-    let tally = leap(
-        &rt,
-        alloc,
-        &disk,
-        start.saturating_add(1)..second,
-        up_to(third, third),
-    )?;
-    assert!(rt; tally.answered > 0 && tally.outdated > 0);
+    let disk = recorded(rt.alloc())?;
+    let starts = end_of(&disk, 0).saturating_add(1)..end_of(&disk, 1);
+    let third = end_of(&disk, 2);
+    leap_far(&rt, rt.alloc(), &disk, starts, up_to(third, third))?;
+    Ok(())
+}
+
+/// Reads beside a writer that goes on by so many contents a call, from the end of each session.
+fn read_beside_writer(
+    rt: &impl Abort,
+    alloc: Global,
+    disk: &Recorder,
+    count: usize,
+    tally: &mut Tally,
+) -> Result<(), AllocError> {
+    for start in &disk.ends {
+        tally.calls = calls_of(rt, alloc, disk, *start)?;
+        read_after_calls(rt, alloc, disk, *start, Course::By(count), tally)?;
+    }
+    Ok(())
+}
+
+/// Reads beside writers of each speed.
+fn read_beside_writers(rt: &impl Abort, alloc: Global, disk: &Recorder) -> Result<(), AllocError> {
+    let mut tally = NONE;
+    for count in [1, 3, 12] {
+        read_beside_writer(rt, alloc, disk, count, &mut tally)?;
+    }
+    assert!(rt; tally.answered > 0);
+    assert!(rt; tally.outdated > 0);
+    assert!(rt; tally.not_opened > 0);
     Ok(())
 }
 
 #[test]
 fn beside_a_quick_writer(rt: HostRuntime) -> Result<(), Fail> {
-    let alloc = rt.alloc();
-    let disk = recorded(alloc)?;
-    let mut tally = NONE;
-    for count in [1, 3, 12] {
-        for start in &disk.ends {
-            tally.calls = calls_of(&rt, alloc, &disk, *start)?;
-            read_after_calls(&rt, alloc, &disk, *start, Course::By(count), &mut tally)?;
-        }
-    }
-    assert!(rt; tally.answered > 0);
-    assert!(rt; tally.outdated > 0);
-    assert!(rt; tally.not_opened > 0);
+    let disk = recorded(rt.alloc())?;
+    read_beside_writers(&rt, rt.alloc(), &disk)?;
     Ok(())
 }

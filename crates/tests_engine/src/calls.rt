@@ -53,6 +53,27 @@ pub fn store_on_pages(alloc: Global, pages: usize) -> Result<Store<PageCache<Mem
     store_on(alloc, PageCache::new(alloc, new_disk(alloc)?, pages), 2)
 }
 
+/// A reply without its line feed.
+fn line_of(reply: &[u8]) -> &str {
+    match str::from_utf8(reply) {
+        Ok(reply) => reply.strip_suffix("\n").unwrap_or("no line"),
+        Err(_) => "no text",
+    }
+}
+
+/// What the shell answers a line with its line feed, which it gets alone.
+fn told_whole<D: Disk>(
+    alloc: Global,
+    store: &mut Store<D>,
+    mut line: &[u8],
+) -> Result<String, AllocError> {
+    let mut output = Vec::new(alloc);
+    match serve(alloc, &mut line, &mut output, store) {
+        Ok(_) => String::from_str(alloc, line_of(&output)),
+        Err(_) => String::from_str(alloc, "the shell failed"),
+    }
+}
+
 /// What the shell answers a line, which it gets alone.
 pub fn told<D: Disk>(
     alloc: Global,
@@ -61,15 +82,7 @@ pub fn told<D: Disk>(
 ) -> Result<String, AllocError> {
     let mut input = String::from_str(alloc, line)?;
     input.push_str("\n")?;
-    let mut reader = input.as_bytes();
-    let mut output = Vec::new(alloc);
-    if serve(alloc, &mut reader, &mut output, store).is_err() {
-        return String::from_str(alloc, "the shell failed");
-    }
-    match str::from_utf8(&output) {
-        Ok(reply) => String::from_str(alloc, reply.strip_suffix("\n").unwrap_or("no line")),
-        Err(_) => String::from_str(alloc, "no text"),
-    }
+    told_whole(alloc, store, input.as_bytes())
 }
 
 /// What is counted in a new store.
@@ -78,22 +91,31 @@ const NEW: Counts = Counts {
     next: 1,
 };
 
-/// A list of commands.
+/// The command at a place of a list.
+fn command(alloc: Global, place: usize) -> Result<Command, AllocError> {
+    Ok(match place {
+        0 => Command::Add(String::from_str(alloc, "a")?),
+        1 => Command::Commit,
+        2 => Command::Find(Query::Term(String::from_str(alloc, "a")?)),
+        3 => Command::Show(DocNo(1)),
+        4 => Command::Count,
+        5 => Command::Delete(DocNo(2)),
+        6 => Command::Delete(DocNo(1)),
+        7 => Command::Merge,
+        _ => Command::Tidy,
+    })
+}
+
+/// How many there are.
+const COMMANDS: usize = 9;
+
+/// The list of commands.
 fn commands(alloc: Global) -> Result<Vec<Command>, AllocError> {
-    let text = String::from_str(alloc, "a")?;
-    let word = String::from_str(alloc, "a")?;
-    let commands = [
-        Command::Add(text),
-        Command::Commit,
-        Command::Find(Query::Term(word)),
-        Command::Show(DocNo(1)),
-        Command::Count,
-        Command::Delete(DocNo(2)),
-        Command::Delete(DocNo(1)),
-        Command::Merge,
-        Command::Tidy,
-    ];
-    Ok(Vec::from_array(alloc, commands)?)
+    let mut commands = Vec::with_capacity(alloc, COMMANDS)?;
+    for place in 0..COMMANDS {
+        commands.push(command(alloc, place)?)?;
+    }
+    Ok(commands)
 }
 
 /// Whether this is the reply to the command at a place of that list.
@@ -111,13 +133,18 @@ fn is_reply_to(place: usize, reply: &Reply) -> bool {
     }
 }
 
-/// Runs the list of commands.
-fn run_list<D: Disk>(rt: &impl Abort, alloc: Global, store: &mut Store<D>) -> Result<(), Fail> {
-    let replies = store.run(alloc, &commands(alloc)?)?;
-    assert_eq!(rt; replies.len(), 9);
+/// The list had all its replies.
+fn check_replies(rt: &impl Abort, replies: &[Reply]) {
+    assert_eq!(rt; replies.len(), COMMANDS);
     for (place, reply) in replies.iter().enumerate() {
         assert!(rt; is_reply_to(place, reply), "reply {place}");
     }
+}
+
+/// Runs the list of commands.
+fn run_list<D: Disk>(rt: &impl Abort, alloc: Global, store: &mut Store<D>) -> Result<(), Fail> {
+    let commands = commands(alloc)?;
+    check_replies(rt, &store.run(alloc, &commands)?);
     Ok(())
 }
 
@@ -145,16 +172,34 @@ fn is_short(reply: &Reply, behind: &[Reply]) -> bool {
 
 /// Runs the list on a new store, and answers whether memory was there for all. Where there was none
 /// for the replies, no command was carried out.
-fn is_run_in_full(rt: &impl Abort, alloc: Global) -> bool {
-    let (Ok(commands), Some(mut store)) = (commands(alloc), store_if_memory(alloc, 1)) else {
-        return false;
-    };
-    match store.run(alloc, &commands) {
+fn is_run_by(
+    rt: &impl Abort,
+    alloc: Global,
+    store: &mut Store<MemoryDisk>,
+    commands: &[Command],
+) -> bool {
+    match store.run(alloc, commands) {
         Ok(replies) => are_replies(rt, &replies),
         Err(_) => {
             assert!(rt; store.counts() == Ok(NEW));
             false
         }
+    }
+}
+
+/// Does so where there is memory for the store.
+fn is_run(rt: &impl Abort, alloc: Global, commands: &[Command]) -> bool {
+    match store_if_memory(alloc, 1) {
+        Some(mut store) => is_run_by(rt, alloc, &mut store, commands),
+        None => false,
+    }
+}
+
+/// Does so where there is memory for the list, too.
+fn is_run_in_full(rt: &impl Abort, alloc: Global) -> bool {
+    match commands(alloc) {
+        Ok(commands) => is_run(rt, alloc, &commands),
+        Err(_) => false,
     }
 }
 

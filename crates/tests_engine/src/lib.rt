@@ -8,8 +8,6 @@
 #[cfg(test)]
 mod beside;
 #[cfg(test)]
-mod buffer;
-#[cfg(test)]
 mod calls;
 #[cfg(test)]
 mod lying;

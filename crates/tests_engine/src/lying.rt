@@ -167,23 +167,32 @@ fn count_stores(rt: &impl Abort, alloc: Global, bytes: &[u8]) -> Result<u32, Fai
     Ok(stores)
 }
 
+/// Of lossy disks with the bytes of a store, but for gate A, one has a store.
+fn give_lossy_disks(rt: &impl Abort, alloc: Global, bytes: &mut [u8]) -> Result<(), Fail> {
+    assert!(rt; bytes.len() == 32_768);
+    bytes[0] = 0xFD;
+    assert!(rt; count_stores(rt, alloc, bytes)? > 0);
+    Ok(())
+}
+
 // A lossy disk changes a byte of each read, so that gate A is read as open where it is FD. The
 // store opens where a byte of a number was changed, which comes once in 400 times.
 #[test]
 fn a_lossy_disk_is_answered(rt: HostRuntime) -> Result<(), Fail> {
-    let alloc = rt.alloc();
-    let mut bytes = new_store(alloc)?.close().into_bytes();
-    assert!(rt; bytes.len() == 32_768);
-    bytes[0] = 0xFD;
-    assert!(rt; count_stores(&rt, alloc, &bytes)? > 0);
-    Ok(())
+    let mut bytes = new_store(rt.alloc())?.close().into_bytes();
+    give_lossy_disks(&rt, rt.alloc(), &mut bytes)
+}
+
+/// Commits a document.
+fn commit_document(rt: &impl Abort, alloc: Global, store: &mut Store<MemoryDisk>) {
+    assert_eq!(rt; store.add(alloc, "x y"), Ok(DocNo(1)));
+    assert_eq!(rt; store.commit(alloc), Ok(()));
 }
 
 /// The disk of a store with one document.
 fn with_document(rt: &impl Abort, alloc: Global) -> Result<MemoryDisk, Fail> {
     let mut store = new_store(alloc)?;
-    assert_eq!(rt; store.add(alloc, "x y"), Ok(DocNo(1)));
-    assert_eq!(rt; store.commit(alloc), Ok(()));
+    commit_document(rt, alloc, &mut store);
     Ok(store.close())
 }
 

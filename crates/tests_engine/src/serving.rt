@@ -74,9 +74,11 @@ fn with_room(alloc: Global, room: usize, fails: bool) -> Narrow {
     }
 }
 
-/// Whole inputs, what is written for them, and the end. Nothing behind a `quit` is answered, and a
-/// last line needs no line feed.
-static INPUTS: [(&[u8], &str, Ended); 6] = [
+/// A whole input, what is written for it, and the end.
+type Input = (&'static [u8], &'static str, Ended);
+
+/// Nothing behind a `quit` is answered, and a last line needs no line feed.
+static INPUTS: [Input; 6] = [
     (b"add x\nquit\ncount\n", "added 1\nbye\n", Ended::Quit),
     (b"count\nquit", "count 0 next 1\nbye\n", Ended::Quit),
     (b"count", "count 0 next 1\n", Ended::InputEnd),
@@ -148,28 +150,41 @@ fn is_answered_by_pages(
     Ok(is_answered_by(alloc, bytes, replies, Ok(end), &mut store))
 }
 
+/// An input is answered so by stores of each kind.
+fn answer_by_each(rt: &impl Abort, alloc: Global, input: &Input) -> Result<(), Fail> {
+    let (bytes, replies, end) = *input;
+    for blocks in BLOCKS {
+        assert!(rt;
+            is_answered_by_blocks(alloc, bytes, replies, end, blocks)?,
+            "{replies}"
+        );
+    }
+    for pages in PAGES {
+        assert!(rt;
+            is_answered_by_pages(alloc, bytes, replies, end, pages)?,
+            "{replies}"
+        );
+    }
+    Ok(())
+}
+
+/// An input is answered so where it comes byte by byte.
+fn answer_pieces(rt: &impl Abort, alloc: Global, input: &Input) -> Result<(), Fail> {
+    let (bytes, replies, end) = *input;
+    let pieces = ByteByByte {
+        bytes,
+        fails: false,
+    };
+    assert!(rt; is_answered(alloc, pieces, replies, Ok(end))?, "{replies}");
+    Ok(())
+}
+
 // The cuts of the reader don't matter.
 #[test]
 fn whole_inputs_are_answered(rt: HostRuntime) -> Result<(), Fail> {
-    let alloc = rt.alloc();
-    for (bytes, replies, end) in &INPUTS {
-        for blocks in BLOCKS {
-            assert!(rt;
-                is_answered_by_blocks(alloc, bytes, replies, *end, blocks)?,
-                "{replies}"
-            );
-        }
-        for pages in PAGES {
-            assert!(rt;
-                is_answered_by_pages(alloc, bytes, replies, *end, pages)?,
-                "{replies}"
-            );
-        }
-        let pieces = ByteByByte {
-            bytes,
-            fails: false,
-        };
-        assert!(rt; is_answered(alloc, pieces, replies, Ok(*end))?, "{replies}");
+    for input in &INPUTS {
+        answer_by_each(&rt, rt.alloc(), input)?;
+        answer_pieces(&rt, rt.alloc(), input)?;
     }
     Ok(())
 }
@@ -206,13 +221,17 @@ fn a_read_that_fails_ends_the_session(rt: HostRuntime) -> Result<(), Fail> {
 }
 
 /// Whether a session with output that takes five bytes ends when it is to write the sixth.
-fn is_cut(alloc: Global, fails: bool) -> Result<bool, Fail> {
-    let mut store = new_store(alloc)?;
+fn ends_at_sixth(alloc: Global, store: &mut Store<MemoryDisk>, fails: bool) -> bool {
     let mut input = b"count\ncount\n".as_slice();
     let mut output = with_room(alloc, 5, fails);
-    let end = serve(alloc, &mut input, &mut output, &mut store);
+    let end = serve(alloc, &mut input, &mut output, store);
     let taken = output.taken.as_slice();
-    Ok(end == Err(ShellFault::Output) && taken == b"count".as_slice() && output.calls == 2)
+    end == Err(ShellFault::Output) && taken == b"count".as_slice() && output.calls == 2
+}
+
+/// Whether it does with a new store.
+fn is_cut(alloc: Global, fails: bool) -> Result<bool, Fail> {
+    Ok(ends_at_sixth(alloc, &mut new_store(alloc)?, fails))
 }
 
 #[test]

@@ -6,9 +6,9 @@ use crate::beside::{end_of, recorded, row_before};
 use crate::recorder::Recorder;
 use pk_changingfile::{Course, RecordedFile};
 use pk_reader::{Caches, Open, Reader, Waits};
-use pk_shell::{Ended, serve_engine};
+use pk_shell::{Ended, Engine, serve_engine};
 use pk_store::OpenFault;
-use std::alloc::{AllocError, Global};
+use std::alloc::Global;
 use std::process::Abort;
 use std::test::Fail;
 
@@ -48,28 +48,16 @@ impl Waits for Counted {
     }
 }
 
-/// What a session writes over a file, or why it didn't begin.
-fn session_over<T: Abort>(
-    rt: &T,
-    alloc: Global,
-    file: RecordedFile<'_>,
-) -> Result<Result<Vec<u8>, OpenFault>, AllocError> {
+/// A reader over a file in memory.
+type CountingReader<'a> = Reader<Open<RecordedFile<'a>>, Counted>;
+
+/// A reader over a file, or why there is none.
+fn reader_over(alloc: Global, file: RecordedFile<'_>) -> Result<CountingReader<'_>, OpenFault> {
     let caches = Caches {
         pages: 64,
         blocks: 4,
     };
-    let clock = Counted { millis: 0 };
-    let mut reader = match Reader::<Open<RecordedFile<'_>>, Counted>::open(
-        alloc, file, caches, clock,
-    ) {
-        Ok(reader) => reader,
-        Err(why) => return Ok(Err(why)),
-    };
-    let mut input = LINES.as_bytes();
-    let mut output = Vec::new(alloc);
-    let ended = serve_engine(alloc, &mut input, &mut output, &mut reader);
-    assert!(rt; ended == Ok(Ended::Quit));
-    Ok(Ok(output))
+    CountingReader::open(alloc, file, caches, Counted { millis: 0 })
 }
 
 /// The first session from `least` on after which a question is answered so.
@@ -105,64 +93,94 @@ fn is_right(written: &[u8], least: usize) -> bool {
     rest == REST.as_bytes()
 }
 
+/// Whether a session with a reader ends by its `quit`, and what it wrote is right.
+fn is_answered<E: Engine>(alloc: Global, reader: &mut E, least: usize) -> bool {
+    let mut input = LINES.as_bytes();
+    let mut output = Vec::new(alloc);
+    let ended = serve_engine(alloc, &mut input, &mut output, reader);
+    ended == Ok(Ended::Quit) && is_right(&output, least)
+}
+
+/// Whether a session over a file is answered so, or why it didn't begin.
+fn session_over(alloc: Global, file: RecordedFile<'_>, least: usize) -> Result<bool, OpenFault> {
+    match reader_over(alloc, file) {
+        Ok(mut reader) => Ok(is_answered(alloc, &mut reader, least)),
+        Err(why) => Err(why),
+    }
+}
+
+/// A session over the content that each session of the writer left.
+fn read_each_end(rt: &impl Abort, alloc: Global, disk: &Recorder) {
+    for session in 0..4 {
+        let place = end_of(disk, session);
+        let file = RecordedFile::new(&disk.contents, place, Course::To(place), 0);
+        assert!(rt; session_over(alloc, file, session) == Ok(true));
+    }
+}
+
 #[test]
 fn over_a_file_that_stands_still(rt: HostRuntime) -> Result<(), Fail> {
-    let alloc = rt.alloc();
-    let disk = recorded(alloc)?;
-    for session in 0..4 {
-        let place = end_of(&disk, session);
-        let file = RecordedFile::new(&disk.contents, place, Course::To(place), 0);
-        match session_over(&rt, alloc, file)? {
-            Ok(written) => assert!(&rt; is_right(&written, session)),
-            Err(_) => assert!(&rt; false),
-        }
-    }
+    let disk = recorded(rt.alloc())?;
+    read_each_end(&rt, rt.alloc(), &disk);
     Ok(())
 }
 
 /// The most calls that a session over these files makes, before which a leap may come.
 const MOST_CALLS: u64 = 150;
 
+/// Sessions beside a leap to a content, before one of their calls after another.
+fn read_beside_leap(rt: &impl Abort, alloc: Global, disk: &Recorder, end: usize) {
+    let start = end_of(disk, 0);
+    for left in 0..MOST_CALLS {
+        let file = RecordedFile::new(&disk.contents, start, Course::To(end), left);
+        assert!(rt; session_over(alloc, file, 0) == Ok(true));
+    }
+}
+
+/// Sessions beside a leap to the next content, and to those that the later sessions left.
+fn read_beside_leaps(rt: &impl Abort, alloc: Global, disk: &Recorder) {
+    read_beside_leap(rt, alloc, disk, end_of(disk, 0).saturating_add(1));
+    for session in 1..4 {
+        read_beside_leap(rt, alloc, disk, end_of(disk, session));
+    }
+}
+
 // After one leap the file stands still, so no opening is in vain twice.
 #[test]
 fn beside_one_leap(rt: HostRuntime) -> Result<(), Fail> {
-    let alloc = rt.alloc();
-    let disk = recorded(alloc)?;
-    let start = end_of(&disk, 0);
-    for end in [
-        start.saturating_add(1),
-        end_of(&disk, 1),
-        end_of(&disk, 2),
-        end_of(&disk, 3),
-    ] {
-        for left in 0..MOST_CALLS {
-            let file = RecordedFile::new(&disk.contents, start, Course::To(end), left);
-            match session_over(&rt, alloc, file)? {
-                Ok(written) => assert!(&rt; is_right(&written, 0)),
-                Err(_) => assert!(&rt; false),
-            }
+    let disk = recorded(rt.alloc())?;
+    read_beside_leaps(&rt, rt.alloc(), &disk);
+    Ok(())
+}
+
+/// Whether a session was answered, or no store was opened since both gates were seen shut.
+fn is_answered_or_shut(session: Result<bool, OpenFault>) -> bool {
+    session == Ok(true) || session == Err(OpenFault::NotAStore)
+}
+
+/// Sessions beside a writer that goes on from a content by so many a call.
+fn read_beside_writer(rt: &impl Abort, alloc: Global, disk: &Recorder, start: usize, count: usize) {
+    let least = row_before(&disk.ends, start);
+    for left in (0..MOST_CALLS).step_by(7) {
+        let file = RecordedFile::new(&disk.contents, start, Course::By(count), left);
+        assert!(rt; is_answered_or_shut(session_over(alloc, file, least)));
+    }
+}
+
+/// Sessions beside writers of each speed, from the end of each session.
+fn read_beside_writers(rt: &impl Abort, alloc: Global, disk: &Recorder) {
+    for count in [1, 3, 12] {
+        for start in &disk.ends {
+            read_beside_writer(rt, alloc, disk, *start, count);
         }
     }
-    Ok(())
 }
 
 // A session that would begin anew for ever keeps the writer away. So each line is answered. At first it
 // may see both gates shut, one after the other, each of eight times.
 #[test]
 fn beside_a_writer_that_goes_on(rt: HostRuntime) -> Result<(), Fail> {
-    let alloc = rt.alloc();
-    let disk = recorded(alloc)?;
-    for count in [1, 3, 12] {
-        for start in disk.ends.iter() {
-            for left in (0..MOST_CALLS).step_by(7) {
-                let file = RecordedFile::new(&disk.contents, *start, Course::By(count), left);
-                let least = row_before(&disk.ends, *start);
-                match session_over(&rt, alloc, file)? {
-                    Ok(written) => assert!(&rt; is_right(&written, least)),
-                    Err(why) => assert!(&rt; why == OpenFault::NotAStore),
-                }
-            }
-        }
-    }
+    let disk = recorded(rt.alloc())?;
+    read_beside_writers(&rt, rt.alloc(), &disk);
     Ok(())
 }
