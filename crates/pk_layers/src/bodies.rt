@@ -372,6 +372,50 @@ fn replace_by_both(
     replace_or_again(disk, spare, writer, second, body)
 }
 
+/// Puts the kept bytes of a body in force, on a disk that has none.
+fn establish_kept(disk: &mut Tried, body: &[u8]) -> Result<(), Fault>
+    requires { bodies_end ≤ length (⟦<Tried as Disk>⟧.content disk.old) }
+{
+    if body.len() != BODY_SIZE {
+        return Err(NO_BODY);
+    }
+    Ok(establish(disk, body)?)
+}
+
+/// Changes what is in force, as a line asks.
+fn change(
+    alloc: Global,
+    disk: &mut Tried,
+    bodies: &Bodies,
+    name: &str,
+    words: &mut Words<'_>,
+) -> Result<(), Fault>
+    requires { bodies_end ≤ length (⟦<Tried as Disk>⟧.content disk.old) }
+{
+    match name {
+        "install" => put_in_force(alloc, disk, &bodies.manifest, half(words)),
+        "establish" => establish_kept(disk, &bodies.body),
+        "replace" => replace_by_pieces(alloc, disk, &bodies.body, words),
+        "copy" => replace_by_copy(alloc, disk, &bodies.body, words),
+        "follow" => replace_by_both(alloc, disk, &bodies.body, words),
+        _ => Err(Fault("no such line")),
+    }
+}
+
+/// Tells the generation behind that of a manifest.
+fn tell_next(manifest: &Manifest, told: &mut Told) -> Result<(), Fault> {
+    told.number(manifest.next_generation()?);
+    Ok(())
+}
+
+/// Tells whether the gate of a half is open.
+fn tell_gate(disk: &mut Tried, words: &mut Words<'_>, told: &mut Told) -> Result<(), Fault>
+    requires { bodies_end ≤ length (⟦<Tried as Disk>⟧.content disk.old) }
+{
+    told.truth(gate_open(disk, half(words))?);
+    Ok(())
+}
+
 /// Tells what is asked of bodies on a disk.
 pub(crate) fn tell_body(
     alloc: Global,
@@ -385,23 +429,14 @@ pub(crate) fn tell_body(
         return Err(Fault("no bodies"));
     }
     match name {
-        "manifest" => return tell_spelled(alloc, bodies, words, told),
-        "current" => return tell_current(alloc, disk, told),
-        "next" => {
-            told.number(bodies.manifest.next_generation()?);
-            return Ok(());
+        "manifest" => tell_spelled(alloc, bodies, words, told),
+        "current" => tell_current(alloc, disk, told),
+        "next" => tell_next(&bodies.manifest, told),
+        "gate" => tell_gate(disk, words, told),
+        _ => {
+            change(alloc, disk, bodies, name, words)?;
+            told.word("ok");
+            Ok(())
         }
-        "gate" => {
-            told.truth(gate_open(disk, half(words))?);
-            return Ok(());
-        }
-        "install" => put_in_force(alloc, disk, &bodies.manifest, half(words))?,
-        "establish" if bodies.body.len() == BODY_SIZE => establish(disk, &bodies.body)?,
-        "replace" => replace_by_pieces(alloc, disk, &bodies.body, words)?,
-        "copy" => replace_by_copy(alloc, disk, &bodies.body, words)?,
-        "follow" => replace_by_both(alloc, disk, &bodies.body, words)?,
-        _ => return Err(Fault("no such line")),
     }
-    told.word("ok");
-    Ok(())
 }

@@ -84,21 +84,22 @@ impl Layers {
     /// Reads what was taken, where that is asked.
     fn read(&mut self, name: &str, words: &mut Words<'_>, told: &mut Told) -> Result<bool, Fault> {
         let source = &self.source;
-        match name {
-            "walk" => tell_walk(source, words, told)?,
-            "blocks" => tell_blocks(self.alloc, source, &self.other, words, told)?,
-            "look" => tell_looked_up(self.alloc, source, words, told)?,
-            "prefix" => tell_prefix(self.alloc, source, words, told)?,
-            "window" => tell_windows(source, words, told)?,
+        let answer = match name {
+            "walk" => tell_walk(source, words, told),
+            "blocks" => tell_blocks(self.alloc, source, &self.other, words, told),
+            "look" => tell_looked_up(self.alloc, source, words, told),
+            "prefix" => tell_prefix(self.alloc, source, words, told),
+            "window" => tell_windows(source, words, told),
             "look-in"
             | "near-in"
             | "prefix-in"
             | "passed-in"
             | "look-windows"
             | "near-windows"
-            | "prefix-windows" => tell_in(name, source, &mut self.pivots, words, told)?,
+            | "prefix-windows" => tell_in(name, source, &mut self.pivots, words, told),
             _ => return Ok(false),
-        }
+        };
+        answer?;
         Ok(true)
     }
 }
@@ -111,58 +112,61 @@ fn tell_list(
     words: &mut Words<'_>,
     told: &mut Told,
 ) -> Result<bool, Fault> {
-    match name {
-        "encode" => tell_encoded(alloc, words, told)?,
-        "into" => tell_put_into(alloc, words, told)?,
-        "decode" => tell_decoded(alloc, words, told)?,
-        "shape" => tell_shape(words, told)?,
-        "skip" => tell_skip(words, told)?,
-        "lend" => tell_lent(words, told)?,
-        "dead" => tell_dead(alloc, words, told)?,
-        "alive" => tell_read(alloc, words, told)?,
-        "sets" => tell_sets(alloc, words, told)?,
-        "build" => tell_built(alloc, words, told)?,
-        "choose" => tell_chosen(words, told)?,
-        "dict" => tell_written(alloc, words, told)?,
+    let answer = match name {
+        "encode" => tell_encoded(alloc, words, told),
+        "into" => tell_put_into(alloc, words, told),
+        "decode" => tell_decoded(alloc, words, told),
+        "shape" => tell_shape(words, told),
+        "skip" => tell_skip(words, told),
+        "lend" => tell_lent(words, told),
+        "dead" => tell_dead(alloc, words, told),
+        "alive" => tell_read(alloc, words, told),
+        "sets" => tell_sets(alloc, words, told),
+        "build" => tell_built(alloc, words, told),
+        "choose" => tell_chosen(words, told),
+        "dict" => tell_written(alloc, words, told),
         _ => return Ok(false),
-    }
+    };
+    answer?;
     Ok(true)
 }
 
 /// The same of a number, a key or a block.
 fn tell_number(name: &str, words: &mut Words<'_>, told: &mut Told) -> Result<bool, Fault> {
-    match name {
-        "put" => tell_put(words, told)?,
-        "take" => tell_taken(words, told)?,
-        "digits" => tell_digits(words, told)?,
-        "key" => tell_key(words, told)?,
-        "around" => tell_around(words, told)?,
-        "keep" => tell_kept(words, told)?,
-        "width" => tell_width(words, told)?,
-        "pack" => tell_packed(words, told)?,
-        "unpack" => tell_unpacked(words, told)?,
-        "sums" => tell_sums(words, told)?,
-        "differ" => tell_differences(words, told)?,
-        "restore" => tell_restored(words, told)?,
-        "ascending" => tell_ascending(words, told)?,
-        "rising" => tell_rising(words, told)?,
+    let answer = match name {
+        "put" => tell_put(words, told),
+        "take" => tell_taken(words, told),
+        "digits" => tell_digits(words, told),
+        "key" => tell_key(words, told),
+        "around" => tell_around(words, told),
+        "keep" => tell_kept(words, told),
+        "width" => tell_width(words, told),
+        "pack" => tell_packed(words, told),
+        "unpack" => tell_unpacked(words, told),
+        "sums" => tell_sums(words, told),
+        "differ" => tell_differences(words, told),
+        "restore" => tell_restored(words, told),
+        "ascending" => tell_ascending(words, told),
+        "rising" => tell_rising(words, told),
         _ => return Ok(false),
-    }
+    };
+    answer?;
     Ok(true)
 }
 
 /// The same of texts, queries and an index.
 fn tell_text(name: &str, words: &mut Words<'_>, told: &mut Told) -> Result<bool, Fault> {
-    match name {
-        "words" => tell_words(words, told)?,
-        "in-row" => tell_in_row(words, told)?,
-        "word-from" => tell_place(words, told)?,
-        "part" => tell_part(words, told)?,
-        "lower" | "fold" => tell_folded(name, words, told)?,
-        "read" => tell_parsed(words, told)?,
-        "plan" => tell_plan(words, told)?,
-        "index" => tell_index(*words, told)?,
+    let answer = match name {
+        "words" => tell_words(words, told),
+        "in-row" => tell_in_row(words, told),
+        "word-from" => tell_place(words, told),
+        "part" => tell_part(words, told),
+        "lower" | "fold" => tell_folded(name, words, told),
+        "read" => tell_parsed(words, told),
+        "plan" => tell_plan(words, told),
+        "index" => tell_index(*words, told),
         _ => return Ok(false),
-    }
+    };
+    answer?;
     Ok(true)
 }
