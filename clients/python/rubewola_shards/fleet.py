@@ -8,7 +8,7 @@ from concurrent.futures import ThreadPoolExecutor
 from contextlib import AbstractContextManager, suppress
 from typing import Any
 
-from distributed import Client, Future, Security
+from distributed import Actor, Client, Future, Security
 from rubewola import QueryRefused
 
 from .archive import Archive, Shard
@@ -16,10 +16,12 @@ from .faults import Missing
 from .session import NoAnswer, Session, Taken
 
 PAUSE = 0.05  # Seconds before a shard is asked again whose worker is lost.
+TURN = 1  # Seconds of a call, each time, until the scheduler is asked whether its worker is lost.
 # Seconds for an answer: to what is asked, to a batch of a load with its worker's return, and to
 # what goes through a whole store, where a worker is there in the time of a batch.
 ASKED, LOADED, WHOLE = 10, 60, 86_400
 WAITS = {"load": LOADED, "ask": WHOLE, "check": WHOLE}
+LOST = "its worker is lost"
 
 
 def security(archive: Archive) -> Security | None:
@@ -49,7 +51,7 @@ class Fleet(AbstractContextManager["Fleet"]):
             reason = f"no scheduler at {archive.scheduler}: {error}"
             raise Missing({shard.name: reason for shard in archive.shards}) from error
         self._futures = {shard: self._submitted(shard) for shard in archive.shards}
-        self._actors: dict[Shard, Any] = {}
+        self._actors: dict[Shard, tuple[str, Any]] = {}
         self._threads = ThreadPoolExecutor(len(self._futures))
 
     def __exit__(self, *_: object) -> None:
@@ -68,16 +70,36 @@ class Fleet(AbstractContextManager["Fleet"]):
         return self._client.submit(Session, shard.path, shard.identity, actor=True, pure=False,
                                    resources={shard.disk: 1}, key=_key(shard))
 
-    def _actor(self, shard: Shard, ends: float) -> Any:
-        future, actor = self._futures[shard], self._actors.get(shard)
-        if actor is not None and future.status == "finished":
-            return actor  # To ask the future for it would be one more way there and back.
+    def _actor(self, shard: Shard, ends: float) -> tuple[str, Any]:
+        """The address of the worker that has a shard's session, and the actor."""
+        future, placed = self._futures[shard], self._actors.get(shard)
+        if placed and future.status == "finished":
+            return placed  # To ask where it is would be one more way there and back.
+        sync, scheduler, key = self._client.sync, self._client.scheduler, future.key
         if future.status in ("error", "lost"):
-            future.retry()
+            # `future.retry` notes `pending` behind the answer, when the session may be there again.
+            sync(scheduler.retry, keys=[key], client=self._client.id, callback_timeout=_left(ends))
         if future.status == "cancelled":  # The scheduler is another.
             future = self._futures[shard] = self._submitted(shard)
-        actor = self._actors[shard] = future.result(timeout=_left(ends))
-        return actor
+        if error := future.exception(_left(ends)):
+            raise error
+        # `future.result` would connect to the worker, and not in turns.
+        workers = sync(scheduler.who_has, keys=[key], callback_timeout=_left(ends))[key]
+        if not workers:
+            raise LookupError(LOST)
+        placed = self._actors[shard] = workers[0], Actor(Session, workers[0], key)
+        return placed
+
+    def _answer(self, call: Any, worker: str, ends: float) -> Any:
+        """A call's answer, waited for in turns: Dask tries to reach a lost worker as long as a
+        scheduler. Where this one does not tell that it is lost, the call may be at work."""
+        while _left(ends) > TURN:
+            with suppress(TimeoutError):
+                return call.result(TURN)
+            with suppress(OSError):
+                if not self._client.nthreads([worker], callback_timeout=TURN):
+                    raise LookupError(LOST)
+        return call.result(_left(ends))
 
     def ask(self, shard: Shard, method: str, *given: Any) -> Any:
         """A shard's answer. A call whose worker is lost is made again."""
@@ -85,8 +107,8 @@ class Fleet(AbstractContextManager["Fleet"]):
         ends = time.monotonic() + wait
         while self._is_open and time.monotonic() < ends:
             try:
-                actor = self._actor(shard, min(ends, time.monotonic() + LOADED))
-                return getattr(actor, method)(*given).result(_left(ends))
+                worker, actor = self._actor(shard, min(ends, time.monotonic() + LOADED))
+                return self._answer(getattr(actor, method)(*given), worker, ends)
             except QueryRefused:
                 raise
             except Taken as error:

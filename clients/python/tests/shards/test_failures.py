@@ -83,24 +83,42 @@ class Searches(Shards):
         self.run_line("a: closed", "close")
 
     def test_a_worker_killed_while_it_is_asked(self):
-        from rubewola_shards import answers
-        from rubewola_shards.archive import Archive
-        from rubewola_shards.fleet import Fleet
-
         def kill_two():
             for _ in range(2):
                 time.sleep(0.3)
                 self.kill_worker("b")
 
         killer, told, ends = threading.Thread(target=kill_two), [], time.monotonic() + LONG
-        with Fleet(Archive.read(self.file), wait=LONG) as fleet:
+        with self.finder() as find:
             killer.start()
             while (killer.is_alive() or len(told) < 20) and time.monotonic() < ends:
-                told.append(answers.find(fleet, "line", 9, self.fail))
+                told.append(find())
             killer.join()
         wanted = [*range(self.LINES - 8, self.LINES + 1)]
         for found in told:
             self.assertEqual(found, (self.LINES, wanted))
+
+    def test_a_worker_killed_before_its_scheduler_knows(self):
+        scheduler = self.machines.processes["scheduler"].pid
+        goes_on = threading.Timer(1, os.kill, (scheduler, signal.SIGCONT))
+        with self.finder() as find:
+            before = find()
+            os.kill(scheduler, signal.SIGSTOP)
+            goes_on.start()
+            os.kill(self.machines.worker("b"), signal.SIGKILL)
+            time.sleep(0.5)  # The connection to the worker is closed by then.
+            self.assertEqual(find(), before)
+        goes_on.join()
+
+    @contextlib.contextmanager
+    def finder(self):
+        """A connection that finds the last nine lines, again and again."""
+        from rubewola_shards import answers
+        from rubewola_shards.archive import Archive
+        from rubewola_shards.fleet import Fleet
+
+        with Fleet(Archive.read(self.file), wait=LONG) as fleet:
+            yield lambda: answers.find(fleet, "line", 9, self.fail)
 
     def kill_worker(self, name):
         """Kills a worker, and waits until its nanny has started another."""
