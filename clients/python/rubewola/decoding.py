@@ -243,11 +243,11 @@ class Decoders:
         self._pool.shutdown(wait=not self._is_killed, cancel_futures=True)
 
     def _begin_anew(self) -> None:
-        """Takes other processes."""
-        self._kill()
-        self._shut_down()
+        """Takes other processes, unless another thread has ended these."""
         if self._is_ended:
             raise BrokenExecutor(ENDED)
+        self._kill()
+        self._shut_down()
         self._begin()
 
     def in_order(self, tasks: Iterable[Task]) -> Iterator[list[Entry]]:

@@ -5,6 +5,7 @@ from __future__ import annotations
 import pickle
 from concurrent.futures import Future, ThreadPoolExecutor
 from itertools import chain
+from multiprocessing.util import Finalize
 
 from rubewola.decoding import Decoders
 from rubewola.sources import Entry
@@ -19,6 +20,8 @@ class Decoder:
 
     def __init__(self) -> None:
         self._thread, self._decoders = ThreadPoolExecutor(1), list[Decoders]()
+        # A worker waits for its processes as it ends, and calls this before.
+        Finalize(self, _end_all, (self._thread, self._decoders), exitpriority=0)
         self._last: tuple[bytes, Future[list[Entry]]] = (b"", Future())
 
     def begun(self, packed: bytes) -> Future[list[Entry]]:
@@ -34,18 +37,27 @@ class Decoder:
     def end(self) -> None:
         """Ends the process, also in the midst of a batch."""
         self.forget()
-        while self._decoders:
-            self._decoders.pop().end()
+        _end(self._decoders)
+
+
+def _end(kept: list[Decoders]) -> None:
+    while kept:
+        kept.pop().end()
+
+
+def _end_all(thread: ThreadPoolExecutor, kept: list[Decoders]) -> None:
+    """Ends the process, and lets no batch begin another."""
+    thread.shutdown(wait=False, cancel_futures=True)
+    _end(kept)
 
 
 def _decoded(packed: bytes, kept: list[Decoders]) -> list[Entry]:
     """What packed tasks give, by the process that is kept, or by another."""
     tasks = pickle.loads(packed)
-    decoders = kept.pop() if kept else Decoders(1, START)
-    kept.append(decoders)
+    decoders = kept[0] if kept else Decoders(1, START)
+    kept[:] = [decoders]
     try:
         return [*chain.from_iterable(decoders.in_order(tasks))]
     except BaseException:
-        kept.clear()
-        decoders.end()
+        _end(kept)
         raise

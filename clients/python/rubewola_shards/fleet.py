@@ -17,6 +17,7 @@ from .session import NoAnswer, Session, Taken
 
 PAUSE = 0.05  # Seconds before a shard is asked again whose worker is lost.
 TURN = 1  # Seconds of a call, each time, until the scheduler is asked whether its worker is lost.
+KNOWN = 5  # Seconds in which a scheduler tells which workers it has.
 # Seconds for an answer: to what is asked, to a batch of a load with its worker's return, and to
 # what goes through a whole store, where a worker is there in the time of a batch.
 ASKED, LOADED, WHOLE = 10, 60, 86_400
@@ -106,8 +107,10 @@ class Fleet(AbstractContextManager["Fleet"]):
         wait, reason = self._wait or WAITS.get(method, ASKED), ""
         ends = time.monotonic() + wait
         while self._is_open and time.monotonic() < ends:
+            waited = min(wait, LOADED)
             try:
-                worker, actor = self._actor(shard, min(ends, time.monotonic() + LOADED))
+                worker, actor = self._actor(shard, min(ends, time.monotonic() + waited))
+                waited = wait
                 return self._answer(getattr(actor, method)(*given), worker, ends)
             except QueryRefused:
                 raise
@@ -116,7 +119,7 @@ class Fleet(AbstractContextManager["Fleet"]):
             except NoAnswer as error:
                 raise Missing({shard.name: str(error)}) from None
             except TimeoutError:
-                reason = reason or f"no answer in {min(wait, LOADED):g} s"
+                reason = reason or f"no answer in {waited:g} s"
                 break
             except Exception as error:  # The worker is lost, or the scheduler.
                 self._actors.pop(shard, None)
@@ -126,9 +129,10 @@ class Fleet(AbstractContextManager["Fleet"]):
 
     def _cause(self, shard: Shard) -> str:
         """What the scheduler knows of a shard that gives no answer."""
+        sync, scheduler = self._client.sync, self._client.scheduler
         try:
-            workers = self._client.scheduler_info()["workers"].values()
-        except Exception:  # Whatever it is, the scheduler was not asked.
+            workers = sync(scheduler.identity, callback_timeout=KNOWN)["workers"].values()
+        except Exception:  # Whatever it is, the scheduler did not tell.
             return f"no scheduler at {self.archive.scheduler}"
         has_worker = any(shard.disk in worker["resources"] for worker in workers)
         return "" if has_worker else f"no worker has {shard.disk}"

@@ -150,7 +150,6 @@ class Session:
     def __del__(self) -> None:
         # Else the program would go on and keep the store until this process ends.
         self._end()
-        self._decoder.end()
 
     @_in_turn
     def create(self, units: int) -> str:

@@ -1,5 +1,6 @@
-"""What an archive's user sees where a session, a worker, a machine, a scheduler or a loader dies, and
-that nothing that was acknowledged is lost: a test for each row of the table in docs/MACHINES.md."""
+"""What an archive's user sees where a session, a worker, a machine, a scheduler or a loader dies,
+and that nothing that was acknowledged is lost: a test for each row of the table in
+docs/MACHINES.md."""
 
 import contextlib
 import os
@@ -13,8 +14,9 @@ import unittest
 from pathlib import Path
 
 from rubewola import Store
+from rubewola_shards.faults import Missing
 
-from fleets import LONG, Shards, need_distributed
+from fleets import DISKS, LONG, Shards, need_distributed
 
 
 def setUpModule():
@@ -45,6 +47,19 @@ class Loads(Shards):
         loader.wait()
         told = self.run_line("^", "counts").stdout
         self.assertNotIn(f"complete to {self.LINES}", told)
+        self.load()
+        self.assert_whole()
+
+    def test_the_scheduler_killed(self):
+        self.make("abc")
+        loader, workers = self.start_load(), [self.machines.processes[name] for name in DISKS]
+        self.addCleanup(self.machines.settle)
+        self.machines.kill("scheduler")
+        for worker in workers:
+            worker.wait(LONG)  # Also one whose session decodes ends with its scheduler.
+        loader.kill()
+        loader.wait()
+        self.machines.settle()
         self.load()
         self.assert_whole()
 
@@ -111,13 +126,13 @@ class Searches(Shards):
         goes_on.join()
 
     @contextlib.contextmanager
-    def finder(self):
+    def finder(self, wait=LONG):
         """A connection that finds the last nine lines, again and again."""
         from rubewola_shards import answers
         from rubewola_shards.archive import Archive
         from rubewola_shards.fleet import Fleet
 
-        with Fleet(Archive.read(self.file), wait=LONG) as fleet:
+        with Fleet(Archive.read(self.file), wait) as fleet:
             yield lambda: answers.find(fleet, "line", 9, self.fail)
 
     def kill_worker(self, name):
@@ -174,6 +189,23 @@ class Searches(Shards):
                       "search", "--partial", "line", status=2)
         self.machines.settle()
         self.assert_whole()
+
+    def test_a_scheduler_that_stands_still(self):
+        scheduler = self.machines.processes["scheduler"].pid
+        goes_on = threading.Timer(20, os.kill, (scheduler, signal.SIGCONT))
+        with self.finder(wait=6) as find:
+            before = find()
+            os.kill(scheduler, signal.SIGSTOP)
+            goes_on.start()
+            try:
+                os.kill(self.machines.worker("b"), signal.SIGKILL)
+                told = rf"missing: .*\bb .no scheduler at {self.machines.address}"
+                self.assertRaisesRegex(Missing, told, find)
+            finally:
+                goes_on.cancel()
+                os.kill(scheduler, signal.SIGCONT)
+        with self.finder() as find:
+            self.assertEqual(find(), before)
 
     def test_a_shard_lost_is_loaded_again(self):
         self.run_line("b: closed", "close")
