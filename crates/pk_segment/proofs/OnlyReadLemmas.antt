@@ -36,6 +36,21 @@ counts_still {result = result} counts other = record {
     on_ok (Ok v) p = p
     on_ok (Err fault) p = tt
 
+-- the count of a fault that is passed on
+counts_fault : {T U : Type 0} {fault : ReadFault} {result : Result T ReadFault} {before now : ℕ}
+    → CountsReads {T = U} before now (Err fault) → IsErrAnd result (λ y. y ≡ fault)
+    → CountsReads before now result
+counts_fault {fault = fault} {result = result} counts is =
+    let p = err_from_is_err_and result is in
+    let e : result ≡ Err fault = p.1 ∙ ap Err p.2 in
+    rw e (record {
+      later = counts.later;
+      ok = tt;
+      damaged = λ f. (let x : fault ≡ Damaged = cc in counts.damaged (ap Err x));
+      memory = λ f. (let x : fault ≡ Memory = cc in counts.memory (ap Err x));
+      disk = λ f. (let x : fault ≡ Disk = cc in counts.disk (ap Err x));
+    })
+
 -- a source that was not read
 pub source_none : {S T : Type 0} {s : SourceGhosts S} {v : T} {a : S}
     → s.keeps a a → ReadsSource s CountsReads (Ok v) a a
@@ -60,16 +75,7 @@ pub source_fault : {S T U : Type 0} {s : SourceGhosts S} {fault : ReadFault}
     {result : Result T ReadFault} {a b : S}
     → ReadsSource {T = U} s CountsReads (Err fault) a b → IsErrAnd result (λ y. y ≡ fault)
     → ReadsSource s CountsReads result a b
-source_fault {fault = fault} {result = result} left is =
-    let p = err_from_is_err_and result is in
-    let e : result ≡ Err fault = p.1 ∙ ap Err p.2 in
-    rw e (source_as left (record {
-      later = left.faults.later;
-      ok = tt;
-      damaged = λ f. (let x : fault ≡ Damaged = cc in left.faults.damaged (ap Err x));
-      memory = λ f. (let x : fault ≡ Memory = cc in left.faults.memory (ap Err x));
-      disk = λ f. (let x : fault ≡ Disk = cc in left.faults.disk (ap Err x));
-    }))
+source_fault left is = source_as left (counts_fault left.faults is)
 
 -- a disk that was not read
 pub disk_none : {D T : Type 0} {d : DiskGhosts D} {v : T} {a : D}
@@ -85,3 +91,15 @@ disk_then {d = d} {counts = counts} {result = result} {c = c} one two = record {
   keeps = keeps_disk_then d _ _ _ one.keeps two.keeps;
   reads = subst (λ (n : ℕ). counts n (d.failed_reads c) result) one.reads.ok two.reads;
 }
+
+-- an answer after a call that was answered, with nothing read since
+pub disk_still : {D T U : Type 0} {d : DiskGhosts D} {v : U} {result : Result T ReadFault} {a b : D}
+    → ReadsDisk d CountsReads (Ok v) a b → (result ≡ Err Disk → ⊥) → ReadsDisk d CountsReads result a b
+disk_still left other = record { keeps = left.keeps; reads = counts_still left.reads other }
+
+-- a fault that is passed on
+pub disk_fault : {D T U : Type 0} {d : DiskGhosts D} {fault : ReadFault}
+    {result : Result T ReadFault} {a b : D}
+    → ReadsDisk {T = U} d CountsReads (Err fault) a b → IsErrAnd result (λ y. y ≡ fault)
+    → ReadsDisk d CountsReads result a b
+disk_fault left is = record { keeps = left.keeps; reads = counts_fault left.reads is }

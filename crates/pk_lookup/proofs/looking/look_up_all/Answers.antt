@@ -1,17 +1,20 @@
 -- One more segment: its entries are put behind the others, and the filters agree as before.
-use Rattle.std.proofs.Common.{◌≡◌, ◌∙◌, ◌*◌, ◌++◌, ◌<◌, Option, List, ℕ, Result, length, get_or, sym, ap, subst, arith, rules}
+use Rattle.std.proofs.Common.{◌≡◌, ◌∙◌, ◌*◌, ◌++◌, ◌<◌, Option, List, ℕ, Ok, Result, length, get_or, sym, ap, subst, arith, rules}
 use Rattle.std.proofs.lemmas.List.{length-append}
 use Rattle.std.proofs.lemmas.Result.{err_from_is_err_and}
-use Rattle.std.specs.Prelude.{All, IfErr}
+use Rattle.std.specs.Prelude.{All, IfErr, IsErrAnd}
 use Rattle.std.specs.Global.{Vec}
+use Rattle.pk_disk.specs.declared.disk.Disk.{Ghosts as DiskGhosts}
 use Rattle.pk_disk.specs.Units.{extent_bytes}
 use Rattle.pk_dict.specs.declared.entry.Entry.{Entry as DictEntry}
 use Rattle.pk_plan.specs.Words.{texts}
 use Rattle.pk_open.specs.declared.opened.OpenSegment.{OpenSegment}
 use Rattle.pk_open.specs.Opened.{entries_of, none_stored}
-use Rattle.pk_segment.proofs.OnlyReadLemmas.{disk_then}
+use Rattle.pk_segment.proofs.OnlyReadLemmas.{disk_fault, disk_none, disk_still, disk_then}
 use Rattle.pk_posting.specs.declared.fault.ReadFault.{ReadFault}
-use Rattle.pk_segment.specs.Reading.{IsNoDamage}
+use Rattle.pk_posting.specs.declared.fault.ReadFault.TheVariants.{Memory}
+use Rattle.pk_segment.specs.OnlyRead.{ReadsDisk}
+use Rattle.pk_segment.specs.Reading.{CountsReads, IsNoDamage}
 use Rattle.pk_segment.specs.Placed.{dictionary_of}
 use Rattle.pk_segment.specs.Spelling.{IndexSpells}
 use Rattle.pk_state.specs.Holds.{IndexesEntries}
@@ -26,6 +29,12 @@ use Rattle.pk_lookup.specs.Said.{SaysOfEach}
 use Rattle.pk_lookup.proofs.looking.look_up_all.Given as given
 use Rattle.pk_lookup.proofs.looking.look_up_all.Goals as goal
 use Rattle.pk_lookup.proofs.looking.look_up_all.Goals.{After-look_up_in}
+
+-- memory was refused after calls that were answered
+refused : {D T U : Type 0} {d : DiskGhosts D} {v : T} {result : Result U ReadFault} {a b : D}
+    → IsErrAnd result (λ y. y ≡ Memory) → ReadsDisk d CountsReads (Ok v) a b
+    → ReadsDisk d CountsReads result a b
+refused is left = disk_fault {U = Unit {0}} (disk_still left (λ disk. cc)) is
 
 -- A TURN: the dictionary of the segment at a place is asked.
 module _ (g : given.Over) (c : goal.After-look_up_in g) where
@@ -88,6 +97,36 @@ returns-in_err-extend_from_slice-clause-filters g c = agrees_then g (goal.at.ret
 
 pub returns-in_err-extend_from_slice-clause-filters_below : goal.returns-in_err-extend_from_slice-clause-filters_below
 returns-in_err-extend_from_slice-clause-filters_below g c = below_then g (goal.at.returns-in_err-extend_from_slice-clause-filters_below g c).After-look_up_in
+
+pub returns-in_err-firsts-clause-left : goal.returns-in_err-firsts-clause-left
+returns-in_err-firsts-clause-left g c = refused c.from_residual.ensures.1 (disk_none {v = tt {0}})
+
+pub returns-in_err-hashes-clause-left : goal.returns-in_err-hashes-clause-left
+returns-in_err-hashes-clause-left g c = refused c.from_residual-in_err-hashes.ensures.1 (disk_none {v = tt {0}})
+
+pub returns-in_err-table-clause-left : goal.returns-in_err-table-clause-left
+returns-in_err-table-clause-left g c = refused c.from_residual-in_err-table.ensures.1 (disk_none {v = tt {0}})
+
+pub returns-in_default-clause-left : goal.returns-in_default-clause-left
+returns-in_default-clause-left g c = disk_still (disk_none {v = tt {0}}) (λ disk. cc)
+
+pub returns-in_err-look_up_in-clause-left : goal.returns-in_err-look_up_in-clause-left
+returns-in_err-look_up_in-clause-left g c = disk_then c.loop-i.invariant.left (disk_fault c.in_err-look_up_in.ensures.left c.from_residual-in_err-look_up_in.ensures.1)
+
+pub returns-in_err-extend_from_slice-clause-left : goal.returns-in_err-extend_from_slice-clause-left
+returns-in_err-extend_from_slice-clause-left g c = refused c.from_residual-in_err-extend_from_slice.ensures.1 (disk_then c.loop-i.invariant.left c.in_ok-look_up_in.ensures.left)
+
+pub returns-clause-left : goal.returns-clause-left
+returns-clause-left g c = disk_still c.loop-i.invariant.left (λ disk. cc)
+
+pub returns-clause-kept : goal.returns-clause-kept
+returns-clause-kept g c = λ h agree k o lt. c.loop-i.invariant.kept h agree k o (omega (arith, lt))
+
+pub returns-clause-said : goal.returns-clause-said
+returns-clause-said g c = λ h k o lt. c.loop-i.invariant.said h k o (omega (arith, lt))
+
+pub returns-clause-full : goal.returns-clause-full
+returns-clause-full g c = c.loop-i.invariant.long ∙ ap (λ (n : ℕ). n * length c.args.words.now) (omega arith)
 
 pub loop-i-preserved : goal.loop-i-preserved
 loop-i-preserved g c =

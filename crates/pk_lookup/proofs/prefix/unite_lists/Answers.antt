@@ -1,5 +1,5 @@
 -- One list more; at the end all of them are united.
-use Rattle.std.proofs.Common.{◌≡◌, ◌∙◌, ℕ, Bool, true, false, List, None, Option, Some, length, refl, sym, ap, ap₂, subst}
+use Rattle.std.proofs.Common.{◌≡◌, ◌<◌, ◌∙◌, ℕ, Bool, true, false, List, None, Option, Some, length, refl, sym, ap, ap₂, subst}
 use Rattle.std.specs.Borrow.{Bor}
 use Rattle.std.specs.List.{starts_with}
 use Rattle.std.specs.Prelude.{IfSome, nat_eq}
@@ -9,7 +9,7 @@ use Rattle.pk_dict.specs.declared.entry.Entry.{Entry}
 use Rattle.pk_dict.specs.Cursor.{HoldsOf}
 use Rattle.pk_dict.specs.Dictionary.{items_with_prefix}
 use Rattle.pk_dict.specs.Place.{LiesIn, bytes_at}
-use Rattle.pk_dict.specs.Prefix.{GivesNext, HasLeft}
+use Rattle.pk_dict.specs.Prefix.{GivesNext, HasLeft, words_to_come}
 use Rattle.pk_dict.specs.Seeking.{GivesAfter}
 use Rattle.pk_segment.proofs.OnlyReadLemmas.{source_fault, source_none, source_still, source_then}
 use Rattle.pk_segment.specs.Indexed.{items_of as items_in}
@@ -51,6 +51,14 @@ returns-in_err-entry-clause-numbers g c = λ honest docs is of.
     let err = err_from_is_err_and c.from_residual-in_err-entry.result c.from_residual-in_err-entry.ensures.1 in
     let r = c.entries.invariant.numbers honest docs is of in
     puts_fault _ _ _ err.0 c.in_err-entry.field-0.0 err.1 err.2 (c.in_err-entry.ensures.gives honest (items_in docs) r.rest r.left)
+
+pub returns-in_err-entry-clause-left : goal.returns-in_err-entry-clause-left
+returns-in_err-entry-clause-left g c =
+    source_fault (source_then g.met.S.ByteSource.keeps_then c.entries.invariant.left c.in_err-entry.ensures.left) c.from_residual-in_err-entry.ensures.1
+
+pub entries-smaller : goal.entries-smaller
+entries-smaller g c =
+    subst (λ (o : Option Entry). IfSome o (λ _. words_to_come c.next_entry.new.words < words_to_come c.entries.words)) c.in-Some.is c.in_ok-entry.ensures.fewer
 
 pub returns-in_err-unite_list-clause-numbers : goal.returns-in_err-unite_list-clause-numbers
 returns-in_err-unite_list-clause-numbers g c = λ honest docs is of.
@@ -106,6 +114,13 @@ entries-preserved g c =
           (subst (λ (p : List ℕ). starts_with nat_eq words.cursor.word.items p ≡ true) prefix begins.0, begins.1)
           (subst (λ (n : ℕ). IsUnited c.args.segment.now c.in-Some.entry n c.entries.united c.unite_list.new.united) (read.size ∙ before.left.size) c.in_ok-unite_list.ensures.read));
     }
+
+pub returns-in_err-finish-clause-left : goal.returns-in_err-finish-clause-left
+returns-in_err-finish-clause-left g c =
+    source_fault {U = Unit {0}} (source_still (source_then g.met.S.ByteSource.keeps_then c.entries.invariant.left c.in_ok-entry.ensures.left) (λ disk. cc)) c.from_residual-in_err-finish.ensures.1
+
+pub returns-clause-left : goal.returns-clause-left
+returns-clause-left g c = source_still (source_then g.met.S.ByteSource.keeps_then c.entries.invariant.left c.in_ok-entry.ensures.left) (λ disk. cc)
 
 pub returns-clause-numbers : goal.returns-clause-numbers
 returns-clause-numbers g c = λ honest docs is of.
