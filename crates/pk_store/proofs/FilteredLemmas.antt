@@ -30,8 +30,8 @@ use Rattle.pk_segment.specs.declared.segment.Segment.{Segment}
 use Rattle.pk_store.specs.Deleting.{deleted_at, with_deletion, with_opened}
 use Rattle.pk_store.specs.Filtered.{IsFiltered}
 use Rattle.pk_store.specs.View.{IsCached, IsReady, VolumeView}
-use Rattle.pk_store.proofs.CachedLemmas.{Same, claims, held, named_untouched, next, opened_below, same_bytes}
-use Rattle.pk_store.proofs.CarryLemmas.{carried, clear_flag, flagged_on, with_blocks, with_disk}
+use Rattle.pk_store.proofs.CachedLemmas.{Same, cached_read, claims, held, named_untouched, next, opened_below, same_bytes}
+use Rattle.pk_store.proofs.CarryLemmas.{carried, clear_flag, flagged_on, ready_kept, with_blocks, with_disk}
 
 -- of these ids
 abbrev Below : ℕ → SegmentFilter → Type 0
@@ -45,11 +45,16 @@ filtered_none d v tables none = record {
 }
 
 -- ---- after reads
-pub filtered_read : {D : Type 0} (d : Ghosts D) (v : VolumeView D) (disk : D) (tables : FindTables) → KeepsDisk d v.disk disk → IsFiltered d v tables → IsFiltered d (with_disk v disk) tables
+filtered_read : {D : Type 0} (d : Ghosts D) (v : VolumeView D) (disk : D) (tables : FindTables) → KeepsDisk d v.disk disk → IsFiltered d v tables → IsFiltered d (with_disk v disk) tables
 filtered_read d v disk tables keeps is = record {
   below = is.below;
   agrees = λ h clear. subst (λ (bytes : List ℕ). FiltersAgree bytes (filters_of tables.words) v.opened) (sym (keeps.read h).bytes) (is.agrees h clear);
 }
+
+-- and so is all that a volume keeps to
+pub volume_read : {D R : Type 0} (d : Ghosts D) (v : VolumeView D) (disk : D) (cache : Option BlockCache) (tables : FindTables) → KeepsDisk d v.disk disk
+    → IsReady d v × IsCached d v cache × R × IsFiltered d v tables → IsReady d (with_disk v disk) × IsCached d (with_disk v disk) cache × R × IsFiltered d (with_disk v disk) tables
+volume_read d v disk cache tables keeps is = (ready_kept d v is.0 disk keeps, cached_read d v disk cache keeps is.1, is.2, filtered_read d v disk tables keeps is.3)
 
 -- ---- and after a find, that makes others
 pub filtered_found : {D : Type 0} (d : Ghosts D) (v : VolumeView D) (disk : D) (blocks : ℕ) (tables now : FindTables) → IsReady d v → KeepsDisk d v.disk disk → IsFiltered d v tables

@@ -13,6 +13,7 @@ ghost use Rattle.pk_segment.specs.Spelling.{docs_of};
 ghost use Rattle.pk_store.specs.Carrying.{Carries, Goes};
 ghost use Rattle.pk_store.specs.Losing.{LosesNone};
 ghost use Rattle.pk_store.specs.Merging.{AreInputsOf, MergesRun, PlansRun};
+ghost use Rattle.pk_store.specs.Planned.{PlansPrepared};
 ghost use Rattle.pk_store.specs.Refusing.{stream_refusal};
 ghost use Rattle.pk_store.specs.Within.{AreWithin, InputsWithin};
 
@@ -64,6 +65,31 @@ impl<D: Disk> Volume<D> {
         plan_commit(alloc, &self.manifest, &self.opened, &new)
     }
 
+    // The plan of a merge of so many segments from a place on, which is prepared.
+    //
+    // Refused as damaged where what is prepared is no segment, or where documents would be lost, as
+    // segment too large, as full, or as memory.
+    fn plan_prepared(
+        &self,
+        alloc: Global,
+        from: usize,
+        count: usize,
+        prepared: &Option<Prepared>,
+    ) -> Result<MergePlan, Refusal>
+        requires room { LeavesRoom self.now.body 0 }
+        requires some { 1 ≤ count }
+        requires within { from + count ≤ length self.now.body.entries }
+        ensures { PlansPrepared self.now.body self.now.opened from count prepared.now result }
+    {
+        let new = new_segment(prepared)?;
+        let run = Run { from, count };
+        let merge = plan_merged(alloc, &self.manifest, &self.opened, run, new)?;
+        if documents_in(&new) < documents_left(&self.opened[from..from + count]) {
+            return Err(Refusal::Damaged);
+        }
+        Ok(merge)
+    }
+
     // The plan of a merge of so many segments from a place on, and what is prepared of it; the disk
     // is only read. The inputs are those segments.
     //
@@ -92,12 +118,7 @@ impl<D: Disk> Volume<D> {
             Ok(prepared) => prepared,
             Err(fault) => return Err(merge_refusal(fault)),
         };
-        let new = new_segment(&prepared)?;
-        let run = Run { from, count };
-        let merge = plan_merged(alloc, &self.manifest, &self.opened, run, new)?;
-        if documents_in(&new) < documents_left(&self.opened[from..from + count]) {
-            return Err(Refusal::Damaged);
-        }
+        let merge = self.plan_prepared(alloc, from, count, &prepared)?;
         Ok(RunPlan { merge, prepared })
     }
 

@@ -1,16 +1,12 @@
 -- The body is sound on a disk of its units.
-use Rattle.std.proofs.Common.{ℕ, ◌≡◌, ◌∙◌, ap, subst, sym}
-use Rattle.pk_manifest.specs.Sound.{IsBody}
-use Rattle.pk_manifest.specs.Spelling.{view}
-use Rattle.pk_manifest.proofs.Sound.{says_sound}
+use Rattle.std.proofs.Common.{◌≡◌, ◌∙◌, ap, subst}
 use Rattle.pk_open.specs.Opened.{entries_of}
 use Rattle.pk_store.specs.View.{VolumeView}
+use Rattle.pk_store.proofs.PlanMergeLemmas.{sound_there}
 use Rattle.pk_store.proofs.volume.Volume.plan_commit.Goals as goal
 
 pub plan_commit-requires-clause-sound : goal.plan_commit-requires-clause-sound
-plan_commit-requires-clause-sound g c =
-    let sound = c.self.invariant.0.sound in
-    subst (λ (units : ℕ). IsBody units (view c.self.inside.manifest)) (sym (says_sound _ (view c.self.inside.manifest) sound.sound).of_disk) sound
+plan_commit-requires-clause-sound g c = sound_there _ _ c.self.invariant.0.sound
 
 pub plan_commit-requires-clause-opened : goal.plan_commit-requires-clause-opened
 plan_commit-requires-clause-opened g c = ap entries_of c.deref.ensures.value ∙ c.self.invariant.0.opened
