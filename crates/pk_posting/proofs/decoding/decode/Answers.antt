@@ -47,3 +47,7 @@ returns-clause-spelled c xs s =
     c.last_number-before.ensures ∙ ap (λ xs. slice_index (0 ∷ xs) (length xs)) c.deref.ensures.value in
     sym (only_list c.args.bytes.now c.word_at-count.result (c.word_at-count.result / 128) c.read_blocks.new.out.items r.0 c.in_ok-start.start r.1 c.last_number-before.result
     c.read_tail.new.out.items (sym c.word_at-count.ensures) refl r.2 l c.in_ok-read_tail.ensures.read xs s)
+
+pub returns-clause-memory : goal.returns-clause-memory
+returns-clause-memory c =
+    c.in_ok-read_tail.ensures.memory ∙ c.in_ok-start.ensures.memory ∙ c.in_ok-out.ensures.exact ∙ c.word_at-count.ensures ∙ (returns-clause-list c).count

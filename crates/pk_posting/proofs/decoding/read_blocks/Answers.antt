@@ -1,4 +1,4 @@
-use Rattle.std.proofs.Common.{◌+◌, ◌*◌, [], ◌∷◌, slice_index, refl, ◌∙◌}
+use Rattle.std.proofs.Common.{◌≡◌, ◌+◌, ◌*◌, [], ◌∷◌, slice_index, arith, refl, ◌∙◌}
 use Rattle.pk_posting.proofs.ReadingLemmas.{read_none, read_more, not_begun, four_of, false_is}
 use Rattle.pk_posting.proofs.EntryLemmas.{entry_of}
 use Rattle.pk_posting.proofs.decoding.read_blocks.Goals as goal
@@ -33,3 +33,11 @@ loop-k-preserved c = record {
       c.loop-k-test.true c.loop-k.invariant.read c.in-Some.ensures (c.if-not-is_right.ensures.gives refl) refl (four_of c.block_of.new.xs) (λ ys g. (c.is_right.ensures.only ys g).1));
   memory = c.put_numbers.ensures.memory ∙ c.loop-k.invariant.memory;
 }
+
+pub is_right-requires-clause-taken : goal.is_right-requires-clause-taken
+is_right-requires-clause-taken c = c.if-not-block_of.ensures.taken refl
+
+pub returns-clause-read : goal.returns-clause-read
+returns-clause-read c =
+    let all : c.loop-k.k ≡ c.args.blocks = omega arith in
+    (c.loop-k.seed, c.loop-k.widths, rw all at c.loop-k.invariant.read)
