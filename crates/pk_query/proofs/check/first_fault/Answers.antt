@@ -6,7 +6,7 @@ use Rattle.pk_query.specs.Depth.{nests_too_deep}
 use Rattle.pk_query.specs.Check.{checked, check_on}
 use Rattle.pk_query.specs.CheckView.{progress_view}
 use Rattle.pk_query.proofs.DepthLemmas.{not_deep}
-use Rattle.pk_query.proofs.CheckLemmas.{room, nests_next, end_open, test_of}
+use Rattle.pk_query.proofs.CheckLemmas.{room, nests_next, end_closed, end_open, test_of}
 use Rattle.pk_query.proofs.check.first_fault.Goals as goal
 
 pub tokens-init : goal.tokens-init
@@ -47,4 +47,10 @@ returns-then-progress-gt0 c =
     let small = test_of (only_tokens c.tokens.place-iterator) d 0 c.tokens.invariant.1 in
     let within : d ≤ length c.tokens.places = omega (arith, small, c.tokens.invariant.2) in
     sym (end_open c.tokens.progress.after_operand c.tokens.places d end (was_true _ c.if-not-progress.false) c.if-progress-gt0.true within)
+    ∙ ap (λ (ps : List Placed). checked (progress_view c.tokens.progress c.tokens.places) ps end) (sym c.in-None.ensures.steps.0) ∙ c.tokens.invariant.0
+
+pub returns-else-progress-gt0 : goal.returns-else-progress-gt0
+returns-else-progress-gt0 c =
+    let end = length c.args.text.now in
+    sym (end_closed c.tokens.progress.after_operand c.tokens.places c.tokens.progress.depth end (was_true _ c.if-not-progress.false) c.if-progress-gt0.false)
     ∙ ap (λ (ps : List Placed). checked (progress_view c.tokens.progress c.tokens.places) ps end) (sym c.in-None.ensures.steps.0) ∙ c.tokens.invariant.0

@@ -1,7 +1,7 @@
 -- One input more, of the open segment at its place.
 use Rattle.std.proofs.Common.{◌<◌, refl, sym, subst, List, arith, length}
 use Rattle.std.specs.Prelude.{All}
-use Rattle.std.proofs.lemmas.List.Elements.{All-push}
+use Rattle.std.proofs.lemmas.List.Elements.{All-nil, All-push}
 use Rattle.pk_join.specs.declared.input.MergeInput.{MergeInput}
 use Rattle.pk_manifest.specs.Bodies.{bodies_end}
 use Rattle.pk_join.specs.Inputs.{HasKind, LiesInside}
@@ -39,3 +39,14 @@ returns-clause-spelled c = λ bytes stored spells are.
 
 pub returns-clause-each : goal.returns-clause-each
 returns-clause-each c = of_all c.args.opened.now c.loop-segment.segment-index c.loop-segment.inputs.items (omega arith) c.loop-segment.invariant.each
+
+pub loop-segment-init : goal.loop-segment-init
+loop-segment-init c =
+    rw c.in_ok-inputs.ensures.items (record {
+      spelled = λ bytes stored spells are. tt;
+      inside = λ size lie. All-nil (LiesInside size);
+      kinds = λ have. All-nil HasKind;
+      apart = λ start end all. All-nil (LiesApart start end);
+      each = tt;
+      behind = λ all. All-nil LiesBehind;
+    })
