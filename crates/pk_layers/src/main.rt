@@ -133,18 +133,23 @@ fn main(rt: HostRuntime) -> ExitCode {
     }
 }
 
+/// Answers a line, a second time where it was refused memory.
+fn answer_line<W: Write>(layers: &mut Layers, line: &str, output: &mut W) -> io::Result<()> {
+    let told = layers.answer(line)?;
+    writeln!(output, "{told}")?;
+    if told.as_str() == MEMORY.0 {
+        let again = layers.answer(line)?;
+        writeln!(output, "{again}")?;
+    }
+    Ok(())
+}
+
 /// Answers what standard input has.
 fn answer_all(rt: &HostRuntime) -> io::Result<()> {
     let mut layers = Layers::new(rt.alloc());
     let mut output = rt.stdout();
     for line in BufReader::new(rt.alloc(), rt.reader())?.lines(rt.alloc()) {
-        let line = line?;
-        let mut told = layers.answer(line.as_str())?;
-        if told.as_str() == MEMORY.0 {
-            writeln!(output, "{told}")?;
-            told = layers.answer(line.as_str())?;
-        }
-        writeln!(output, "{told}")?;
+        answer_line(&mut layers, line?.as_str(), &mut output)?;
     }
     Ok(())
 }

@@ -78,15 +78,21 @@ fn mode(rt: &HostRuntime) -> io::Result<Mode> {
     })
 }
 
+/// Plays a line, and tells what it was answered.
+fn play<W: Write>(stage: &mut Stage, line: &str, mode: Mode, output: &mut W) -> io::Result<()> {
+    if let Some(answer) = stage.take(line)? {
+        tell(output, mode, &answer)?;
+    }
+    Ok(())
+}
+
 /// Plays what standard input has.
 fn play_all(rt: &HostRuntime) -> io::Result<u8> {
     let mode = mode(rt)?;
     let mut stage = Stage::new(rt.alloc(), mode);
     let mut output = rt.stdout();
     for line in BufReader::new(rt.alloc(), rt.reader())?.lines(rt.alloc()) {
-        if let Some(answer) = stage.take(line?.as_str())? {
-            tell(&mut output, mode, &answer)?;
-        }
+        play(&mut stage, line?.as_str(), mode, &mut output)?;
     }
     let (passed, failed) = stage.counts();
     if mode == Mode::Differences {
