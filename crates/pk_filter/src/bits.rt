@@ -1,6 +1,6 @@
 //! The bits of a hash in the lanes of a block.
 
-ghost use Rattle.std.specs.Prelude.{◌≡◌, ◌≤◌, ◌+◌, ◌↔◌, IsTrue, length};
+ghost use Rattle.std.specs.Prelude.{◌≤◌, ◌+◌, ◌↔◌, IsTrue, length};
 ghost use Rattle.pk_filter.specs.Bits.{Grows, HasBits};
 
 use crate::hash::WordHash;

@@ -1,6 +1,6 @@
 //! The hash of a word, and what it picks of a filter.
 
-ghost use Rattle.std.specs.Prelude.{◌≡◌, ◌<◌, ◌^◌};
+ghost use Rattle.std.specs.Prelude.{◌≡◌, ◌<◌};
 
 use std::hash::{FoldHasher, Hasher};
 

@@ -1,6 +1,6 @@
 //! The store in a disk, grown.
 
-ghost use Rattle.std.specs.Prelude.{◌≡◌, ◌≤◌, ◌<◌, ◌*◌, ℕ, List, length, IfErr, IfOk, IfSome, OnOk};
+ghost use Rattle.std.specs.Prelude.{◌≡◌, ◌≤◌, ◌<◌, ℕ, List, length, IfErr, IfOk, IfSome, OnOk};
 ghost use Rattle.pk_disk.specs.Disk.{IsImage, nowhere};
 ghost use Rattle.pk_disk.specs.Since.{IsOnlyRead, OnlyNew};
 ghost use Rattle.pk_disk.specs.Sizes.{least_units};

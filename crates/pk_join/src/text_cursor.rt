@@ -1,6 +1,6 @@
 //! A cursor over the words of texts: its words one by one, each with its list.
 
-ghost use Rattle.std.specs.Prelude.{◌≡◌, ◌≤◌, ◌<◌, ◌+◌, length, true, false};
+ghost use Rattle.std.specs.Prelude.{◌≡◌, ◌≤◌, ◌+◌, length, true, false};
 
 use crate::text_lists::TextLists;
 

@@ -15,7 +15,7 @@ ghost use Rattle.std.specs.Prelude.{
   length,
   map,
 };
-ghost use Rattle.pk_manifest.specs.Bodies.{bodies_end, body_size};
+ghost use Rattle.pk_manifest.specs.Bodies.{bodies_end};
 ghost use Rattle.pk_manifest.specs.Sound.{is_table};
 ghost use Rattle.pk_manifest.specs.Spelling.{table_size, view};
 ghost use Rattle.pk_replace.specs.Claims.{AreApart, Each, IsInside, claim_of, places};

@@ -1,6 +1,6 @@
 //! Merges of two segments on a disk.
 
-ghost use Rattle.std.specs.Prelude.{◌≡◌, ◌+◌, ℕ, length, All};
+ghost use Rattle.std.specs.Prelude.{◌≡◌, ℕ, length, All};
 ghost use Rattle.pk_join.specs.Inputs.{HasKind, LiesInside};
 ghost use Rattle.pk_merge.specs.Output.{LiesApart};
 

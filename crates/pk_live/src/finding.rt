@@ -1,6 +1,6 @@
 //! What an index answers.
 
-ghost use Rattle.std.specs.Prelude.{◌≡◌, ◌≤◌, [], ℕ, List, length, map, take, IfOk, IsOk};
+ghost use Rattle.std.specs.Prelude.{◌≡◌, [], ℕ, List, map, IfOk, IsOk};
 ghost use Rattle.std.specs.List.Sorted.{IsStrictlyIncreasing};
 ghost use Rattle.pk_index.specs.Index.{Keeps};
 ghost use Rattle.pk_model.specs.Collection.{Doc, answer, numbers_of};

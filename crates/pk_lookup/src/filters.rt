@@ -1,6 +1,6 @@
 //! Filters of the words of segments, kept from find to find.
 ghost use Rattle.std.specs.Prelude.{◌≡◌, ◌+◌, ◌-◌, ◌^◌, ◌≤◌, ◌<◌, [], List};
-ghost use Rattle.std.specs.Prelude.{IfErr, IfOk, IfSome, IsTrue, MatchResult, get_or, length, min};
+ghost use Rattle.std.specs.Prelude.{IfErr, IfOk, IfSome, IsTrue, MatchResult, get_or, min};
 ghost use Rattle.std.specs.Prelude.{vec_len};
 ghost use Rattle.pk_filter.specs.Filter.{HasAll};
 ghost use Rattle.pk_model.specs.Collection.{Doc};

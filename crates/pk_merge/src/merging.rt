@@ -2,7 +2,6 @@
 //! `merge_into` against. The engine writes a merge as it is read.
 
 ghost use Rattle.std.specs.Prelude.{
-  ◌≡◌,
   ◌<◌,
   ◌+◌,
   ◌++◌,

@@ -17,7 +17,6 @@ ghost use Rattle.std.specs.Prelude.{
   OnOk,
   Some,
   string_bytes,
-  slice_index,
   true,
 };
 ghost use Rattle.std.specs.List.Sorted.{IsStrictlyIncreasing};

@@ -1,6 +1,6 @@
 //! The disk that scripts are played on: one in memory, of which calls can fail, and which notes
 //! them.
-ghost use Rattle.std.specs.Prelude.{◌≡◌, ◌+◌, ◌≤◌, length};
+ghost use Rattle.std.specs.Prelude.{◌≡◌};
 
 use pk_disk::{Disk, DiskFault, MemoryDisk};
 use std::alloc::{AllocError, Global};

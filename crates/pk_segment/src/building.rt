@@ -13,7 +13,6 @@ ghost use Rattle.pk_segment.specs.Spelling.{
   directory_entry,
   docs_of,
   header,
-  le32,
   segment_spelling,
   texts,
 };

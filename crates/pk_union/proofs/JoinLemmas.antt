@@ -5,7 +5,7 @@ use Rattle.std.specs.List.Sorted.{IsStrictlyIncreasing}
 use Rattle.std.proofs.lemmas.List.Kept.{IsStrictlyIncreasing-filter}
 use Rattle.pk_sets.proofs.CallerLemmas.{union_rises}
 use Rattle.pk_sets.proofs.ExclusionLemmas.{difference_none}
-use Rattle.pk_sets.specs.Sets.{difference, has, intersection, union}
+use Rattle.pk_sets.specs.Sets.{difference, union}
 
 pub either_rises : (xs ys ns : List ℕ) → IsStrictlyIncreasing ys → ns ≡ union xs ys → IsStrictlyIncreasing ns
 either_rises xs ys ns h e = subst IsStrictlyIncreasing (sym e) (union_rises xs ys h)

@@ -1,6 +1,5 @@
 //! A disk that changes what is read and drops writes: each call returns, and no store is guessed.
 ghost use Rattle.std.specs.Prelude.{◌≡◌, ◌≤◌, ◌*◌, [], IfOk, length, map};
-ghost use Rattle.pk_manifest.specs.Bodies.{body_size};
 ghost use Rattle.pk_manifest.specs.Spelling.{no_extent};
 ghost use Rattle.pk_replace.specs.Claims.{AreApart, Each, IsInside, claim_of};
 

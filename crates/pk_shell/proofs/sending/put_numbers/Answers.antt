@@ -1,5 +1,5 @@
 -- As many numbers as have room, then one that fills the outbox, and then as many more.
-use Rattle.std.proofs.Common.{◌+◌, length, drop, arith, length-drop}
+use Rattle.std.proofs.Common.{◌+◌, arith, length-drop}
 use Rattle.std.proofs.lemmas.List.{take_all}
 use Rattle.pk_model.specs.declared.documents.DocNo.{DocNo}
 use Rattle.pk_shell.specs.ReplyText.{spaced}
