@@ -49,8 +49,7 @@ class Fleet(AbstractContextManager["Fleet"]):
             self._client = Client(archive.scheduler, security=security(archive),
                                   timeout=wait or ASKED, direct_to_workers=True)
         except OSError as error:
-            reason = f"no scheduler at {archive.scheduler}: {error}"
-            raise Missing({shard.name: reason for shard in archive.shards}) from error
+            raise self._all_missing(f"{self._no_scheduler}: {error}") from error
         self._futures = {shard: self._submitted(shard) for shard in archive.shards}
         self._actors: dict[Shard, tuple[str, Any]] = {}
         self._threads = ThreadPoolExecutor(len(self._futures))
@@ -133,7 +132,7 @@ class Fleet(AbstractContextManager["Fleet"]):
         try:
             workers = sync(scheduler.identity, callback_timeout=KNOWN)["workers"].values()
         except Exception:  # Whatever it is, the scheduler did not tell.
-            return f"no scheduler at {self.archive.scheduler}"
+            return self._no_scheduler
         has_worker = any(shard.disk in worker["resources"] for worker in workers)
         return "" if has_worker else f"no worker has {shard.disk}"
 
@@ -167,12 +166,26 @@ class Fleet(AbstractContextManager["Fleet"]):
     def keep_open(self) -> None:
         """Lets the sessions live on when nobody is connected."""
         self.let_go()
-        self._client.publish_dataset([*self._futures.values()], name=self._published)
+        self._told(self._client.publish_dataset, [*self._futures.values()], name=self._published)
 
     def let_go(self) -> None:
         """Lets the sessions end with their last client."""
         with suppress(KeyError):
-            self._client.unpublish_dataset(self._published)
+            self._told(self._client.unpublish_dataset, self._published)
+
+    def _told(self, call: Any, *given: Any, **named: Any) -> None:
+        """Tells the scheduler something, which is to confirm it in the time of an answer."""
+        try:
+            call(*given, **named, callback_timeout=self._wait or ASKED)
+        except TimeoutError:
+            raise self._all_missing(self._no_scheduler) from None
+
+    @property
+    def _no_scheduler(self) -> str:
+        return f"no scheduler at {self.archive.scheduler}"
+
+    def _all_missing(self, reason: str) -> Missing:
+        return Missing({shard.name: reason for shard in self.archive.shards})
 
     @property
     def _published(self) -> str:

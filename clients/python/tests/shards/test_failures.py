@@ -125,15 +125,33 @@ class Searches(Shards):
             self.assertEqual(find(), before)
         goes_on.join()
 
+    def fleet(self, wait=LONG):
+        """A connection."""
+        from rubewola_shards.archive import Archive
+        from rubewola_shards.fleet import Fleet
+
+        return Fleet(Archive.read(self.file), wait)
+
     @contextlib.contextmanager
     def finder(self, wait=LONG):
         """A connection that finds the last nine lines, again and again."""
         from rubewola_shards import answers
-        from rubewola_shards.archive import Archive
-        from rubewola_shards.fleet import Fleet
 
-        with Fleet(Archive.read(self.file), wait) as fleet:
+        with self.fleet(wait) as fleet:
             yield lambda: answers.find(fleet, "line", 9, self.fail)
+
+    @contextlib.contextmanager
+    def still_scheduler(self):
+        """The scheduler stands still, at most for as long as a test is to hang."""
+        scheduler = self.machines.processes["scheduler"].pid
+        goes_on = threading.Timer(20, os.kill, (scheduler, signal.SIGCONT))
+        os.kill(scheduler, signal.SIGSTOP)
+        goes_on.start()
+        try:
+            yield rf"no scheduler at {self.machines.address}"
+        finally:
+            goes_on.cancel()
+            os.kill(scheduler, signal.SIGCONT)
 
     def kill_worker(self, name):
         """Kills a worker, and waits until its nanny has started another."""
@@ -191,21 +209,22 @@ class Searches(Shards):
         self.assert_whole()
 
     def test_a_scheduler_that_stands_still(self):
-        scheduler = self.machines.processes["scheduler"].pid
-        goes_on = threading.Timer(20, os.kill, (scheduler, signal.SIGCONT))
         with self.finder(wait=6) as find:
             before = find()
-            os.kill(scheduler, signal.SIGSTOP)
-            goes_on.start()
-            try:
+            with self.still_scheduler() as told:
                 os.kill(self.machines.worker("b"), signal.SIGKILL)
-                told = rf"missing: .*\bb .no scheduler at {self.machines.address}"
-                self.assertRaisesRegex(Missing, told, find)
-            finally:
-                goes_on.cancel()
-                os.kill(scheduler, signal.SIGCONT)
+                self.assertRaisesRegex(Missing, rf"missing: .*\bb .{told}", find)
         with self.finder() as find:
             self.assertEqual(find(), before)
+
+    def test_a_scheduler_that_stands_still_is_told_nothing(self):
+        with self.fleet(wait=2) as fleet:
+            with self.still_scheduler() as told:
+                for call in fleet.keep_open, fleet.let_go:
+                    self.assertRaisesRegex(Missing, rf"missing: a, b, c .{told}", call)
+            fleet.keep_open()
+            fleet.let_go()
+        self.assert_whole()
 
     def test_a_shard_lost_is_loaded_again(self):
         self.run_line("b: closed", "close")
