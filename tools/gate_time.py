@@ -25,10 +25,12 @@ tells what the crates that have not changed since it was committed took of their
 what all would have taken on the machine of that table: a machine may take twice as long as another.
 """
 import collections
+import contextlib
 import os
 import pathlib
 import re
 import resource
+import signal
 import statistics
 import subprocess
 import sys
@@ -124,6 +126,14 @@ class Yardstick:
                 f"{minutes * min(1, alone / beside):.1f} minutes")
 
 
+def end(child):
+    """Ends a command, which may take its time; who interrupts again meanwhile ends it again."""
+    while child.poll() is None:
+        with contextlib.suppress(KeyboardInterrupt):
+            child.terminate()
+            child.wait()
+
+
 def watch(command):
     """The processor seconds of each crate's parts, of the whole command, its minutes, its status
     and what the yardstick took."""
@@ -136,8 +146,7 @@ def watch(command):
             work.look()
             time.sleep(LOOK_EACH)
     except KeyboardInterrupt:
-        child.terminate()
-        child.wait()
+        end(child)
     minutes = (time.monotonic() - start) / 60
     work.alone = min(work.alone, at_rest())
     parts = collections.defaultdict(collections.Counter)
@@ -210,6 +219,8 @@ def main(words):
     if words[:1] == ["--into"]:
         file, command = words[1], words[2:]
     command = command or ["rt", "ci"]
+    # A shell that runs this behind itself has it ignore the signal.
+    signal.signal(signal.SIGINT, signal.default_int_handler)
     parts, seconds, minutes, status, work = watch(command)
     told = "\n".join(table(command, parts, seconds, minutes, work)) + "\n"
     changed = changed_since(file) if file and os.path.exists(file) else None

@@ -1,7 +1,10 @@
 """What a table of the gate's costs comes to on the machine of an earlier one."""
 import pathlib
+import signal
+import subprocess
 import sys
 import tempfile
+import time
 import unittest
 
 TOOLS = pathlib.Path(__file__).resolve().parent.parent
@@ -76,6 +79,33 @@ class Shared(unittest.TestCase):
         self.assertEqual(status, 0)
         self.assertGreater(work.alone, 0)
         self.assertIn("of processors that share nothing", work.told(1))
+
+
+class BrokenOff(unittest.TestCase):
+    SLOW_TO_END = "trap 'sleep 1; exit 3' TERM; echo begun; while :; do sleep 0.1; done"
+
+    def test_interrupts_lose_no_table(self):
+        """Also where it ran with interrupts ignored, and is told twice."""
+        for before in signal.SIG_IGN, signal.SIG_DFL:
+            with self.subTest(before=before):
+                here = signal.signal(signal.SIGINT, before)
+                self.addCleanup(signal.signal, signal.SIGINT, here)
+                self.assert_interrupted()
+                signal.signal(signal.SIGINT, here)
+
+    def assert_interrupted(self):
+        told = subprocess.Popen([sys.executable, TOOLS / "gate_time.py", "sh", "-c", self.SLOW_TO_END],
+                                stdout=subprocess.PIPE, stderr=subprocess.PIPE, text=True)
+        self.addCleanup(told.communicate)
+        self.addCleanup(told.kill)
+        self.assertEqual(told.stderr.readline(), "begun\n")
+        for _ in range(2):
+            time.sleep(0.3)
+            told.send_signal(signal.SIGINT)
+        printed, refused = told.communicate(timeout=60)
+        self.assertIn("| all of these | 0 | 0 | 0 | 0.0 |", printed)
+        self.assertIn("ended with status 3: the figures are of a part of it", refused)
+        self.assertEqual(told.returncode, 1)
 
 
 if __name__ == "__main__":
